@@ -3,8 +3,11 @@
 Called by checks/work.py, on its register."""
 
 import json
+from typing import Any
 
-from checks.page import FOCUS, RESULT, confirm, opened, press, question, visit, write
+from checks.page import FOCUS, RESULT, confirm, opened, press, press_no, question, visit, write
+from checks.refusals import LIMITS
+from checks.world import until
 
 TODAY_IN_WORDS = "2 April 2025"
 
@@ -21,7 +24,110 @@ def data(world, child):
     return world.run("sqlite3", "-json", world.room / "copy.db", script).stdout
 
 
+def marks(page: Any, *names: str) -> Any:
+    """Of each field: how it is marked as wrong, the text that is tied to it and is beside it, and
+    how many such texts there are."""
+    script = """(...ids) => ids.map(id => {
+        const input = document.getElementById(id);
+        const error = document.getElementById(input.getAttribute('aria-errormessage'));
+        const isBeside = error && error.closest('.field') === input.closest('.field');
+        return [input.getAttribute('aria-invalid'),
+            isBeside && error.checkVisibility() ? error.innerText : null,
+            document.querySelectorAll(`[id="${id}-error"]`).length];
+    })"""
+    ids = [name.replace("_", "-") for name in names]
+    return page.value(f"({script})(...{json.dumps(ids)})")
+
+
+UNMARKED = [None, None, 0]
+
+
+def unfold(page: Any, form: str) -> None:
+    """Opens what a form is folded into."""
+    page.value(f"document.getElementById('{form}').closest('details').open = true")
+
+
+def keeps(page: Any, see: Any, button: str, name: str, inside: str, outside: str) -> None:
+    """A value at its limit is asked about. One beyond it is not sent, and its field is marked until
+    it is mended."""
+    write(page, **{name: inside})
+    asked = press(page, button)
+    press_no(page)
+    see(f"{name} may be {inside[:20]}", (asked, marks(page, name)), ("", [UNMARKED]))
+    write(page, **{name: outside})
+    said = press(page, button)
+    [[is_marked, text, count]] = marks(page, name)
+    see(f"{name} may not be {outside[:20]}",
+        (said, is_marked, count, page.value(f"{FOCUS}.id")),
+        (f"Nothing was sent. {text}", "true", 1, name))
+    write(page, **{name: inside})
+    see(f"and {name} is no longer marked when it is mended", marks(page, name), [UNMARKED])
+
+
+def limits(page: Any, see: Any) -> None:
+    """The limits of the data of a child, at a correction."""
+    visit(page, "#child/8/amend")
+    before, button = page.value(FIELDS), "#amend-form button"
+    page.value("import('/register.js').then(it => { for (let at = 1; at < 10; at++)"
+               " it.register.schools.set(`S${at}`, { school: `S${at}`, name: '' }); })")
+    siblings = [f"S{at}" for at in range(1, 10)]
+    most = {name: limit.most for name, limit in LIMITS.items()}
+    accents = "é" * (most["name"] // 2)
+    for name, inside, outside in (
+        *((name, str(most[limit]), str(most[limit] + 1))
+          for name, limit in (("east", "east"), ("north", "north"), ("flags", "flag"))),
+        ("name", "n" * most["name"], "n" * (most["name"] + 1)),
+        ("name", accents, accents + "n"),
+        ("siblings", " ".join(siblings[: most["siblings"]]),
+         " ".join(siblings[: most["siblings"] + 1])),
+        ("siblings", "S1 S2", "S1 S1"),
+        ("present", "X" * most["code"], "X" * (most["code"] + 1)),
+    ):
+        keeps(page, see, button, name, inside, outside)
+        write(page, **{name: before[name]})
+    several(page, see, button, before)
+    opened(page, "/?limits")
+
+
+def several(page: Any, see: Any, button: str, before: dict[str, str]) -> None:
+    """Several wrong fields at once."""
+    write(page, east="x", flags="99", north="-1")
+    said = press(page, button)
+    wrong = marks(page, "east", "north", "flags")
+    texts = " ".join(it[1] for it in wrong)
+    see("several wrong fields are all marked, each with its text, and the first has the focus",
+        ([it[0] for it in wrong], said, page.value(f"{FOCUS}.id")),
+        (["true"] * 3, f"Nothing was sent. {texts}", "east"))
+    write(page, north="1")
+    see("when one is mended, its mark alone is gone", marks(page, "east", "north", "flags"),
+        [wrong[0], UNMARKED, wrong[2]])
+    write(page, east="", flags="")
+    see("a field that is still wrong stays marked", marks(page, "east", "flags"),
+        [wrong[0], UNMARKED])
+    write(page, **{name: before[name] for name in ("east", "north", "flags")})
+    see("and when all are mended, nothing is said any more",
+        (marks(page, "east"), page.value("document.getElementById('answer').textContent")),
+        ([UNMARKED], ""))
+
+
+def broken(page: Any, see: Any) -> None:
+    """A page that has not all of its files."""
+    answer = "document.getElementById('answer')"
+    page.rule = lambda method, path: "broken" if path == "/words.json" else None
+    page.open("/?broken")
+    page.wait(f"{answer} && {answer}.textContent")
+    see("a page without the words says that it is not whole", page.value(f"{answer}.textContent"),
+        "The page could not be loaded whole. Reload it; if this stays, inform whoever runs the"
+        " desk.")
+    page.rule = None
+    page.errors.clear()
+
+
 def corrections(world, page, see):
+    see("the rules and their words are for the office alone",
+        [[world.ask(f"/{name}.json", who).status for who in (None, "alpha", "jane")]
+         for name in ("rules", "words")], [[401, 403, 200]] * 2)
+    limits(page, see)
     visit(page, "#child/8/amend")
     see("a correction begins with every present value", page.value(FIELDS),
         {"name": "D’Arcy Bell", "east": "0", "north": "800", "flags": "2 5", "siblings": "", "present": "PRIM7", "looked-after": False})
@@ -35,9 +141,9 @@ def corrections(world, page, see):
         see(f"a wrong value is not sent, and its field has the focus: {name}",
             (press(page, "#amend-form button"), page.value(f"[{FOCUS}.id, {FOCUS}.getAttribute('aria-invalid')]")),
             (f"Nothing was sent. {reason}", [name, "true"]))
-        see(f"and its error is tied to it: {name}", page.value(
-            f"document.getElementById({FOCUS}.getAttribute('aria-errormessage')).innerText"), reason)
+        see(f"and its error is tied to it: {name}", marks(page, name), [["true", reason, 1]])
         write(page, **{name: before})
+        see(f"until it is mended: {name}", marks(page, name), [UNMARKED])
     write(page, name="D'Arcy Tŷ-Bell")
     press(page, "#amend-form button")
     see("a question says what changes", question(page), "Correct child 8: name from D’Arcy Bell to D'Arcy Tŷ-Bell? The child’s priorities may change with it.")
@@ -74,6 +180,7 @@ def corrections(world, page, see):
         {"cmd": "amend", "child": 9, "name": "Child of 9", "east": 0, "north": 901, "looked_after": False,
         "flags": [], "siblings": ["A"], "present": "", "boarder": True})
     page.rule = None
+    broken(page, see)
     opened(page, "/?again")
 
 
@@ -114,12 +221,29 @@ def additions(world, page, see):
     write(page, child="3", name="X", east="1", north="1", preference_1="A")
     see("a number that is taken is not sent", press(page, "#add-form button"),
         "Nothing was sent. Child 3 is in the register already: <script>document.title='hit'</script>.")
+    most = LIMITS["child"].most
+    keeps(page, see, "#add-form button", "child", str(most), str(most + 1))
+    see("as many schools can be listed as an application has",
+        page.value("document.querySelectorAll('[id^=preference-]').length"),
+        LIMITS["preferences"].most)
+    write(page, applied="1 January 1989", preference_1="")
+    press(page, "#add-form button")
+    see("a day that no application has, and a list without a school, are not sent",
+        marks(page, "applied", "preference-1"),
+        [["true", "The day of the application must be from 1 January 1990 to 31 December 2110.", 1],
+         ["true", "An application has 1 to 10 schools.", 1]])
+    write(page, applied=TODAY_IN_WORDS, preference_1="A")
     write(page, child="18", preference_2="A")
     see("nor a school twice", press(page, "#add-form button"), "Nothing was sent. The school A is repeated.")
+    see("which is marked where it is repeated",
+        (marks(page, "preference-1", "preference-2"), page.value(f"{FOCUS}.id")),
+        ([UNMARKED, ["true", "The school A is repeated.", 1]], "preference-2"))
     write(page, preference_2="", applied="2026-01-01")
     press(page, "#add-form button")
     see("if the application is refused, both are said", confirm(page),
-        "Child 18 is added, but without the application. Refused, and nothing has changed. The lists are closed: it is after 31 December of the year of entry.")
+        "Child 18 is added, but without the application. Refused, and nothing has changed. "
+        "The day 1 January 2026 is after 31 December of the year of entry. "
+        "Correct the day; after it the lists are closed.")
     see("what was typed of the application is in the form of the child then", page.value("['applied', 'preference-1'].map(id => document.getElementById(id).value)"),
         ["1 January 2026", "A"])
     write(page, applied="1/4/2025", preference_1="A")
@@ -129,14 +253,22 @@ def additions(world, page, see):
 
 def plans(world, page, see):
     visit(page, "#child/16")
+    unfold(page, "plan-form")
+    press(page, "#plan-form button")
+    see("a plan without a school is not sent", (marks(page, "plan"), page.value(f"{FOCUS}.id")),
+        ([["true", "Choose the school that the plan names.", 1]], "plan"))
     write(page, plan="E")
+    see("and is mended by a choice", marks(page, "plan"), [UNMARKED])
     press(page, "#plan-form button")
     effect = "The child is admitted there, and the application ends. This cannot be undone."
     see("a plan is asked about", question(page), f"Record that the EHC plan of child 16, Child of 16, names E \u2068مدرسة الأمل\u2069? {effect}")
     see("and recorded", confirm(page), "Done, and stored. Child 16 has a place at E \u2068مدرسة الأمل\u2069 by a plan.")
     visit(page, "#school/E")
+    unfold(page, "raise-form")
     write(page, pan="2")
     see("an admission number is not lowered", press(page, "#raise-form button"), "Nothing was sent. The admission number can only be raised: it is 2.")
+    most = LIMITS["pan"].most
+    keeps(page, see, "#raise-form button", "pan", str(most), str(most + 1))
     write(page, pan="5")
     press(page, "#raise-form button")
     see("a raise says from what to what", question(page),

@@ -236,7 +236,7 @@ def answers(world, page, see):
     press(page, "#day-form button")
     see("a reminder of last week is not far away", question(page),
         "Record a reminder of 14 March 2025 for child 4, <script>document.title='hit'</script>? This cannot be undone.")
-    see("a reminder that is too early is refused", confirm(page).startswith("Refused, and nothing has changed. The day is too early"), True)
+    see("a reminder that is too early is refused", confirm(page).startswith("Refused, and nothing has changed. The day 14 March 2025 is too early"), True)
     write(page, on="2025-03-20")
     press(page, "#day-form button")
     see("a reminder", confirm(page), "Done, and stored. The reminder of 20 March 2025 is recorded. Print the letter again: it has the warning.")
@@ -256,7 +256,8 @@ def answers(world, page, see):
     see("and the child is shown as it is then", "The child has no place." in page.value(RESULT))
     see("what is done between that look and the command is refused with a text",
         between(page, '{"cmd":"decline","child":4,"school":"C"}'),
-        "Refused, and nothing has changed. The child has no open offer of this school. Perhaps it was answered already.")
+        "Refused, and nothing has changed. Child 4 has no open offer at C: the offer is of another school, was answered or has lapsed, or a later round has "
+        "moved the child. Look at its letter.")
     see("every refusal has its text, word for word", page.value("import('/desk.js').then(it => it.REFUSALS)"), refusals.TEXTS)
     see("each refusal of ERRORS is among them", sorted(refusals.TEXTS), refusals.names())
     see("each command was sent once", len(page.posted), len(set(page.posted)))

@@ -318,7 +318,8 @@ def file_of_commands(world, page, see):
         "4 commands done, 4 refused or unreadable, 0 without an answer, 0 not sent.")
     see("no line twice but that whose first try was not done", [json.loads(body)["child"] for body in page.posted], [14, 9, 9, 10, 15, 1])
     see("the reasons", [row.split("|")[0:1] + row.split("|")[7:] for row in rows(page)[1:]],
-        [["5", "The child has no open offer of this school. Perhaps it was answered already."],
+        [["5", "Child 15 has no open offer at A: the offer is of another school, was answered or has lapsed, or a later round has moved the child. "
+        "Look at its letter."],
         ["6", "rounds and fills are run in the terminal"], ["7", "the command is unknown"], ["8", "it is no JSON"]])
     page.value("document.getElementById('not-done').click()")
     saved = world.room / "downloads/not-done-morning.jsonl"

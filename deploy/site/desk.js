@@ -1,37 +1,11 @@
 // Requests to the desk, and its answers in plain English.
+import { inWords, meaningOf, rules } from "./rules.js";
 
-// What a refusal means, by its name
-export const REFUSALS = {
-  UnknownSchool: "No school has this code.",
-  UnknownChild: "No child has this number.",
-  SchoolKnown: "There is a school with this code already.",
-  ChildKnown: "There is a child with this number already.",
-  BadText: "The name is empty, longer than 80 bytes, or has control characters.",
-  OutOfRange: "A number is out of its limits.",
-  RegisterFull: "The register takes no more of these.",
-  BadPreferences: "The list of schools has too few or too many, or one is repeated.",
-  HasPlan: "The child has a place by a plan, which cannot be changed.",
-  AlreadyApplied: "The child has an application already, which cannot be changed.",
-  TooSoon: "The day is too early: a reminder may be recorded from 14 days after the offer, and a withdrawal from 14 days after the reminder.",
-  WrongDraw: "The number of the draw is not the next one. If it was sent twice, it was done: look at the report.",
-  LotCount: "There are too few or too many lots. Perhaps somebody answered since they were drawn: draw again.",
-  LotsRepeated: "Two lots of one school are equal. Draw again.",
-  NotOffered: "The child has no open offer of this school. Perhaps it was answered already.",
-  NotWaiting: "The child does not wait at this school. Perhaps it left the list already.",
-  NoVacancy: "The school has no vacancy.",
-  EmptyList: "Nobody waits at this school.",
-  ListClosed: "The lists are closed: it is after 31 December of the year of entry.",
-  RowDiffers: "The child is in the register with other data.",
-  AlreadyReminded: "This offer has a reminder already.",
-  NotReminded: "This offer has no reminder yet.",
-  NotItsSchools: "The child does not want one of these schools, or one is repeated.",
-};
+const byName = (group, text) => Object.fromEntries(Object.keys(rules[group]).map((name) => [name, text(group, name)]));
 
-// What is shown for a request that is no command
-export const FAULTS = {
-  NotJson: "it is no JSON", UnknownCommand: "the command is unknown", MissingField: "a field is missing",
-  WrongKind: "a field is of the wrong kind", ExtraField: "there is a field too many",
-};
+// What each refusal means and what to do, without the values of a command, and what is shown for a request that is no command
+export const REFUSALS = byName("refusals", inWords);
+export const FAULTS = byName("faults", meaningOf);
 
 export const MAY_BE_DONE = "There was no answer. It may be done: look before you send it again.";
 const ASK_AGAIN = "There was no answer. Try again; if there is still none, inform whoever runs the desk.";
@@ -40,11 +14,18 @@ const CLOSED = "The desk is closed, perhaps for a draw. Try again when it is ope
 // Whether there was no answer of the desk: the site had none from it, or the browser none from the site
 export const isAway = ({ status }) => status === 0 || status === 502 || status === 504;
 
+const parsed = (text) => {
+  try { return JSON.parse(text); } catch { return null; }
+};
+
 // An answer that is not the expected one, in plain English. `changes` is whether the request was a command
-export function describe({ status, body }, changes) {
-  let reply = {};
-  try { reply = JSON.parse(body) || {}; } catch { /* a page of the site and not of the desk: its status gives the reason */ }
-  if (status === 409) return "Refused, and nothing has changed. " + (REFUSALS[reply.name] || `The reason is ${reply.name}.`);
+export function describe({ status, body, sent }, changes) {
+  // A page of the site and not of the desk is no JSON: its status gives the reason
+  const reply = parsed(body) || {};
+  if (status === 409) {
+    return "Refused, and nothing has changed. "
+      + (Object.hasOwn(REFUSALS, reply.name) ? inWords("refusals", reply.name, parsed(sent)) : `The reason is ${reply.name}.`);
+  }
   if (status === 400 && reply.fault) return `The desk could not read this: ${FAULTS[reply.name] || reply.name}. Nothing has changed.`;
   if (status === 503 && reply.failed) {
     return "The disk of the register has failed, and the desk does nothing more until it is repaired. Inform whoever runs it. "
@@ -68,15 +49,15 @@ export function outcome({ status, body }) {
   return "unsent";
 }
 
-// Sends a request, and returns the status and the text; status 0 if no answer came. `body` is the text of a command
+// Sends a request, and returns the status and the text, and what was sent; status 0 if no answer came. `body` is the text of a command
 export async function ask(target, body, headers = {}) {
   const how = { cache: "no-store", redirect: "error", credentials: "same-origin", signal: AbortSignal.timeout(150000), headers };
   if (body !== undefined) Object.assign(how, { method: "POST", headers: { "Content-Type": "application/json" }, body });
   try {
     const response = await fetch(target, how);
-    return { status: response.status, body: await response.text() };
+    return { status: response.status, body: await response.text(), sent: body };
   } catch {
-    return { status: 0, body: "" };
+    return { status: 0, body: "", sent: body };
   }
 }
 

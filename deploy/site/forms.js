@@ -5,14 +5,15 @@ import { at, dayField, dayInput, element, field, report, say } from "./elements.
 import { details, plain } from "./matching.js";
 import { child, isRead as hasIndex, nextNumber, register, school, update } from "./register.js";
 import { again, go } from "./router.js";
+import { isCode, isDay, isWithin, limits, shown as limit, span } from "./rules.js";
 import { isSure, send } from "./sending.js";
-import { day, isDay, isolated, readDay, today } from "./words.js";
+import { day, isolated, readDay, today } from "./words.js";
 
 // The fields of a child that this page can edit. Others of a later version are shown, and sent as they are
 const KNOWN = ["child", "name", "east", "north", "looked_after", "flags", "siblings", "present"];
-const MOST_PREFERENCES = 10;
+const CODE = `${span(limits.code)} letters and digits`;
 const codes = (text) => text.toUpperCase().split(/[\s,;]+/).filter(Boolean);
-const number = (text) => (/^(0|[1-9][0-9]{0,9})$/.test(text.trim()) ? Number(text) : null);
+const number = (text) => (/^(0|[1-9][0-9]*)$/.test(text.trim()) ? Number(text) : null);
 
 const textInput = (id, value, more = {}) => element("input", { id, value, autocomplete: "off", ...more });
 
@@ -28,87 +29,113 @@ function dataFields(data) {
   const looked = element("input", { type: "checkbox", id: "looked-after", checked: data.looked_after });
   return [
     field("Name", textInput("name", data.name, { required: true, className: "long", dir: "auto" })),
-    field("Home, east", textInput("east", data.east, { required: true, inputMode: "numeric" }), "metres, 0 to 1,500,000"),
-    field("Home, north", textInput("north", data.north, { required: true, inputMode: "numeric" }), "metres, 0 to 1,500,000"),
+    field("Home, east", textInput("east", data.east, { required: true, inputMode: "numeric" }), `metres, ${span(limits.east)}`),
+    field("Home, north", textInput("north", data.north, { required: true, inputMode: "numeric" }), `metres, ${span(limits.north)}`),
     element("div", { className: "field" }, element("label", { htmlFor: "looked-after" }, looked, " Is or was looked after")),
-    field("Flags", textInput("flags", data.flags.join(" ")), "numbers from 0 to 15, with spaces between"),
+    field("Flags", textInput("flags", data.flags.join(" ")), `numbers from ${span(limits.flag)}, with spaces between`),
     field("Schools of siblings", textInput("siblings", data.siblings.join(" ")), "codes, with spaces between"),
-    field("Present school", textInput("present", data.present, { maxLength: 8 }), "a code, or empty"),
+    field("Present school", textInput("present", data.present, { maxLength: limits.code.most }), "a code, or empty"),
     ...Object.keys(data).filter((key) => !KNOWN.includes(key))
       .map((key) => field(key, textInput(`other-${key}`, JSON.stringify(data[key]), { readOnly: true }), "kept as it is")),
   ];
 }
 
-// What is wrong with a field: shown, and the field gets the focus
-class Wrong extends Error {
-  constructor(id, message) {
-    super(message);
-    this.id = id;
+// What is wrong with the fields of a form: a message for each of them by its id, the first that was found
+class Wrong extends Map {
+  add(id, message) {
+    if (!this.has(id)) this.set(id, message);
   }
 }
 
-function numberAt(id, least, most, what) {
+function numberAt(id, within, what, wrong) {
   const value = number(at(id).value);
-  if (value === null || value < least || value > most) throw new Wrong(id,
-    `${what} must be a whole number from ${least.toLocaleString("en-GB")} to ${most.toLocaleString("en-GB")}.`);
+  if (!isWithin(within, value)) wrong.add(id, `${what} must be a whole number from ${span(within)}.`);
   return value;
 }
 
-function codesAt(id, what) {
+// The first of these that is there before
+const repeated = (list) => list.find((it, index) => list.indexOf(it) !== index);
+
+function siblingsAt(id, what, wrong) {
   const found = codes(at(id).value);
-  for (const code of found) if (!register.schools.has(code)) throw new Wrong(id, `${what}: no school has the code ${code}.`);
+  const unknown = found.find((code) => !register.schools.has(code));
+  if (unknown) wrong.add(id, `${what}: no school has the code ${unknown}.`);
+  if (repeated(found)) wrong.add(id, `${what}: ${repeated(found)} is repeated.`);
+  if (!isWithin(limits.siblings, found.length)) wrong.add(id, `${what}: there are at most ${limit(limits.siblings.most)}.`);
   return found;
 }
 
+function nameAt(id, wrong) {
+  const name = at(id).value;
+  const { most } = limits.name;
+  if (!name.trim()) wrong.add(id, "The name is empty.");
+  if (new TextEncoder().encode(name).length > most) wrong.add(id, `The name has over ${limit(most)} bytes. A letter with an accent counts twice.`);
+  return name;
+}
+
+function flagsAt(id, wrong) {
+  const flags = at(id).value.split(/[\s,;]+/).filter(Boolean).map(number);
+  if (!flags.every((flag) => isWithin(limits.flag, flag))) wrong.add(id, `Flags must be numbers from ${span(limits.flag)}.`);
+  return [...new Set(flags)].sort((one, other) => one - other);
+}
+
 // The data in the fields, over the data that was there: a field that this page does not know is kept
-function readData(before) {
+function readData(before, wrong) {
   const present = at("present").value.trim().toUpperCase();
-  if (present && !/^[A-Z0-9]{1,8}$/.test(present)) throw new Wrong("present", "The present school must be a code of 1 to 8 letters and digits.");
-  const flags = at("flags").value.split(/[\s,;]+/).filter(Boolean).map(number);
-  if (flags.some((flag) => flag === null || flag > 15)) throw new Wrong("flags", "Flags must be numbers from 0 to 15.");
-  const name = at("name").value;
-  if (!name.trim()) throw new Wrong("name", "The name is empty.");
+  if (present && !isCode(present)) wrong.add("present", `The present school must be a code of ${CODE}.`);
   return {
-    ...before, name, east: numberAt("east", 0, 1500000, "East"), north: numberAt("north", 0, 1500000, "North"),
-    looked_after: at("looked-after").checked, flags: [...new Set(flags)].sort((one, other) => one - other),
-      siblings: codesAt("siblings", "Schools of siblings"), present,
+    ...before, name: nameAt("name", wrong), east: numberAt("east", limits.east, "East", wrong), north: numberAt("north", limits.north, "North", wrong),
+    looked_after: at("looked-after").checked, flags: flagsAt("flags", wrong), siblings: siblingsAt("siblings", "Schools of siblings", wrong), present,
   };
 }
 
-// A form whose errors are shown at the field, and which keeps what is typed. `submit` is called with what forgets it
-function form(id, nodes, submit, action) {
+// A form whose errors are shown at their fields until they are mended, and which keeps what is typed. `read` reads the fields, and adds
+// what is wrong with them; if nothing is, `submit` is called with what was read, and with what forgets the form
+function form(id, nodes, read, submit, action) {
   const made = element("form", { id, className: "sheet screen-only", noValidate: true }, ...nodes,
     element("p", { className: "tools" }, element("button", {}, action)));
   const { note, forget } = draftOf(made, id, shown);
   made.append(note);
+  const look = () => {
+    const wrong = new Wrong();
+    return { wrong, values: read(wrong) };
+  };
   made.onsubmit = async (event) => {
     event.preventDefault();
-    for (const it of made.querySelectorAll("[aria-invalid]")) setRight(it);
-    try {
-      await submit(forget);
-    } catch (error) {
-      if (!(error instanceof Wrong)) throw error;
-      setWrong(at(error.id), error.message);
+    const { wrong, values } = look();
+    const fields = [...made.elements].filter((it) => it.id);
+    for (const it of fields) mark(it, wrong.get(it.id));
+    if (!wrong.size) {
+      await submit(values, forget);
+      return;
     }
+    say(`Nothing was sent. ${[...wrong.values()].join(" ")}`, true);
+    fields.find((it) => wrong.has(it.id)).focus();
   };
+  const mended = () => {
+    const marked = [...made.querySelectorAll("[aria-invalid]")];
+    if (!marked.length) return;
+    const { wrong } = look();
+    for (const it of marked) mark(it, wrong.get(it.id));
+    if (!made.querySelector("[aria-invalid]")) say("");
+  };
+  for (const kind of ["input", "change"]) made.addEventListener(kind, mended, true);
   return made;
 }
 
 // Reports that a form was not sent: it stays as it is
 export const reportUnsent = ({ text }) => report({ text: `${text} ${KEPT}`, bad: true });
 
-function setWrong(input, message) {
-  say(`Nothing was sent. ${message}`, true);
-  input.closest(".field").append(element("span", { className: "error", id: `${input.id}-error` }, message));
-  input.setAttribute("aria-invalid", "true");
-  input.setAttribute("aria-errormessage", `${input.id}-error`);
-  input.focus();
-}
-
-function setRight(input) {
-  at(`${input.id}-error`)?.remove();
-  input.removeAttribute("aria-invalid");
-  input.removeAttribute("aria-errormessage");
+// Shows what is wrong with a field beside it, and ties the text to it; or nothing any more
+function mark(input, message) {
+  const id = `${input.id}-error`;
+  if (message && at(id)?.textContent === message) return;
+  at(id)?.remove();
+  for (const [name, value] of [["aria-invalid", "true"], ["aria-errormessage", id]]) {
+    if (message) input.setAttribute(name, value);
+    else input.removeAttribute(name);
+  }
+  if (message) input.closest(".field").append(element("span", { className: "error", id }, message));
 }
 
 const MEANWHILE = "Nothing was sent: somebody else has corrected this child meanwhile. The form has the data as it is now, and "
@@ -122,10 +149,9 @@ export function amendView(of) {
   const known = child(of);
   if (!known) throw new Shown("The index does not have this child, so its present data is not known and it cannot be corrected here.");
   const before = known.data;
-  const submit = async (forget) => {
-    const after = readData(before);
+  const submit = async (after, forget) => {
     const changes = Object.keys(after).filter((key) => !isSame(before[key], after[key]));
-    if (!changes.length) throw new Wrong("name", "Nothing was changed.");
+    if (!changes.length) return say("Nothing was sent. Nothing was changed.", true);
     const isChanged = async () => {
       await update();
       return !isSame(child(before.child)?.data, before);
@@ -141,14 +167,16 @@ export function amendView(of) {
   };
   return {
     title: `Correct child ${before.child}, ${isolated(before.name)}`, status: "The form has the present data. The application cannot be changed.",
-    nodes: [form("amend-form", dataFields(before), submit, "Send the correction")],
+    nodes: [form("amend-form", dataFields(before), (wrong) => readData(before, wrong), submit, "Send the correction")],
   };
 }
 
+const PREFERENCES = Array.from({ length: limits.preferences.most }, (_, index) => `preference-${index + 1}`);
+
 // The fields of an application: a day, and schools of which the first is the best
 function applicationFields() {
-  const selects = Array.from({ length: MOST_PREFERENCES }, (_, index) => {
-    const made = schoolSelect(`preference-${index + 1}`);
+  const selects = PREFERENCES.map((id, index) => {
+    const made = schoolSelect(id);
     const box = field(`Preference ${index + 1}`, made);
     box.hidden = index > 2;
     made.onchange = () => { if (made.value && selects[index + 1]) selects[index + 1].hidden = false; };
@@ -157,13 +185,15 @@ function applicationFields() {
   return [dayField("Day of the application", dayInput("applied", today())), ...selects];
 }
 
-function readApplication() {
+function readApplication(wrong) {
   const on = readDay(at("applied").value);
-  if (!isDay(on)) throw new Wrong("applied", "The day of the application must be from 1 January 1990 to 31 December 2110.");
-  const preferences = Array.from({ length: MOST_PREFERENCES }, (_, index) => at(`preference-${index + 1}`).value).filter(Boolean);
-  if (!preferences.length) throw new Wrong("preference-1", "An application has at least one school.");
-  const twice = preferences.find((code, index) => preferences.indexOf(code) !== index);
-  if (twice) throw new Wrong("preference-1", `The school ${twice} is repeated.`);
+  if (!isDay(on)) wrong.add("applied", `The day of the application must be from ${span(limits.day)}.`);
+  const chosen = PREFERENCES.filter((id) => at(id).value);
+  const preferences = chosen.map((id) => at(id).value);
+  const { least, most } = limits.preferences;
+  if (preferences.length < least) wrong.add(PREFERENCES[0], `An application has ${least} to ${most} schools.`);
+  const second = chosen.find((_, index) => preferences.indexOf(preferences[index]) !== index);
+  if (second) wrong.add(second, `The school ${at(second).value} is repeated.`);
   return { day: on, preferences };
 }
 
@@ -176,14 +206,13 @@ const late = (it) => (register.season && it.day > register.season.closing_day
 // An application of a child that has none
 export function applyForm(of, act) {
   if (!hasIndex) return null;
-  const submit = async (forget) => {
-    const application = readApplication();
+  const submit = async (application, forget) => {
     const question = `Record for child ${of}: ${inWords(application)}?${late(application)} An application cannot be changed.`;
     if (!await isSure(question, "Yes, record it", inOrder(application))) return;
     await act({ cmd: "apply", child: of, ...application }, `Child ${of}: ${inWords(application)}.`, forget);
   };
   return element("details", { open: true, className: "screen-only" }, element("summary", {}, "Record the application"),
-    form("apply-form", applicationFields(), submit, "Send the application"));
+    form("apply-form", applicationFields(), readApplication, submit, "Send the application"));
 }
 
 // #add: a new child, and its application
@@ -191,18 +220,19 @@ export function addView() {
   if (!hasIndex) throw new Shown("The index of the register is missing: a new child cannot be compared with the others. Inform whoever runs the desk.");
   const next = nextNumber();
   const blank = { name: "", east: "", north: "", looked_after: false, flags: [], siblings: [], present: "" };
-  const submit = async (forget) => {
-    const of = numberAt("child", 1, 9999999, "The number");
-    if (child(of)) throw new Wrong("child", `Child ${of} is in the register already: ${isolated(child(of).data.name)}.`);
-    const data = readData({ child: of });
-    const application = readApplication();
+  const read = (wrong) => {
+    const of = numberAt("child", limits.child, "The number", wrong);
+    if (child(of)) wrong.add("child", `Child ${of} is in the register already: ${isolated(child(of).data.name)}.`);
+    return { data: readData({ child: of }, wrong), application: readApplication(wrong) };
+  };
+  const submit = async ({ data, application }, forget) => {
     const others = [...register.children.values()].filter((it) => plain(it.data.name) === plain(data.name));
     const alike = others.map((it) => ` There is already child ${it.data.child} of this name: ${details(it)}.`).join("");
-    const question = `Add child ${of}, ${isolated(data.name)}: ${inWords(application)}?${late(application)}${alike} An application cannot be changed.`;
+    const question = `Add child ${data.child}, ${isolated(data.name)}: ${inWords(application)}?${late(application)}${alike} An application cannot be changed.`;
     if (await isSure(question, "Yes, add it", inOrder(application))) await add(data, application, forget);
   };
   const made = form("add-form", [field("Number", textInput("child", next, { required: true, inputMode: "numeric" }), `the next free one is ${next}`),
-    ...dataFields(blank), ...applicationFields()], submit, "Add the child");
+    ...dataFields(blank), ...applicationFields()], read, submit, "Add the child");
   return { title: "Add a child", status: "A new child with its application.", nodes: [made], focus: made.querySelector("#name") };
 }
 
@@ -226,9 +256,11 @@ async function add(data, application, forget) {
 export function planForm({ number: of, name }, act) {
   if (!hasIndex) return null;
   const select = schoolSelect("plan", "", "choose a school");
-  const submit = async (forget) => {
-    const code = select.value;
-    if (!code) throw new Wrong("plan", "Choose the school that the plan names.");
+  const read = (wrong) => {
+    if (!select.value) wrong.add("plan", "Choose the school that the plan names.");
+    return select.value;
+  };
+  const submit = async (code, forget) => {
     const where = `${code} ${isolated(school(code).name)}`;
     const effect = "The child is admitted there, and the application ends. This cannot be undone.";
     const question = `Record that the EHC plan of child ${of}, ${isolated(name)}, names ${where}? ${effect}`;
@@ -236,16 +268,19 @@ export function planForm({ number: of, name }, act) {
       `Child ${of} has a place at ${where} by a plan.`, forget);
   };
   return element("details", { className: "screen-only" }, element("summary", {}, "Record an EHC plan"),
-    form("plan-form", [field("School of the plan", select)], submit, "Record the plan"));
+    form("plan-form", [field("School of the plan", select)], read, submit, "Record the plan"));
 }
 
 // A raised admission number
 export function raiseForm(it) {
   // As it is shown: an update changes `it` itself
   const before = it.pan;
-  const submit = async (forget) => {
-    const pan = numberAt("pan", 1, 500, "The admission number");
-    if (pan <= before) throw new Wrong("pan", `The admission number can only be raised: it is ${before}.`);
+  const read = (wrong) => {
+    const pan = numberAt("pan", limits.pan, "The admission number", wrong);
+    if (pan <= before) wrong.add("pan", `The admission number can only be raised: it is ${before}.`);
+    return pan;
+  };
+  const submit = async (pan, forget) => {
     const question = `Raise the admission number of ${it.school} ${isolated(it.name)} from ${before} to ${pan}? It cannot be lowered again.`;
     if (!await isSure(question, "Yes, raise it")) return;
     await update();
@@ -261,5 +296,5 @@ export function raiseForm(it) {
     else again(reply);
   };
   return element("details", { className: "screen-only" }, element("summary", {}, "Raise the admission number"),
-    form("raise-form", [field("New admission number", textInput("pan", before, { inputMode: "numeric" }))], submit, "Raise it"));
+    form("raise-form", [field("New admission number", textInput("pan", before, { inputMode: "numeric" }))], read, submit, "Raise it"));
 }
