@@ -61,12 +61,13 @@ def test_the_first_round_of_the_example(office, season, tmp_path, changes, words
     for gain, had, had_class, would, would_class in rows.values():
         counts[(would if gain else had), gain] += 1
         assert (would_class if gain else had_class) is not None
-    for row in re.findall(r"^([A-Z]{4}) +([0-9]+) +([0-9]+) +([0-9]+) +([0-9]+) +([0-9]+) +([0-9]+)  ", ran.stdout, re.MULTILINE):
+    for *row, lasts in re.findall(r"^([A-Z]{4}) +([0-9]+) +([0-9]+) +([0-9]+) +([0-9]+) +([0-9]+) +([0-9]+)  (.*)$", ran.stdout, re.MULTILINE):
         code, pan, new_pan, offers, new_offers, gain, loss = row[0], *map(int, row[1:])
         assert (pan, new_pan) == (plain.schools[code]["pan"], changed.schools[code]["pan"])
         assert (gain, loss) == (counts.pop((code, True), 0), counts.pop((code, False), 0))
-        for number, one in ((offers, plain), (new_offers, changed)):
-            assert number == sum(one.drawn[-1][1][it] == code for it in one.drawn[-1][2])
+        for number, one, last in zip((offers, new_offers), (plain, changed), re.split(r" {2,}", lasts), strict=True):
+            keys = [one.key(code, it, one.drawn[-1][0]) for it in one.drawn[-1][2] if one.drawn[-1][1][it] == code]
+            assert number == len(keys) and (last.endswith(f", {max(keys)[1]:,} metres") if keys else last == "no offer"), (row, lasts)
     assert not counts and gains + losses > 3
     table = ran.stdout.split("\n\n")[2].splitlines()[1:]
     by_class = [re.split(r" {2,}", it) for it in table]
