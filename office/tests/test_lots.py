@@ -172,6 +172,15 @@ def test_pairs_of_a_draw_that_the_register_has(office, town, tmp_path):
     for number in (2, 4):
         ran = command(office, "old.pairs", "old.csv", number)
         assert (ran.returncode, ran.stdout, ran.stderr) == (1, "", said), ran
+    town.fill("2025-04-07")
+    school = season.draws[-1][2]
+    assert school, "no school had a vacancy and a waiting child"
+    file_of(season, tmp_path / "reg.db")
+    pairs = fill_pairs(town.before[-1], school)
+    write_pairs(tmp_path / "old.pairs", pairs)
+    (tmp_path / "old.csv").write_text("".join(f"{code},{number},{at}\n" for at, (code, number) in enumerate(pairs)))
+    ran = command(office, "old.pairs", "old.csv", 3, "--school", school)
+    assert (ran.returncode, ran.stdout, ran.stderr) == (1, "", said.replace("draw 1", "draw 2").replace("draw is 2", "draw is 3")), ran
 
 
 def test_by_the_address_of_a_register(office, town, tmp_path):
