@@ -109,8 +109,6 @@ install:
 	install -m 644 office/*.py office/*.json $(DESTDIR)$(PREFIX)/share/admissions/office
 	install -d $(DESTDIR)$(PREFIX)/share/admissions/office/templates
 	install -m 644 office/templates/* $(DESTDIR)$(PREFIX)/share/admissions/office/templates
-	install -d $(DESTDIR)$(PREFIX)/share/admissions/queries
-	install -m 644 queries/*.sql $(DESTDIR)$(PREFIX)/share/admissions/queries
 	install -m 644 tools/register_files.py $(DESTDIR)$(PREFIX)/share/admissions/register_files.py
 	install -D -m 644 docs/admissions.1 $(DESTDIR)$(PREFIX)/share/man/man1/admissions.1
 	install -d $(DESTDIR)$(PREFIX)/share/doc/admissions

@@ -66,13 +66,19 @@ class Town:
             if place["kind"] != "plan" and luck < 0.25:
                 self.season.give_up(child)
             elif place["kind"] == "offered" and luck < 0.6:
-                place.update(kind="accepted", day=None)
+                place.update(kind="accepted", day=None, reminded=None)
             elif luck > 0.97:
                 self.season.plan(child, self.chance.choice("ABCD"))
         for child in list(self.season.lists):
             if self.season.wanted(child) and self.chance.random() < 0.15:
                 self.season.left.add((child, self.chance.choice(self.season.wanted(child))))
         self.season.schools[self.chance.choice("ABCD")]["pan"] += 2
+
+    def remind(self, day):
+        """A reminder of some of the offers that are open for 14 days."""
+        for place in self.season.places.values():
+            if place["kind"] == "offered" and not place["reminded"] and MODEL.later(place["day"], 14) <= day and self.chance.random() < 0.5:
+                place["reminded"] = day
 
 
 def file_of(season, path, late=()):
@@ -84,6 +90,9 @@ def file_of(season, path, late=()):
     conn.execute("PRAGMA synchronous = OFF")
     for draw, at, school, day in season.draws:
         conn.execute("UPDATE draw SET round = ?, school = ?, day = ? WHERE draw = ?", [at, school or None, number(day), draw])
+    for child, it in season.places.items():
+        days = [None if it[day] is None else number(it[day]) for day in ("day", "reminded")]
+        conn.execute("UPDATE place SET day = ?, reminded = ? WHERE child = ?", [*days, child])
     conn.commit()
     conn.close()
     path.chmod(0o600)

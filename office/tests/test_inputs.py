@@ -50,7 +50,7 @@ def test_a_register_for_whose_copy_there_is_no_room(tools, reg):
     room.mkdir()
     words = ["bash", "-c", f"ulimit -f 16; exec {tools}/admissions-query reg.db season"]
     ran = subprocess.run(words, cwd=reg.parent, env={**os.environ, "TMPDIR": str(room)}, capture_output=True, text=True, check=False)
-    said = f"admissions-query: reg.db cannot be copied to {room}, where the program tests it: File too large\n"
+    said = f"admissions-query: reg.db cannot be copied to {room}, where the program opens it: File too large\n"
     assert (ran.returncode, ran.stdout, ran.stderr) == (1, "", said) and not list(room.iterdir()), ran
 
 

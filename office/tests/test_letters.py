@@ -456,7 +456,6 @@ def test_a_register_of_another_user(who, record_property):
         room = pathlib.Path(name)
         room.chmod(0o755)
         shutil.copytree(ROOT / "office", room / "office", ignore=shutil.ignore_patterns("tests"))
-        shutil.copytree(ROOT / "queries", room / "queries")
         (room / "tools").mkdir()
         shutil.copy(ROOT / "tools" / "register_files.py", room / "tools")
         shutil.copy(PROGRAM, room / "real")
@@ -465,7 +464,7 @@ def test_a_register_of_another_user(who, record_property):
         (room / "own").mkdir(0o700)
         make(room / "own" / "reg.db", [school("OAK"), child(1, name="Ann Abel")])
         environment = noting(room / "program", f'exec "{room}/real" "$@"')
-        subprocess.run(["chmod", "-R", "a+rX", "office", "queries", "tools", "real", "program"], cwd=room, check=True)
+        subprocess.run(["chmod", "-R", "a+rX", "office", "tools", "real", "program"], cwd=room, check=True)
         os.chmod(room / "program" / "subcommands", 0o666)
         for it in (room / "own", *(room / "own").iterdir()):
             os.chown(it, owner, owner if os.geteuid() == 0 else -1)

@@ -1,6 +1,9 @@
-"""admissions-query: its figures beside the model of the example season, names in every output, the workbook, and what an amend repeats beside the program."""
+"""admissions-query: its figures beside the model of the example season, of files and of served registers, names in every output, the workbook, and what an amend
+repeats beside the program."""
+import collections
 import contextlib
 import csv
+import decimal
 import io
 import json
 import resource
@@ -9,11 +12,12 @@ import sqlite3
 
 import openpyxl
 import pytest
-from conftest import HEADER, apply, child, do, make, school
+import served
+from conftest import HEADER, ROOT, apply, child, do, make, school
 from files import write
-from seasons import NAMES, Town, file_of
+from seasons import MODEL, NAMES, Town, file_of
 
-from office import answers, queries
+from office import model, worklists
 
 SEEDS = 40
 SINGLE = {"amend", "child", "find", "lots", "moved", "round-report"}
@@ -46,6 +50,7 @@ def played(seed):
     town.round("2025-05-12")
     town.answers()
     town.fill("2025-06-02")
+    town.remind("2025-06-05")
     return town
 
 
@@ -86,7 +91,7 @@ def test_figures_beside_the_model(query, tmp_path, seed):
         "earliest day of the next draw": last[3],
     }
     assert {it: facts[it] for it in wanted} == {it: str(value) for it, value in wanted.items()}
-    assert [(it[0], it[6]) for it in query(reg, "vacancies")] == [(code, str(season.vacancies(code))) for code in waiting]
+    assert query(reg, "vacancies") == list(csv.reader(season.places_of_schools()))[1:]
 
 
 def test_before_a_first_round_late_applications_need_no_lot(query, tmp_path):
@@ -94,12 +99,137 @@ def test_before_a_first_round_late_applications_need_no_lot(query, tmp_path):
     reg = file_of(season, tmp_path / "reg.db", late)
     assert query(reg, "interest") == text(interest(season, late)) and query(reg, "list") == [] == query(reg, "draws")
     assert dict(query(reg, "season"))["late applications"] == "3"
+    wanted = [[str(it), code, "wanted"] for it, code in enumerate(season.lists[3], 1)]
+    assert [[*it[3:5], it[7]] for it in query(reg, "child", "--child", 3)] == wanted and {it[4] for it in query(reg, "unplaced")} == {""}
+
+
+def rows_in(register, name, **given):
+    """The rows below the header of a worklist, made in this process."""
+    return text(worklists.rows_of(register, name, given)[1:])
 
 
 def moved(reg, **given):
-    """The rows of `moved`, worked out in this process."""
-    with queries.opened(str(reg)) as conn:
-        return text(answers.moved(conn, {"round": None, "draw": None, "before": None, **given})[1:])
+    """The rows of `moved`, made in this process."""
+    return rows_in(model.read(str(reg)), "moved", **given)
+
+
+def child_rows(season, number):
+    """What a child listed and has. One whose application has ended has a place by a plan alone, without class and distance."""
+    name, place = season.children[number]["name"], season.places.get(number)
+    if number not in season.lists:
+        return [[number, name, None, None, place["school"], None, None, "plan", None, None]]
+    rows = []
+    for at, code in enumerate(season.lists[number], 1):
+        came, days = "waiting" if code in season.wanted(number) else "below its place", (None, None)
+        if place and place["school"] == code:
+            came, days = place["kind"], (place["day"], place["reminded"])
+        elif (number, code) in season.left:
+            came = "left"
+        rows.append([number, name, "2024-10-31", at, code, *MODEL.standing(season.schools[code], season.children[number]), came, *days])
+    return rows
+
+
+def test_children_and_places_beside_the_model(query, tmp_path):
+    """Each child and its place in each list that has it, of seasons in which plans end applications; all that may have become of a school is there."""
+    seen = collections.Counter()
+    for seed in range(6):
+        season = played(seed).season
+        reg = file_of(season, tmp_path / "reg.db")
+        register, places, due = model.read(str(reg)), season.places, "2025-06-19"
+        day = {"day": model.datetime.date.fromisoformat(due)}
+        for number in season.children:
+            wanted = child_rows(season, number)
+            seen.update(it[7] for it in wanted)
+            assert rows_in(register, "child", child=number) == text(wanted), (seed, number)
+        applied = lambda it: "2024-10-31" if it in season.lists else None  # noqa: E731, B023
+        named = [[it, one["name"], applied(it)] for it, one in season.children.items()]
+        has = lambda it: [places[it]["school"], places[it]["kind"]] if it in places else [None, None]  # noqa: E731, B023
+        assert rows_in(register, "children") == text([*it, *has(it[0])] for it in named)
+        lists = [[*it, ";".join(season.lists.get(it[0], [])), ";".join(season.wanted(it[0]))] for it in named if it[0] not in places]
+        assert rows_in(register, "unplaced") == text(lists)
+        assert rows_in(register, "no-answer") == list(csv.reader(season.no_answer()))[1:]
+        assert rows_in(register, "remind-due", **day) == list(csv.reader(season.remind_due(due)))[1:]
+        lapses = sorted(list(csv.reader(season.lapse_due(due)))[1:], key=lambda it: (it[2], int(it[0])))
+        assert rows_in(register, "lapse-due", **day) == lapses
+        seen.update(remind=len(rows_in(register, "remind-due", **day)), lapse=len(rows_in(register, "lapse-due", **day)), unplaced=len(lists))
+    wanted = {"offered", "accepted", "plan", "left", "waiting", "below its place", "remind", "lapse", "unplaced"}
+    assert set(seen) == wanted and min(seen.values()) > 2, seen
+    assert query(reg, "no-answer") == rows_in(register, "no-answer")
+
+
+def preferences(season):
+    """What each round left the children with; of one whose application has ended, its list is gone."""
+    for at, (_, day, outcomes, _) in enumerate(season.rounds, 1):
+        nth = lambda it, got: "none" if got is None else season.lists[it].index(got) + 1 if it in season.lists else "ended"  # noqa: E731
+        counts = collections.Counter(nth(*it) for it in outcomes.items())
+        for it in (1, 2, 3, 4, "ended", "none"):
+            if counts[it]:
+                share = decimal.Decimal(100 * counts[it]) / len(outcomes)
+                yield [at, day, it, counts[it], share.quantize(decimal.Decimal("0.1"), decimal.ROUND_HALF_UP)]
+
+
+def offered_in(season, draw):
+    """The schools of a draw with those that had a lot there, and those of them that were offered a place, of which there are some."""
+    lots, has, _ = season.drawn[draw - 1]
+    for code in sorted(season.schools):
+        there = [child for at, child in lots if at == code]
+        if offered := [it for it in there if has.get(it) == code]:
+            yield code, there, offered
+
+
+def last_offered(season):
+    """The last that was offered at each school. Where the application of one has ended, that is known of one alone, without its class and distance."""
+    for draw, _, _, day in season.draws:
+        lots = season.drawn[draw - 1][0]
+        for code, _, offered in offered_in(season, draw):
+            gone = [it for it in offered if it not in season.lists]
+            last = max(offered, key=lambda it: season.key(code, it, lots))  # noqa: B023
+            known = [last, *season.key(code, last, lots)]
+            if gone:
+                known = [last, None, None, lots[code, last]] if len(offered) == 1 else [None] * 4
+            yield [draw, day, code, len(offered), *known]
+
+
+def equal_at_limit(season):
+    """For whom the lot alone decided. Of one whose application has ended that cannot be told, nor of anybody where it was offered the place; nothing is shown where
+    nobody can have been refused by a lot."""
+    for draw, *_ in season.draws:
+        lots, has, _ = season.drawn[draw - 1]
+        worse = lambda it, code: has.get(it) is None or season.lists[it].index(has[it]) > season.lists[it].index(code)  # noqa: E731, B023
+        for code, there, offered in offered_in(season, draw):
+            gone = [it for it in there if it not in season.lists]
+            turned = [it for it in there if it in season.lists and it not in offered and worse(it, code)]
+            equal = []
+            if not set(gone) & set(offered):
+                limit = max(season.key(code, it, lots)[:2] for it in offered)
+                turned = [it for it in turned if season.key(code, it, lots)[:2] == limit]
+                equal = turned + [it for it in offered if season.key(code, it, lots)[:2] == limit]
+            if turned or set(gone) - set(offered):
+                for it in sorted(equal + gone, key=lambda it: lots[code, it]):  # noqa: B023
+                    said = "offered" if it in offered else "unknown" if it in gone else "refused"
+                    yield [draw, code, it, *(season.key(code, it, lots)[:2] if it in equal else (None, None)), lots[code, it], said]
+
+
+def test_draws_beside_the_model(query, tmp_path):
+    """Lots, preferences, the last that was offered and where only a lot decided, of seasons in which plans have ended applications since."""
+    seen = collections.Counter()
+    for seed in range(SEEDS):
+        season = played(seed).season
+        reg = file_of(season, tmp_path / "reg.db")
+        register = model.read(str(reg))
+        for draw, (lots, has, _) in enumerate(season.drawn, 1):
+            wanted = sorted([code, lot, it, season.children[it]["name"], has.get(it)] for (code, it), lot in lots.items())
+            assert rows_in(register, "lots", draw=draw) == text(wanted), (seed, draw)
+        for name, wanted in (("preferences", preferences), ("last-offered", last_offered), ("equal-at-limit", equal_at_limit)):
+            found = rows_in(register, name)
+            assert found == text(wanted(season)), (seed, name)
+            place = {"preferences": 2, "last-offered": 5, "equal-at-limit": 6}[name]
+            seen.update(f"{name} {it[place]}" for it in found if not it[place].isdigit() or name == "preferences")
+            seen.update("the only one" for it in found if name == "last-offered" and it[4] and not it[5])
+    kinds = {"preferences ended", "last-offered ", "the only one", *(f"equal-at-limit {it}" for it in ("offered", "refused", "unknown"))}
+    assert kinds <= set(seen) and min(seen[it] for it in kinds) > 1, seen
+    for name in ("preferences", "last-offered", "equal-at-limit"):
+        assert query(reg, name) == rows_in(register, name)
 
 
 def test_whom_each_draw_moved(query, tmp_path):
@@ -124,6 +254,115 @@ def test_whom_each_draw_moved(query, tmp_path):
             counts["exact"] += len(exact)
     assert counts["sure"] > 0.8 * counts["exact"] > 40, counts
     assert query(reg, "moved", "--round", "2") == moved(reg, round=2)
+
+
+def test_a_plan_named_since_a_draw(query, tmp_path):
+    """By hand: Oak's two places go to children 1 and 2, who live 100 metres away, and 3 and 4, as near, have higher lots; Elm's one to 5. Then plans name Elm for 2, 4
+    and 5, and 3 has Oak by a fill. Who was Oak's last child in the round cannot be told any more, nor for whom a lot decided there."""
+    make(tmp_path / "reg.db", [
+        school("OAK"), school("ELM", pan=1), *(child(it, east=100 if it < 5 else 300) for it in range(1, 7)), *(apply(it, ["OAK"]) for it in (1, 2, 3, 4)),
+        apply(5, ["ELM"]), apply(6, ["OAK"]), {"cmd": "round", "draw": 1, "day": "2025-03-03", "lots": [1, 10, 20, 30, 40, 50]},
+    ])
+    assert query("reg.db", "last-offered") == [["1", "2025-03-03", "ELM", "1", "5", "1", "300", "1"], ["1", "2025-03-03", "OAK", "2", "2", "1", "100", "20"]]
+    equal = [["1", "OAK", str(it), "1", "100", str(10 * it), came] for it, came in ((1, "offered"), (2, "offered"), (3, "refused"), (4, "refused"))]
+    assert query("reg.db", "equal-at-limit") == equal
+    do(tmp_path / "reg.db", [{"cmd": "name_plan", "child": 4, "school": "ELM"}])
+    equal[3][3:] = ["", "", "40", "unknown"]
+    assert query("reg.db", "equal-at-limit") == equal
+    do(tmp_path / "reg.db", [{"cmd": "name_plan", "child": it, "school": "ELM"} for it in (2, 5)])
+    do(tmp_path / "reg.db", [{"cmd": "decline", "child": 1, "school": "OAK"}, {"cmd": "fill", "draw": 2, "school": "OAK", "day": "2025-04-01", "lots": [7, 8]}])
+    last = [["1", "2025-03-03", "ELM", "1", "5", "", "", "1"], ["1", "2025-03-03", "OAK", "2", "", "", "", ""], ["2", "2025-04-01", "OAK", "1", "3", "1", "100", "7"]]
+    assert query("reg.db", "last-offered") == last
+    assert query("reg.db", "equal-at-limit") == [["1", "OAK", "2", "", "", "20", "offered"], ["1", "OAK", "4", "", "", "40", "unknown"]]
+    assert query("reg.db", "child", "--child", 5) == [["5", "Child 5", "", "", "ELM", "", "", "plan", "", ""]]
+    assert [it[2] for it in query("reg.db", "preferences")] == ["1", "ended", "none"]
+
+
+# each worklist with the options that it needs, for a season of two rounds
+ALL = {
+    "child": ("--child", 7), "find": ("ann",), "lapse-due": ("--day", "2025-06-19"), "list": ("--school", "B"), "lots": ("--draw", 2), "moved": ("--round", 2),
+    "remind-due": ("--day", "2025-06-19"), "round-report": ("--round", 1),
+}
+
+
+def printed_of_all(office, register, *more, **given):
+    """What each worklist prints of a register."""
+    found = {}
+    for name in worklists.WORKLISTS:
+        ran = office("query", register, name, *(ALL.get(name, ()) if name != "amend" else ("--child", 3)), *more, **given)
+        assert ran.returncode == 0 and "Traceback" not in ran.stderr, ran
+        found[name] = ran.stdout
+    return found
+
+
+def cells_of(path):
+    """The sheets of a workbook."""
+    return {page.title: list(page.iter_rows(values_only=True)) for page in openpyxl.load_workbook(path)}
+
+
+def test_a_register_that_is_served(office, tmp_path):
+    """By its address each worklist and the workbook are what they are of the file, and of a copy; the file is refused meanwhile, with that advice, and then as before."""
+    town = played(3)
+    reg = file_of(town.season, tmp_path / "reg.db")
+    file_of(town.before[-1], tmp_path / "before.db")
+    assert office("backup", "reg.db", "copy.db").returncode == 0
+    wanted = printed_of_all(office, "reg.db")
+    assert printed_of_all(office, "copy.db") == wanted and all(it.count("\n") > 1 for name, it in wanted.items() if name != "amend")
+    before = ("moved", "--draw", town.season.draws[-1][0], "--before", "before.db")
+    moves = office("query", "reg.db", *before).stdout
+    assert office("query", "reg.db", "--workbook", "file.xlsx", "--day", "2025-06-19").returncode == 0
+    with served.desk(reg) as address:
+        assert printed_of_all(office, address) == wanted and office("query", address, *before).stdout == moves
+        assert office("query", address, "--workbook", "served.xlsx", "--day", "2025-06-19").returncode == 0
+        ran = office("query", "reg.db", "season")
+        advice = "name the address at which it is served, or end the program that has it open, and then admissions do reg.db < /dev/null"
+        assert (ran.returncode, ran.stdout, ran.stderr) == (1, "", f"admissions-query: reg.db is in use: {advice}\n")
+        ran = office("query", address, "list", "--school", "X")
+        assert (ran.returncode, ran.stdout, ran.stderr) == (1, "", f"admissions-query: {address} has no school X\n")
+    ran = office("query", address, "season")
+    assert ran.returncode == 1 and ran.stderr == f"admissions-query: {address} cannot be read: no connection: Connection refused\n" and not ran.stdout
+    sheets = [cells_of(tmp_path / it) for it in ("file.xlsx", "served.xlsx")]
+    assert sheets[0] == sheets[1] and len(sheets[0]) == 14
+    assert office("query", "reg.db", "season").stdout == wanted["season"]
+
+
+def test_a_register_behind_a_site(office, tmp_path):
+    """With the name and the password, of each list; without them, or with another, nothing is printed and the reason is. A name needs an address."""
+    reg = file_of(played(2).season, tmp_path / "reg.db")
+    wanted = printed_of_all(office, "reg.db")
+    with served.desk(reg) as address, served.site(address) as site:
+        assert printed_of_all(office, site, "--user", served.USER, stdin=f"{served.PASSWORD}\n") == wanted
+        for words, typed in ((("--user", "jane"), "wrong\n"), (("--user", "joe"), "secret\n"), ((), None)):
+            ran = office("query", site, "draws", *words, stdin=typed)
+            assert ran.returncode == 1 and ran.stderr.endswith("/register cannot be read: the server answered with status 401: sign in\n") and not ran.stdout, ran
+    ran = office("query", "reg.db", "draws", "--user", "jane", stdin="secret\n")
+    assert (ran.returncode, ran.stdout, ran.stderr) == (2, "", "admissions-query: --user needs the address at which a register is served\n")
+
+
+def test_a_file_of_version_1(query, tmp_path):
+    """It is read, and stays as it is, with nothing beside it. By hand, from what made it (tools/version1): child 5 waits at A, where 2 has the place; at B child 4 has an
+    offer and 6 a plan, 7 waits, 1 and 3 are left with nothing."""
+    (tmp_path / "old").mkdir()
+    reg, source = tmp_path / "old" / "season.db", ROOT / "crates" / "desk_runs" / "data" / "season.db"
+    shutil.copyfile(source, reg)
+    reg.chmod(0o600)
+    assert query(reg, "list") == [["A", "1", "5", "C5", "1", "300", "1"], ["B", "1", "7", "C7", "0", "30", "1"]]
+    assert query(reg, "vacancies") == [["A", "Alpha", "1", "0", "1", "0", "0", "1"], ["B", "Beta", "1", "1", "0", "1", "0", "1"]]
+    assert [[it[0], *it[3:]] for it in query(reg, "children")] == [["1", "", ""], ["2", "A", "accepted"], ["3", "", ""], ["4", "B", "offered"], ["5", "", ""],
+        ["6", "B", "plan"], ["7", "", ""]]
+    assert [it[:6] for it in query(reg, "draws")] == [["1", "round", "1", "", "2025-03-03", "3"], ["2", "round", "2", "", "2025-03-20", "2"],
+        ["3", "fill", "", "B", "2025-04-18", "1"]]
+    assert [it[4:8] for it in query(reg, "child", "--child", 1)] == [["B", "1", "500", "left"], ["A", "1", "500", "left"]]
+    assert reg.read_bytes() == source.read_bytes() and [it.name for it in reg.parent.iterdir()] == ["season.db"]
+
+
+def test_another_document(office, reg, tmp_path):
+    """A program that shows another document than is read here, as one of another release, is named in one line."""
+    fake = tmp_path / "fake"
+    fake.write_text("#!/bin/sh\necho '{\"season\":1}'\n", "utf-8")
+    fake.chmod(0o700)
+    ran = office("query", reg.name, "season", program=fake)
+    assert ran.returncode == 1 and "the program shows another document than this command reads" in ran.stderr and ran.stderr.count("\n") == 1 and not ran.stdout, ran
 
 
 @pytest.mark.parametrize("phase, year, holidays, wanted", [
