@@ -11,7 +11,7 @@ from typing import Any
 
 from register_files import Refused
 
-from . import across, commands, days, fields, sheet, texts
+from . import across, commands, days, fields, rules, sheet, texts
 from .model import ACCEPTED, Child, Register
 
 DRAWS = ("round", "fill")
@@ -228,7 +228,7 @@ def pan_risks(lines: list[Line], register: Register) -> Risks:
             continue
         had, pan = school.pan, line.command["pan"]
         is_far = pan - had > max(had / FAR_PAN_PART, FAR_PAN_PLACES)
-        if is_far and pan <= commands.MOST_PAN:
+        if is_far and rules.LIMITS["pan"].has(pan):
             yield line, (f"raise_pan of {school.code} from {had} to {pan}: an admission number"
                          " cannot be lowered again")
 

@@ -44,7 +44,8 @@ import register_files as files
 from register_files import Refused
 
 from . import (
-    charts, commands, days, model, pages, ranking, sheet, texts, trial_effects, trial_registers,
+    charts, commands, days, model, pages, ranking, rules, sheet, texts, trial_effects,
+    trial_registers,
 )
 from .model import Pair, Register, School
 from .run import Progress
@@ -231,9 +232,10 @@ def page(trial: Trial, words: list[str], is_drawn: bool) -> str:
 def pan_change(text: str) -> Change:
     """OAK=70."""
     found = re.fullmatch(r"([^=]+)=([1-9][0-9]{0,2})", text, re.ASCII)
-    if not found or int(found[2]) > commands.MOST_PAN:
-        raise argparse.ArgumentTypeError(f"{text} is no school with an admission number from 1 to"
-                                         f" {commands.MOST_PAN}, as OAK=70")
+    limit = rules.LIMITS["pan"]
+    if not found or not limit.has(int(found[2])):
+        raise argparse.ArgumentTypeError(f"{text} is no school with an admission number from"
+                                         f" {limit.least} to {limit.most}, as OAK=70")
     return found[1], int(found[2])
 
 
@@ -241,8 +243,8 @@ def criteria_change(text: str) -> Change:
     """OAK=sibling;within:800."""
     code, mark, listed = text.partition("=")
     criteria = tuple(listed.split(";")) if listed else ()
-    most = commands.MOST_CRITERIA
-    if not mark or len(criteria) > most or not all(map(commands.CRITERION.fullmatch, criteria)):
+    most = rules.LIMITS["criteria"].most
+    if not mark or len(criteria) > most or not all(map(commands.is_criterion, criteria)):
         raise argparse.ArgumentTypeError(f"{text} is no school with at most {most} criteria, as"
                                          " 'OAK=sibling;within:800;flag:2;feeder:PRIM7'")
     return code, criteria

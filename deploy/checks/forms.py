@@ -7,7 +7,6 @@ from typing import Any
 
 from checks.page import FOCUS, RESULT, confirm, opened, press, press_no, question, visit, write
 from checks.refusals import LIMITS
-from checks.world import until
 
 TODAY_IN_WORDS = "2 April 2025"
 
