@@ -32,6 +32,7 @@ arguments.
 """
 import argparse
 import os
+from collections.abc import Sequence
 from typing import Any
 
 from register_files import Refused
@@ -48,8 +49,9 @@ MAP_TEXT = (
     "A map with a triangle and the code of each school. {cells} squares of {side} metres are"
     " coloured, the darker the more homes are in them."
 )
-# a row of a table of the page
+# a row of a table of the page, and a series of a chart: None is withheld
 Row = dict[str, Any]
+Series = tuple[str, Sequence[float | None]]
 
 
 def shown(found: Figures, key: What, value: int) -> str:
@@ -137,7 +139,7 @@ def chart_of_preferences(found: Figures, last: Figures | None, keys: list[int | 
     text = "; ".join(f"{name_of(key)} {it}" for key, it in zip(keys, words))
     title = "Preferences met, in percent of the children"
     description = f"Bars. {found.year}: {text}. The table above has the numbers."
-    series = [(str(year), them) for year, them in rates.items()]
+    series: list[Series] = [(str(year), them) for year, them in rates.items()]
     return str(charts.bars("met", title, description, [name_of(it) for it in keys], series,
                            "percent of the children", WITHHELD))
 
@@ -150,8 +152,8 @@ def chart_of_schools(found: Figures) -> tuple[str, str]:
     there = sorted(largest, key=lambda it: it.code)
     first = [drawn(found, ("applied", it.code, 1), it.applications[1]) for it in there]
     offers = [drawn(found, ("offers", it.code), it.offers.total()) for it in there]
-    series = [("admission number", [it.pan for it in there]), ("first preferences", first),
-              ("offers", offers)]
+    series: list[Series] = [("admission number", [it.pan for it in there]),
+                            ("first preferences", first), ("offers", offers)]
     is_whole = len(there) == len(found.schools)
     which = "of each school" if is_whole else f"of the {MOST_BARS} schools with the most places"
     title = f"Admission number, first preferences and offers {which}"
