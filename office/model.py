@@ -266,7 +266,7 @@ class File:
 def printed(ran: subprocess.CompletedProcess[bytes]) -> str:
     """What a run that failed has printed, as one line, or what ended it."""
     said = ", ".join(os.fsdecode(ran.stdout + ran.stderr).split("\n")).strip(", ")
-    return said or str(senders.ending(ran.returncode))
+    return said or senders.ending(ran.returncode)
 
 
 class Server:

@@ -1,5 +1,5 @@
-"""How lines reach the register, one at a time: by `admissions do`, or over HTTP; and what is read from
-a server.
+"""How lines reach the register, one at a time: by `admissions do`, or over HTTP; and what is read
+from a server.
 """
 import base64
 import getpass
@@ -15,21 +15,21 @@ import urllib.parse
 import warnings
 from collections.abc import Callable
 
+from register_files import Refused
+
 from . import commands
-from .run import Refused
 
 ANSWER_SECONDS = 120
 # which a browser leaves out of an origin
 PORTS = {"http": ":80", "https": ":443"}
-
-
 ENDS = {
-    signal.SIGKILL: "it was killed, often because memory ran out", signal.SIGXFSZ: "a file may not become larger (ulimit -f)",
+    signal.SIGKILL: "it was killed, often because memory ran out",
+    signal.SIGXFSZ: "a file may not become larger (ulimit -f)",
     signal.SIGXCPU: "it may not run longer (ulimit -t)",
 }
 
 
-def ending(status):
+def ending(status: int) -> str:
     """What ended a program, by its status: a negative one is that of a signal."""
     if status >= 0:
         return f"the program ended with status {status}"
@@ -37,13 +37,15 @@ def ending(status):
         number = signal.Signals(-status)
     except ValueError:
         return f"the program was ended by the signal {-status}"
-    return f"the program ended early: {ENDS[number]}" if number in ENDS else f"the program was ended by the signal {number.name}"
+    if number in ENDS:
+        return f"the program ended early: {ENDS[number]}"
+    return f"the program was ended by the signal {number.name}"
 
 
 class Ended(Exception):
     """No answer came. Whether the line may be done all the same."""
 
-    def __init__(self, text, is_open=True):
+    def __init__(self, text: str, is_open: bool = True) -> None:
         super().__init__(text)
         self.is_open = is_open
 
@@ -57,7 +59,8 @@ class Do:
         self.rest = b""
         self.errors = tempfile.TemporaryFile()  # pylint: disable=consider-using-with
         self.run = subprocess.Popen(  # pylint: disable=consider-using-with
-            [program, "do", path], stdin=subprocess.PIPE, stdout=subprocess.PIPE, stderr=self.errors, start_new_session=True)
+            [program, "do", path], stdin=subprocess.PIPE, stdout=subprocess.PIPE,
+            stderr=self.errors, start_new_session=True)
         assert self.run.stdin and self.run.stdout
         self.input, self.output = self.run.stdin, self.run.stdout
 
@@ -73,7 +76,7 @@ class Do:
             raise Ended(self.close() or "the program ended without an answer")
         return answer[:-1]
 
-    def close(self):
+    def close(self) -> str:
         """Ends it, and waits for that. What it printed where it failed."""
         if self.input.closed:
             return ""
@@ -119,23 +122,26 @@ def refusal(status: int, said: dict[str, object]) -> tuple[str, bool]:
     """
     reason, may_be_done = said.get("reason"), status >= 500
     if said.get("busy"):
-        reason, may_be_done = "too many requests wait at the site, and this one was not passed on", False
+        reason = "too many requests wait at the site, and this one was not passed on"
+        may_be_done = False
     elif said.get("unanswered"):
         reason = "the site had no answer from the desk"
-    return f"the server answered with status {status}{f': {reason}' if isinstance(reason, str) else ''}", may_be_done
+    why = f": {reason}" if isinstance(reason, str) else ""
+    return f"the server answered with status {status}{why}", may_be_done
 
 
 def address_of(url: str) -> urllib.parse.SplitResult:
     """The parts of an address that requests can be sent to."""
-    refused = Refused(f"{url} is no address as http://127.0.0.1:8080 or https://admissions.example", 2)
+    refused = Refused(f"{url} is no address as http://127.0.0.1:8080 or"
+                      " https://admissions.example", 2)
     if not re.fullmatch("[!-~]+", url):
         raise refused
     try:
         parts = urllib.parse.urlsplit(url)
-        is_address = parts.scheme in PORTS and parts.hostname and parts.port != 0 and "@" not in parts.netloc
+        is_named = parts.hostname and parts.port != 0 and "@" not in parts.netloc
     except ValueError as error:
         raise refused from error
-    if not is_address:
+    if parts.scheme not in PORTS or not is_named:
         raise refused
     return parts
 
@@ -148,20 +154,25 @@ class Http:
 
     rest = b""
 
-    def __init__(self, url: str, user: str | None = None, password: Callable[[], str] = str) -> None:
+    def __init__(self, url: str, user: str | None = None,
+                 password: Callable[[], str] = str) -> None:
         """The password is asked for once it is sure that it can be sent."""
         parts = address_of(url)
         self.url = url
         self.host, self.port = parts.hostname or "", parts.port or int(PORTS[parts.scheme][1:])
-        if user and parts.scheme == "http" and not is_this_machine(self.host):
-            raise Refused(f"{url} would carry the password of {user} over the network for all to read: the address of a site begins with https://", 2)
-        self.kind = http.client.HTTPSConnection if parts.scheme == "https" else http.client.HTTPConnection
+        is_safe = parts.scheme == "https"
+        if user and not is_safe and not is_this_machine(self.host):
+            raise Refused(f"{url} would carry the password of {user} over the network for all to"
+                          " read: the address of a site begins with https://", 2)
+        self.kind = http.client.HTTPSConnection if is_safe else http.client.HTTPConnection
         self.base = parts.path.rstrip("/")
         # A site takes a POST from its own pages alone: what a browser says of them, in the form
         # that it has there
-        self.headers = {"Content-Type": "application/json", "Origin": f"{parts.scheme}://{parts.netloc.lower().removesuffix(PORTS[parts.scheme])}"}
+        place = parts.netloc.lower().removesuffix(PORTS[parts.scheme])
+        self.headers = {"Content-Type": "application/json", "Origin": f"{parts.scheme}://{place}"}
         if user:
-            self.headers["Authorization"] = "Basic " + base64.b64encode(f"{user}:{password()}".encode()).decode()
+            pair = base64.b64encode(f"{user}:{password()}".encode()).decode()
+            self.headers["Authorization"] = f"Basic {pair}"
 
     def ask(self, method: str, path: str, body: bytes | None = None) -> tuple[int, bytes]:
         """The status and the body of a response."""
@@ -169,10 +180,12 @@ class Http:
         try:
             conn.connect()
         except ssl.SSLCertVerificationError as error:
-            raise Ended(f"no connection: the certificate of {self.host} is not trusted: {error.verify_message}", False) from error
+            raise Ended(f"no connection: the certificate of {self.host} is not trusted:"
+                        f" {error.verify_message}", False) from error
         except (OSError, UnicodeError) as error:
             # (a host of a label that is too long for a name is a UnicodeError)
-            raise Ended(f"no connection: {getattr(error, 'strerror', None) or error}", False) from error
+            why = getattr(error, "strerror", None) or error
+            raise Ended(f"no connection: {why}", False) from error
         try:
             conn.request(method, self.base + path, body, self.headers)
             response = conn.getresponse()
@@ -188,7 +201,8 @@ class Http:
         answer = body.rstrip(b"\n")
         value = commands.read(answer)
         said = value if isinstance(value, dict) else {}
-        if status in (200, 400, 409, 503) and {"done", "refused", "fault", "memory", "failed"} & set(said):
+        is_desk = {"done", "refused", "fault", "memory", "failed"} & set(said)
+        if status in (200, 400, 409, 503) and is_desk:
             return answer
         raise Ended(*refusal(status, said))
 
