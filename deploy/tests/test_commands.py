@@ -102,7 +102,7 @@ def test_another_name_is_refused(tmp_path: pathlib.Path) -> None:
     done = subprocess.run(
         [tmp_path / "admissions-nothing"], capture_output=True, text=True, check=False
     )
-    assert (done.returncode, "call it by one of the names audit, check" in done.stderr) == (1, True)
+    assert (done.returncode, "call it as admissions-audit, " in done.stderr) == (1, True)
 
 
 @pytest.mark.parametrize("name", NAMES)
