@@ -1,4 +1,5 @@
-"""What the tests of deploy/ share: the modules of deploy/machine, and a machine of folders in place of this one. They need no root, no nginx and no systemd."""
+"""What the tests of deploy/ share: the modules of deploy/machine, and a machine of folders in place
+of this one. They need no root, no nginx and no systemd."""
 import os
 import pathlib
 import sqlite3

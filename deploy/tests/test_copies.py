@@ -1,4 +1,5 @@
-"""The nightly copies: their order, which are removed, what is beside them, and what status says of their times."""
+"""The nightly copies: their order, which are removed, what is beside them, and what status says of
+their times."""
 import datetime
 import gzip
 import io
@@ -373,7 +374,8 @@ def test_a_longer_log_at_the_second_place_is_not_replaced(
         paths[1].name: paths[1].stat().st_size + more,
         "asked-000009-0123456789abcdef.gz": 10**9,
     }
-    listed = "drwx------          4,096 2025/03/03 02:30:00 .\ndrwx------          4,096 2025/03/03 02:30:00 log\n"
+    listed = "drwx------          4,096 2025/03/03 02:30:00 .\n"
+    listed += "drwx------          4,096 2025/03/03 02:30:00 log\n"
     listed += "".join(
         f"-rw------- {size:14} 2025/03/03 02:30:00 log/{name}\n" for name, size in sizes.items()
     )
@@ -381,7 +383,8 @@ def test_a_longer_log_at_the_second_place_is_not_replaced(
     if is_refused:
         with pytest.raises(
             Refused,
-            match=f"^vault:copies/x/log/{paths[1].name} is longer than {paths[1]}, and stays as it is",
+            match=f"^vault:copies/x/log/{paths[1].name} is longer than {paths[1]},"
+            " and stays as it is",
         ):
             second_copy.see_none_longer(register, "vault:copies/x/")
     else:

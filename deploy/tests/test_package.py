@@ -1,4 +1,5 @@
-"""What a package says of itself: the result of the gate, the program, and the versions and licences of the kit's crates."""
+"""What a package says of itself: the result of the gate, the program, and the versions and licences
+of the kit's crates."""
 import argparse
 import hashlib
 import json
@@ -113,7 +114,10 @@ def test_without_a_verdict_nothing_is_made() -> None:
     ) == (2, True)
 
 
-MIT = "Permission is hereby granted, subject to the following\nconditions:\n\nThe above copyright notice and this permission notice shall\n"
+MIT = (
+    "Permission is hereby granted, subject to the following\nconditions:\n\n"
+    "The above copyright notice and this permission notice shall\n"
+)
 APACHE = "Apache License\nVersion 2.0\n"
 
 

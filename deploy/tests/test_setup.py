@@ -1,4 +1,5 @@
-"""What admissions-setup takes, refuses and asks again; users and their roles; the holidays of a register that is there; and the lock."""
+"""What admissions-setup takes, refuses and asks again; users and their roles; the holidays of a
+register that is there; and the lock."""
 import argparse
 import contextlib
 import datetime
@@ -126,10 +127,11 @@ def test_an_answer_that_is_not_taken_is_named_and_asked_for_again(
 
 def test_without_a_terminal_nothing_is_asked(monkeypatch: pytest.MonkeyPatch) -> None:
     monkeypatch.setattr(sys, "stdin", io.StringIO("primary\n"))
-    for call in (
+    calls: tuple[typing.Callable[[], object], ...] = (
         lambda: answers.ask("--phase", answers.phase),
         lambda: answers.confirm("jane is removed", False),
-    ):
+    )
+    for call in calls:
         with pytest.raises(Refused) as found:
             call()
         assert found.value.status == 2
@@ -345,14 +347,16 @@ def test_the_holidays_of_an_empty_register_and_no_other(register: registers.Regi
     file.close()
     with pytest.raises(
         Refused,
-        match="cannot be changed any more, since it has 1 school: .* Its holidays are 2025-04-03, 2025-04-04$",
+        match="cannot be changed any more, since it has 1 school: .*"
+        " Its holidays are 2025-04-03, 2025-04-04$",
     ):
         holidays.change_of(register, [])
 
 
 @pytest.fixture(name="as_desk")
 def as_desk_fixture(monkeypatch: pytest.MonkeyPatch) -> list[bool]:
-    """Whether the user of the desks does what is done now; nothing but this command gives files to others."""
+    """Whether the user of the desks does what is done now; nothing but this command gives files to
+    others."""
     now = [False]
 
     @contextlib.contextmanager
@@ -373,7 +377,8 @@ def test_in_the_folder_of_the_desk_root_makes_no_folder(
 
     def mkdtemp(*more: typing.Any) -> str:
         made.append(as_desk[0])
-        return make(*more)
+        path: str = make(*more)
+        return path
 
     monkeypatch.setattr(tempfile, "mkdtemp", mkdtemp)
     monkeypatch.setattr(holidays, "open_error", lambda *_, **more: "")
@@ -431,11 +436,12 @@ def test_a_second_password_of_a_user_is_refused_before_any_change(
 ) -> None:
     path = users.settings / "passwords"
     path.write_text("# jane:\njane:$6$x\nalpha:$6$y\njane:$6$z\n")
-    for change in (
+    changes: tuple[typing.Callable[[registers.Register], object], ...] = (
         people.users_of,
-        lambda it: setup.list_users(it),
+        setup.list_users,
         lambda it: list(setup.make_user(it, given_user("ben"), setup.Changes(None, None))),
-    ):
+    )
+    for change in changes:
         with pytest.raises(Refused, match=f"^{path}, line 4: jane is in an earlier line already$"):
             change(users)
     with pytest.raises(Refused, match="line 4: jane is in an earlier line already"):
@@ -533,7 +539,8 @@ def test_a_role_is_compared_with_that_of_the_archive_which_comes_back(
         (
             "Old Council",
             "Other Council",
-            "the name of the authority on the sheets of all registers changes from Old Council to Other Council",
+            "the name of the authority on the sheets of all registers changes"
+            " from Old Council to Other Council",
         ),
         ("Other Council", "Other Council", ""),
         (None, "Other Council", ""),
@@ -555,7 +562,8 @@ def test_another_name_of_the_authority_is_confirmed(
 
 
 def see_confirmed(register: registers.Register, words: list[str], said: str) -> None:
-    """That without a terminal these arguments need --yes, and for what; or, where nothing is said, that they need none."""
+    """That without a terminal these arguments need --yes, and for what; or, where nothing is said,
+    that they need none."""
     if said:
         with pytest.raises(Refused, match=f"^{said}: nothing was changed") as found:
             setup.confirmed(register, given_to_setup(register.name, *words))
@@ -563,7 +571,10 @@ def see_confirmed(register: registers.Register, words: list[str], said: str) -> 
     setup.confirmed(register, given_to_setup(register.name, *words, *(["--yes"] if said else [])))
 
 
-REPLACED = "the certificate and the key of secondary-2025 are replaced, and those that are there are kept nowhere"
+REPLACED = (
+    "the certificate and the key of secondary-2025 are replaced,"
+    " and those that are there are kept nowhere"
+)
 
 
 @pytest.mark.parametrize(
