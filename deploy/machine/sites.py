@@ -14,10 +14,11 @@ from . import files
 from .registers import NAME, SETTINGS, Register
 from .programs import call, is_booted, tool
 
-AVAILABLE, ENABLED = pathlib.Path("/etc/nginx/sites-available"), pathlib.Path("/etc/nginx/sites-enabled")
+NGINX = pathlib.Path("/etc/nginx")
+AVAILABLE, ENABLED = NGINX / "sites-available", NGINX / "sites-enabled"
 MODEL, MACHINE = AVAILABLE / "admissions", pathlib.Path("/etc/nginx/conf.d/admissions.conf")
 # nginx's main file, and one that it reads as a part of it
-MAIN, LIMITS = pathlib.Path("/etc/nginx/nginx.conf"), pathlib.Path("/etc/nginx/modules-enabled/90-admissions.conf")
+MAIN, LIMITS = NGINX / "nginx.conf", NGINX / "modules-enabled/90-admissions.conf"
 # The connections of each process of nginx, so that silent clients do not keep others out; a request
 # that is passed on takes two, and each is a file
 CONNECTIONS, OPEN_FILES = 8192, 16384
@@ -25,7 +26,8 @@ CONNECTIONS, OPEN_FILES = 8192, 16384
 HTTP2_DIRECTIVE = (1, 25, 1)
 READ = pathlib.Path("/run/admissions-sites-read")
 FIRST, LAST = "# The machine's own part, which is there once:\n", "# The end of that part\n"
-HOST = re.compile(r"(?=.{1,253}\Z)[a-z0-9]([a-z0-9-]{0,61}[a-z0-9])?(\.[a-z0-9]([a-z0-9-]{0,61}[a-z0-9])?)+")
+LABEL = "[a-z0-9]([a-z0-9-]{0,61}[a-z0-9])?"
+HOST = re.compile(rf"(?=.{{1,253}}\Z){LABEL}(\.{LABEL})+")
 FOLDERS = pathlib.Path("/etc/tmpfiles.d")
 MADE_FOLDERS = """# Made by admissions-setup: the log, which is for root alone: nginx opens it before it gives up
 # its rights, and gives it away when it gets the signal to reopen it. What nginx opens so is in
@@ -34,7 +36,10 @@ f {logs}/asked.log 0600 root root
 f {logs}/errors.log 0600 root root
 z {logs}/*.log* 0600 root root
 """
-MADE = "# Made by admissions-setup from sites-available/admissions: change that, and type admissions-setup --sites\n"
+MADE = (
+    "# Made by admissions-setup from sites-available/admissions:"
+    " change that, and type admissions-setup --sites\n"
+)
 
 
 @dataclasses.dataclass(frozen=True)
@@ -125,7 +130,8 @@ def main_text(text: str) -> str:
     found = re.search(r"(?m)^(\s*worker_connections\s+)([0-9]+);(?=[ \t]*(?:#|$))", text)
     if not found or int(found[2]) >= CONNECTIONS:
         return text
-    return f"{text[:found.start()]}{found[1]}{CONNECTIONS}; # {found[2]} before admissions-setup{text[found.end():]}"
+    line = f"{found[1]}{CONNECTIONS}; # {found[2]} before admissions-setup"
+    return f"{text[:found.start()]}{line}{text[found.end():]}"
 
 
 def share() -> pathlib.Path:
@@ -152,13 +158,20 @@ def make_all() -> list[str]:
     model = MODEL.read_text(encoding="utf-8")
     machine = this_machine()
     main = MAIN.read_text(encoding="utf-8") if MAIN.exists() else ""
-    wanted = {MACHINE: machine_text(model, (share() / "machine.conf").read_text(encoding="utf-8"), machine), LIMITS: limits_text(main)}
+    more = (share() / "machine.conf").read_text(encoding="utf-8")
+    wanted = {MACHINE: machine_text(model, more, machine), LIMITS: limits_text(main)}
     if main:
         wanted[MAIN] = main_text(main)
-    sites = {AVAILABLE / f"admissions-{it.name}": site_text(model, it.name, it.host or "", machine) for it in registers_with_site()}
+    sites = {
+        AVAILABLE / f"admissions-{it.name}": site_text(model, it.name, it.host or "", machine)
+        for it in registers_with_site()
+    }
     wanted |= sites
     folders = [folders_of(it) for it in registers_with_site()]
-    before = {path: path.read_text(encoding="utf-8") if path.exists() else None for path in (*wanted, *folders)}
+    before = {
+        path: path.read_text(encoding="utf-8") if path.exists() else None
+        for path in (*wanted, *folders)
+    }
     lines = make_folders()
     links: list[pathlib.Path] = []
     for path, text in wanted.items():

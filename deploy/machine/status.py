@@ -37,7 +37,8 @@ from .settings_copy import REPORT as BESIDE
 # from when on something needs attention
 COPY_HOURS, DRILL_DAYS, CERTIFICATE_DAYS = 26, 35, 21
 LEAST_ROOM, ROOM_FACTOR = 200_000_000, 10
-# the end of a log that is looked at: a command has a body of 1 MiB at most, which may be longer as it is written there
+# the end of a log that is looked at: a command has a body of 1 MiB at most, which may be longer as
+# it is written there
 END_OF_LOG = 8 << 20
 LOG_SECONDS = 5.0
 # who asks without a password: the site writes a line of a refused request only if it has a name
@@ -46,7 +47,8 @@ State = tuple[bool, str]
 
 
 def arguments(reader: argparse.ArgumentParser) -> None:
-    reader.add_argument("names", nargs="*", metavar="NAME", help="the name of a register; all of them if none is given")
+    said = "the name of a register; all of them if none is given"
+    reader.add_argument("names", nargs="*", metavar="NAME", help=said)
     reader.add_argument("--line", action="store_true", help="one line for a monitoring system")
 
 
@@ -58,10 +60,12 @@ def main(given: argparse.Namespace) -> int:
         print(f"no register is set up in {REGISTERS}: type admissions-setup")
         return 1
     reports = {it.name: report(it) for it in registers}
-    bad = [f"{name} {part}: {text}" for name, parts in reports.items() for part, (is_well, text) in parts.items() if not is_well]
+    states = [(name, *it) for name, parts in reports.items() for it in parts.items()]
+    bad = [f"{name} {part}: {text}" for name, part, (is_well, text) in states if not is_well]
     if given.line:
         count = f"{len(registers)} register{'s' if len(registers) > 1 else ''}"
-        print(f"ATTENTION - {count}; {'; '.join(bad)}" if bad else f"OK - {count}: {', '.join(reports)}")
+        well = f"OK - {count}: {', '.join(reports)}"
+        print(f"ATTENTION - {count}; {'; '.join(bad)}" if bad else well)
     else:
         for name, parts in reports.items():
             print(name)
@@ -72,8 +76,19 @@ def main(given: argparse.Namespace) -> int:
 
 def report(register: Register) -> dict[str, State]:
     """What is known of a register: for each part whether it is well, and a text."""
-    parts = {"register": file_of, "desk": desk_of, "site": site_of, "units": units_of, "users": users_of, "log": log_of,
-             "copy": copy_of, "second copy": second_of, "drill": drill_of, "disk": room_of, "certificate": certificate_of}
+    parts = {
+        "register": file_of,
+        "desk": desk_of,
+        "site": site_of,
+        "units": units_of,
+        "users": users_of,
+        "log": log_of,
+        "copy": copy_of,
+        "second copy": second_of,
+        "drill": drill_of,
+        "disk": room_of,
+        "certificate": certificate_of,
+    }
     out = {}
     for name, part in parts.items():
         try:
@@ -90,7 +105,9 @@ def file_of(register: Register) -> State:
     season = season_of(register.file)
     text = f"{season.phase} {season.year}, file version {season.version}, {found.st_size:,} bytes"
     is_private = stat.S_ISREG(found.st_mode) and not found.st_mode & 0o077
-    return is_private, text if is_private else f"{text}, and others can read it: chmod 600 {register.file}"
+    if not is_private:
+        return False, f"{text}, and others can read it: chmod 600 {register.file}"
+    return True, text
 
 
 def desk_of(register: Register) -> State:
@@ -100,22 +117,28 @@ def desk_of(register: Register) -> State:
         return True, f"answers in {1000 * (time.monotonic() - before):.0f} ms"
     if status == 503:
         return False, "answers 503: it refuses everything, and journalctl has the cause"
-    return False, f"does not answer: systemctl status admissions@{register.name}" if status is None else f"answers {status}"
+    if status is None:
+        return False, f"does not answer: systemctl status admissions@{register.name}"
+    return False, f"answers {status}"
 
 
 def site_of(register: Register) -> State:
-    """Whether nginx answers for the site, as it does to a request without a password, and with the certificate that is in its file."""
+    """Whether nginx answers for the site, as it does to a request without a password, and with the
+    certificate that is in its file."""
     if register.host is None:
         return True, "it has none"
     before = time.monotonic()
     try:
         status, shown = site_status_of(register.host)
     except (OSError, http.client.HTTPException) as error:
-        return False, f"https://{register.host}/ does not answer on this machine ({error}): systemctl status nginx"
+        said = f"does not answer on this machine ({error}): systemctl status nginx"
+        return False, f"https://{register.host}/ {said}"
     if status != 401:
-        return False, f"https://{register.host}/ answers {status}, and not 401, to who has not signed in"
+        said = f"answers {status}, and not 401, to who has not signed in"
+        return False, f"https://{register.host}/ {said}"
     if shown != first_certificate(register):
-        return False, "nginx shows another certificate than that of its file: systemctl reload nginx"
+        said = "nginx shows another certificate than that of its file: systemctl reload nginx"
+        return False, said
     return True, f"nginx asks for a password in {1000 * (time.monotonic() - before):.0f} ms"
 
 
@@ -140,18 +163,23 @@ def units_of(register: Register) -> State:
         if found["ActiveState"] != "active":
             bad.append(f"{unit} is {found['ActiveState']}: systemctl start {unit}")
         if found["UnitFileState"] != "enabled":
-            bad.append(f"{unit} is {found['UnitFileState'] or 'not there'}: systemctl enable {unit}")
+            state = found["UnitFileState"] or "not there"
+            bad.append(f"{unit} is {state}: systemctl enable {unit}")
     for name in ("backup", "second-copy", "drill"):
         unit = f"admissions-{name}@{register.name}.service"
         if shown_of(unit, "ActiveState")["ActiveState"] == "failed":
             bad.append(f"{unit} has failed: journalctl -u {unit}")
-    return not bad, "; ".join(bad) or f"enabled and active; next backup {next_of(backup)}, next drill {next_of(drill)}"
+    if bad:
+        return False, "; ".join(bad)
+    return True, f"enabled and active; next backup {next_of(backup)}, next drill {next_of(drill)}"
 
 
 def shown_of(unit: str, *names: str) -> dict[str, str]:
     """Properties of a unit as systemd prints them."""
-    lines = call(tool("systemctl", "systemd"), "show", *(f"--property={it}" for it in names), unit).stdout.splitlines()
-    return dict.fromkeys(names, "") | {line.partition("=")[0]: line.partition("=")[2] for line in lines}
+    wanted = [f"--property={it}" for it in names]
+    lines = call(tool("systemctl", "systemd"), "show", *wanted, unit).stdout.splitlines()
+    found = (line.partition("=") for line in lines)
+    return dict.fromkeys(names, "") | {name: value for name, _, value in found}
 
 
 def next_of(timer: str) -> str:
@@ -163,26 +191,32 @@ def users_of(register: Register) -> State:
     roles = [it.role for it in people.users_of(register) if it.has_password]
     if register.host and "office" not in roles:
         problems.append("nobody with the role office can sign in")
-    return not problems, "; ".join(problems) or f"{len(roles)}, of whom {roles.count('office')} have the role office"
+    well = f"{len(roles)}, of whom {roles.count('office')} have the role office"
+    return not problems, "; ".join(problems) or well
 
 
 def log_of(register: Register) -> State:
-    """Whether the log of the site is one that root alone writes, ends in a whole line, and has a line more after a request."""
+    """Whether the log of the site is one that root alone writes, ends in a whole line, and has a
+    line more after a request."""
     if register.host is None:
         return True, "it has no site"
     path = register.logs / "asked.log"
     if not path.exists():
-        return False, f"{path} is not there, so nobody records who does what: systemctl reload nginx"
+        lost = "so nobody records who does what: systemctl reload nginx"
+        return False, f"{path} is not there, {lost}"
     found = path.lstat()
     if not stat.S_ISREG(found.st_mode) or found.st_uid != 0 or found.st_mode & 0o027:
-        return False, f"{path} must be a file that root alone writes and others do not read: chown root {path} && chmod 600 {path}"
+        how = f"chown root {path} && chmod 600 {path}"
+        return False, f"{path} must be a file that root alone writes and others do not read: {how}"
     with open(path, "rb") as file:
         file.seek(max(0, found.st_size - END_OF_LOG))
         last = file.read().rpartition(b"\n")
     if last[2] or not is_whole(last[0].rpartition(b"\n")[2]):
-        return False, f"the last line of {path} is not whole: a command may be done without a record"
+        lost = "a command may be done without a record"
+        return False, f"the last line of {path} is not whole: {lost}"
     if not grows(register, found.st_size):
-        return False, f"a request was not written to {path}: is its disk full, and does nginx write to this file? systemctl reload nginx"
+        why = "is its disk full, and does nginx write to this file? systemctl reload nginx"
+        return False, f"a request was not written to {path}: {why}"
     return True, f"{found.st_size:,} bytes, and written"
 
 
@@ -210,7 +244,8 @@ def grows(register: Register, before: int) -> bool:
 
 def age_text(seconds: float) -> str:
     if is_ahead(seconds):
-        return f"dated {-seconds / 3600:,.0f} hours in the future; the time here is {datetime.datetime.now():%Y-%m-%d %H:%M}: is the clock right?"
+        now = f"the time here is {datetime.datetime.now():%Y-%m-%d %H:%M}"
+        return f"dated {-seconds / 3600:,.0f} hours in the future; {now}: is the clock right?"
     hours = seconds / 3600
     return f"{hours:.0f} hours old" if hours < 72 else f"{hours / 24:.0f} days old"
 
@@ -225,22 +260,26 @@ def is_recent(seconds: float, limit: float) -> bool:
 
 
 def copy_of(register: Register) -> State:
-    """The copy that was made last. One that is dated ahead was made by a wrong clock, or the clock is wrong now."""
+    """The copy that was made last. One that is dated ahead was made by a wrong clock, or the clock
+    is wrong now."""
     made = register.nightly_copies()
     if not made:
         return False, f"none yet: systemctl start admissions-backup@{register.name}"
     old = copies.age(made[-1])
     text = f"{made[-1].name}, {age_text(old)}, {len(made)} of them"
     if ahead := [it for it in made[:-1] if is_ahead(copies.age(it))]:
-        return False, f"{text}; {ahead[0].name} is {age_text(copies.age(ahead[0]))} Rename it to keep it, or remove it"
+        is_ahead_by = age_text(copies.age(ahead[0]))
+        return False, f"{text}; {ahead[0].name} is {is_ahead_by} Rename it to keep it, or remove it"
     archive = copies.settings_of(made[-1])
     if not archive.exists():
-        return False, f"{text}; without users and settings: journalctl -u admissions-second-copy@{register.name}"
+        how = f"journalctl -u admissions-second-copy@{register.name}"
+        return False, f"{text}; without users and settings: {how}"
     beside = report_of(register, BESIDE)
     if beside and "WARNING" in beside[0]:
         return False, f"{text}; {beside[0]}"
     if beside and beside[1] > time.time() - archive.stat().st_mtime:
-        return False, f"{text}; without the whole log: journalctl -u admissions-second-copy@{register.name}"
+        how = f"journalctl -u admissions-second-copy@{register.name}"
+        return False, f"{text}; without the whole log: {how}"
     return is_recent(old, COPY_HOURS * 3600), text
 
 
@@ -259,7 +298,8 @@ def second_of(register: Register) -> State:
     if line_of() == NONE:
         return True, f"none, as {setting} says"
     if place is None:
-        return False, f"no second place is named in {setting}, so all copies are lost with this machine: name one there, or write `{NONE}` if there shall be none"
+        lost = f"no second place is named in {setting}, so all copies are lost with this machine"
+        return False, f"{lost}: name one there, or write `{NONE}` if there shall be none"
     found = report_of(register, SECOND)
     if found is None:
         return False, f"none in {place} yet: systemctl start admissions-second-copy@{register.name}"
@@ -275,17 +315,22 @@ def drill_of(register: Register) -> State:
 
 
 def is_young(register: Register) -> bool:
-    """Whether no drill can be expected yet: the register's folder is younger than the time between two."""
+    """Whether no drill can be expected yet: the register's folder is younger than the time between
+    two."""
     settings = register.settings / "site-name"
-    return settings.exists() and is_recent(time.time() - settings.stat().st_mtime, DRILL_DAYS * 86400)
+    seconds = time.time() - settings.stat().st_mtime if settings.exists() else None
+    return seconds is not None and is_recent(seconds, DRILL_DAYS * 86400)
 
 
 def room_of(register: Register) -> State:
-    """The room on the disks of the register, its copies and its log: ten times the register, and 200 MB at least."""
+    """The room on the disks of the register, its copies and its log: ten times the register, and
+    200 MB at least."""
     needed = max(LEAST_ROOM, ROOM_FACTOR * register.file.stat().st_size)
-    rooms = [(shutil.disk_usage(path).free, path) for path in (register.folder, register.copies, register.logs) if path.is_dir()]
+    folders = (register.folder, register.copies, register.logs)
+    rooms = [(shutil.disk_usage(path).free, path) for path in folders if path.is_dir()]
     free, path = min(rooms)
-    return free >= needed, f"{free / 1e9:.1f} GB free at {path}, of {needed / 1e9:.1f} GB that are needed"
+    text = f"{free / 1e9:.1f} GB free at {path}, of {needed / 1e9:.1f} GB that are needed"
+    return free >= needed, text
 
 
 def certificate_of(register: Register) -> State:
@@ -295,4 +340,6 @@ def certificate_of(register: Register) -> State:
     days = certificates.days_left(certificate)
     is_own = certificates.is_self_signed(certificate)
     end = datetime.date.today() + datetime.timedelta(days=days)
-    return days >= CERTIFICATE_DAYS and not is_own, f"{register.host}, {days} days, until {end}{'; no authority has signed it' if is_own else ''}"
+    unsigned = "; no authority has signed it" if is_own else ""
+    is_well = days >= CERTIFICATE_DAYS and not is_own
+    return is_well, f"{register.host}, {days} days, until {end}{unsigned}"
