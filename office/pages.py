@@ -20,4 +20,5 @@ def render(name: str, values: Mapping[str, Any]) -> str:
         lstrip_blocks=True,
     )
     charts = {key: markupsafe.Markup(it) for key, it in values.get("charts", {}).items()}
-    return made.get_template(name).render({**values, "charts": charts})
+    text: str = made.get_template(name).render({**values, "charts": charts})
+    return text
