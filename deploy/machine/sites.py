@@ -29,9 +29,9 @@ FIRST, LAST = "# The machine's own part, which is there once:\n", "# The end of 
 LABEL = "[a-z0-9]([a-z0-9-]{0,61}[a-z0-9])?"
 HOST = re.compile(rf"(?=.{{1,253}}\Z){LABEL}(\.{LABEL})+")
 FOLDERS = pathlib.Path("/etc/tmpfiles.d")
-MADE_FOLDERS = """# Made by admissions-setup: the log, which is for root alone: nginx opens it before it gives up
-# its rights, and gives it away when it gets the signal to reopen it. What nginx opens so is in
-# folders of root, where nobody else can put a link in its place
+MADE_FOLDERS = """# Made by admissions-setup: the log, which is for root alone: nginx opens it
+# before it gives up its rights, and gives it away when it gets the signal to reopen it. What nginx
+# opens so is in folders of root, where nobody else can put a link in its place
 f {logs}/asked.log 0600 root root
 f {logs}/errors.log 0600 root root
 z {logs}/*.log* 0600 root root
