@@ -17,6 +17,8 @@ if TYPE_CHECKING:
 
 # east and north, in metres
 Point = tuple[int, int]
+# a text, and the values of its bars; None is withheld
+Series = tuple[str, Sequence[float | None]]
 # two colours that differ in brightness too, so that a print in grey shows both; and what marks the
 # second one besides
 NOW, THEN, PALE = "#1d3557", "#f4a261", "#a8c5da"
@@ -72,12 +74,12 @@ def bars(
     title: str,
     description: str,
     labels: Sequence[str],
-    series: Sequence[tuple[str, Sequence[int | None]]],
+    series: Sequence[Series],
     unit: str,
     withheld: str = "[c]",
 ) -> str:
-    """Horizontal bars, one group for each label. A series is (text, values); a value that is
-    withheld is None and has a mark in place of a bar."""
+    """Horizontal bars, one group for each label. A value that is withheld has a mark in place of a
+    bar."""
     figure = new_figure(8, 1.1 + len(labels) * (0.12 + 0.16 * len(series)))
     axes, colours, high = figure.add_subplot(), (NOW, THEN, PALE), 0.8 / len(series)
     for at, (text, values) in enumerate(series):

@@ -32,12 +32,11 @@ arguments.
 """
 import argparse
 import os
-from collections.abc import Sequence
 from typing import Any
 
 from register_files import Refused
 
-from . import charts, days, figure_counts, model, pages, ranking, rounds, sheet
+from . import charts, criteria, days, figure_counts, model, pages, rounds, sheet
 from .figure_counts import LOWER, NONE, Figures, School, What
 from .run import Progress
 from .withheld import LEAST, MEANING, WITHHELD
@@ -49,9 +48,8 @@ MAP_TEXT = (
     "A map with a triangle and the code of each school. {cells} squares of {side} metres are"
     " coloured, the darker the more homes are in them."
 )
-# a row of a table of the page, and a series of a chart: None is withheld
+# a row of a table of the page
 Row = dict[str, Any]
-Series = tuple[str, Sequence[float | None]]
 
 
 def shown(found: Figures, key: What, value: int) -> str:
@@ -97,8 +95,8 @@ def last_offered(school: School, flags: dict[int, str]) -> tuple[str, str]:
     if school.last is None:
         return "no offer in this round", ""
     number, metres = school.last
-    distance = WITHHELD if ranking.is_private(school, number) else f"{metres:,} m"
-    return ranking.in_words(school, number, flags), distance
+    distance = WITHHELD if criteria.is_private(school, number) else f"{metres:,} m"
+    return criteria.in_words(school, number, flags), distance
 
 
 def school_row(found: Figures, it: School, flags: dict[int, str]) -> Row:
@@ -113,7 +111,7 @@ def school_row(found: Figures, it: School, flags: dict[int, str]) -> Row:
         **{what: shown(found, (what, code), value) for what, value in totals.items()},
         "criterion": criterion, "metres": metres,
         "turned_away": "some" if it.turned_away else "none",
-        "classes": [(ranking.in_words(it, at, flags), shown(found, ("class", code, at), number))
+        "classes": [(criteria.in_words(it, at, flags), shown(found, ("class", code, at), number))
                     for at, number in enumerate(it.offers[at] for at in classes_of(it))],
     }
 
@@ -139,9 +137,9 @@ def chart_of_preferences(found: Figures, last: Figures | None, keys: list[int | 
     text = "; ".join(f"{name_of(key)} {it}" for key, it in zip(keys, words))
     title = "Preferences met, in percent of the children"
     description = f"Bars. {found.year}: {text}. The table above has the numbers."
-    series: list[Series] = [(str(year), them) for year, them in rates.items()]
-    return str(charts.bars("met", title, description, [name_of(it) for it in keys], series,
-                           "percent of the children", WITHHELD))
+    series = [(str(year), them) for year, them in rates.items()]
+    return charts.bars("met", title, description, [name_of(it) for it in keys], series,
+                       "percent of the children", WITHHELD)
 
 
 def chart_of_schools(found: Figures) -> tuple[str, str]:
@@ -152,8 +150,10 @@ def chart_of_schools(found: Figures) -> tuple[str, str]:
     there = sorted(largest, key=lambda it: it.code)
     first = [drawn(found, ("applied", it.code, 1), it.applications[1]) for it in there]
     offers = [drawn(found, ("offers", it.code), it.offers.total()) for it in there]
-    series: list[Series] = [("admission number", [it.pan for it in there]),
-                            ("first preferences", first), ("offers", offers)]
+    series: list[charts.Series] = [
+        ("admission number", [it.pan for it in there]), ("first preferences", first),
+        ("offers", offers),
+    ]
     is_whole = len(there) == len(found.schools)
     which = "of each school" if is_whole else f"of the {MOST_BARS} schools with the most places"
     title = f"Admission number, first preferences and offers {which}"
@@ -180,7 +180,7 @@ def page(found: Figures, last: Figures | None, flags: dict[int, str]) -> str:
                                         LEAST)
     progress.at(3)
     progress.end()
-    return str(pages.render("figures.html", {
+    return pages.render("figures.html", {
         "found": found, "last": last, "day": days.in_words(found.day), "met": met, "rows": rows,
         "least": LEAST, "meaning": MEANING, "side": f"{side:,}",
         "kept": shown(found, ("kept",), found.kept),
@@ -188,7 +188,7 @@ def page(found: Figures, last: Figures | None, flags: dict[int, str]) -> str:
         "compared": [compared(it, then.get(it["code"])) for it in rows] if last else [],
         "schools_title": schools_title,
         "charts": {"met": met_chart, "schools": schools_chart, "map": map_chart},
-    }))
+    })
 
 
 def figures_of(after: model.Register, before: model.Register | None, number: int | None,
@@ -214,7 +214,7 @@ def arguments(reader: argparse.ArgumentParser) -> None:
     reader.add_argument("out", metavar="OUT.html", help="the page, which must be new")
     reader.add_argument("--copy", metavar="COPY", help="the copy from right before the round, if"
                         " anything was changed since")
-    reader.add_argument("--flags", metavar="FILE", help=ranking.FLAGS_HELP)
+    reader.add_argument("--flags", metavar="FILE", help=criteria.FLAGS_HELP)
     reader.add_argument("--before", metavar="LAST_YEAR",
                         help="last year's register, to be compared")
     reader.add_argument("--before-copy", metavar="COPY", help="last year's copy from right before"
@@ -237,7 +237,7 @@ def main(given: argparse.Namespace) -> int:
         raise Refused("--before-copy needs --before", 2)
     if os.path.lexists(given.out):
         raise Refused(f"{given.out} is there already: nothing was written; choose another name")
-    flags, last = ranking.flags_of(given.flags), None
+    flags, last = criteria.flags_of(given.flags), None
     read = model.reader(given.user, given.after, given.copy, given.before, given.before_copy)
 
     def figures(name: str, copy: str | None, number: int | None, option: str) -> Figures:

@@ -44,7 +44,7 @@ import register_files as files
 from register_files import Refused
 
 from . import (
-    charts, commands, days, model, pages, ranking, rules, sheet, texts, trial_effects,
+    charts, commands, criteria, days, model, pages, rules, sheet, texts, trial_effects,
     trial_registers,
 )
 from .model import Pair, Register, School
@@ -54,9 +54,9 @@ Change = tuple[str, int | tuple[str, ...]]
 Cells = list[object]
 
 
-def criteria_of(criteria: tuple[str, ...]) -> str:
+def criteria_of(listed: tuple[str, ...]) -> str:
     """Criteria as an argument has them."""
-    return ";".join(criteria) or "none"
+    return ";".join(listed) or "none"
 
 
 def changed_schools(before: Register,
@@ -128,7 +128,7 @@ class Trial:
 
     def words(self, reg: Register, code: str, number: int) -> str:
         """A class at a school in words."""
-        return str(ranking.in_words(reg.schools[code], number, self.flags))
+        return criteria.in_words(reg.schools[code], number, self.flags)
 
     def last(self, reg: Register, code: str, key: tuple[int, int] | None) -> str:
         """The last child that was offered a place, in words."""
@@ -242,12 +242,12 @@ def pan_change(text: str) -> Change:
 def criteria_change(text: str) -> Change:
     """OAK=sibling;within:800."""
     code, mark, listed = text.partition("=")
-    criteria = tuple(listed.split(";")) if listed else ()
+    found = tuple(listed.split(";")) if listed else ()
     most = rules.LIMITS["criteria"].most
-    if not mark or len(criteria) > most or not all(map(commands.is_criterion, criteria)):
+    if not mark or len(found) > most or not all(map(commands.is_criterion, found)):
         raise argparse.ArgumentTypeError(f"{text} is no school with at most {most} criteria, as"
                                          " 'OAK=sibling;within:800;flag:2;feeder:PRIM7'")
-    return code, criteria
+    return code, found
 
 
 def arguments(reader: argparse.ArgumentParser) -> None:
@@ -264,7 +264,7 @@ def arguments(reader: argparse.ArgumentParser) -> None:
                         help="write the tables and a chart as a page")
     reader.add_argument("--csv", metavar="OUT.csv",
                         help="write a row for each child that would have another school")
-    reader.add_argument("--flags", metavar="FILE", help=ranking.FLAGS_HELP)
+    reader.add_argument("--flags", metavar="FILE", help=criteria.FLAGS_HELP)
     reader.add_argument("--user", metavar="NAME", help=model.USER_HELP)
 
 
@@ -275,7 +275,8 @@ def main(given: argparse.Namespace) -> int:
     for it in (given.html, given.csv):
         if it and os.path.lexists(it):
             raise Refused(f"{it} is there already: nothing was tried; choose another name")
-    flags, read = ranking.flags_of(given.flags), model.reader(given.user, given.before, given.after)
+    flags = criteria.flags_of(given.flags)
+    read = model.reader(given.user, given.before, given.after)
     before, after = read(given.before), read(given.after) if given.after else None
     schools, words = changed_schools(before, given.changes)
     trial = Trial(before, after, schools, flags)

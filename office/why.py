@@ -36,7 +36,7 @@ from collections.abc import Iterator
 
 from register_files import Refused
 
-from . import days, model, ranking, rounds, texts, withheld
+from . import criteria, days, model, rounds, texts, withheld
 from .model import PLAN, Register
 from .rounds import Key, Round
 
@@ -216,11 +216,11 @@ class View:
 
     def words(self, number: int) -> str:
         """A class in words."""
-        return str(ranking.in_words(self.school, number, self.flags))
+        return criteria.in_words(self.school, number, self.flags)
 
     def is_private(self, key: Key) -> bool:
         """Whether the distance of the last child admitted is withheld."""
-        return not self.is_office and bool(ranking.is_private(self.school, key[0]))
+        return not self.is_office and criteria.is_private(self.school, key[0])
 
     def ranked(self, key: Key) -> str:
         """A class and a distance in words."""
@@ -385,13 +385,14 @@ def arguments(reader: argparse.ArgumentParser) -> None:
                         help="the number of the child")
     reader.add_argument("--office", action="store_true",
                         help="print all numbers, for the office alone")
-    reader.add_argument("--flags", metavar="FILE", help=ranking.FLAGS_HELP)
+    reader.add_argument("--flags", metavar="FILE", help=criteria.FLAGS_HELP)
     reader.add_argument("--user", metavar="NAME", help=model.USER_HELP)
 
 
 def main(given: argparse.Namespace) -> int:
     """Explains."""
-    flags, read = ranking.flags_of(given.flags), model.reader(given.user, given.before, given.after)
+    flags = criteria.flags_of(given.flags)
+    read = model.reader(given.user, given.before, given.after)
     before, after = read(given.before), read(given.after)
     found = explain(before, after, given.child)
     for it in lines_of(found, before, after, given.office, flags):

@@ -1,0 +1,79 @@
+"""The classes of a school's criteria in words, with the office's own words for flags."""
+from collections.abc import Mapping
+from typing import Protocol
+
+from register_files import Refused
+
+from . import sheet, texts
+from .rules import LIMITS
+
+# the option by which commands take the office's words for flags
+FLAGS_HELP = "the office's words for flags: lines as 7,social or medical need"
+
+
+class School(Protocol):
+    """What is looked at of a school: its criteria in their order.
+
+    Class 0 is of children who are or were looked after, the classes from 1 on are of the criteria,
+    and the last one is of those who meet none.
+    """
+
+    @property
+    def criteria(self) -> tuple[str, ...]: ...
+
+
+def is_private(school: School, number: int) -> bool:
+    """Whether the distance of a child in a class is not published: it is or was looked after, or
+    has a flag.
+    """
+    if number == 0:
+        return True
+    return number <= len(school.criteria) and school.criteria[number - 1].startswith("flag:")
+
+
+def flags_of(name: str | None) -> dict[int, str]:
+    """The office's words for flags, from a file with lines as `7,social or medical need`; none
+    where no file is named.
+    """
+    found: dict[int, str] = {}
+    for row in sheet.read(name).rows if name else []:
+        number, *words = (it.strip() for it in row.cells)
+        text, where = ", ".join(filter(None, words)), f"{name}, row {row.number}"
+        if not is_flag(number):
+            raise Refused(f"{where}: {texts.shown(number)} is no flag from {LIMITS['flag'].least}"
+                          f" to {LIMITS['flag'].most}; a line is as 7,social or medical need")
+        if int(number) in found:
+            raise Refused(f"{where}: flag {number} is there twice")
+        if not text or texts.CONTROL.search(text):
+            raise Refused(f"{where}: flag {number} has no words that can be printed")
+        found[int(number)] = text
+    return found
+
+
+def is_flag(text: str) -> bool:
+    """Whether a text is the number of a flag, in one or two digits."""
+    is_number = text.isascii() and text.isdigit() and len(text) < 3
+    return is_number and LIMITS["flag"].has(int(text))
+
+
+def in_words(school: School, number: int, flags: Mapping[int, str] | None = None) -> str:
+    """What a class of a school means, for children in it; `flags` are the office's words for flags
+    by their numbers.
+    """
+    if number == 0:
+        return "looked after, or previously looked after"
+    if not school.criteria:
+        return "ranked by distance alone"
+    if number > len(school.criteria):
+        return "meeting no criterion of the school"
+    kind, _, value = school.criteria[number - 1].partition(":")
+    if kind == "sibling":
+        return "with a brother or sister at the school"
+    if kind == "within":
+        return f"living within {int(value):,} metres of the school"
+    if kind == "flag":
+        words = (flags or {}).get(int(value))
+        if words:
+            return f"with a verified priority: {words}"
+        return f"with the priority that the office has verified as flag {value}"
+    return f"from the feeder school {value}"
