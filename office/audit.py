@@ -26,186 +26,278 @@ example:
 exit status: 0 all is right; 1 something is not, one line for each finding; 2
 wrong arguments.
 """
+import argparse
 import collections
 import os
+from collections.abc import Container, Iterator, Mapping, Sequence
 
 import register_files as files
 
-from .audit_rows import OFFERED, PLAN, TABLES, Problem, day_of, days_of, rows_of
+from .audit_rows import (
+    ACCEPTED, OFFERED, PLAN, TABLES, Draw, Offer, Pair, Place, Problem, Row, Rows, day_of, days_of,
+    decided_by, key_in_words, rows_of,
+)
 
-KEY = "class {}, {} metres, lot {}".format
+KINDS = {OFFERED: "is offered", ACCEPTED: "has accepted", PLAN: "has by a plan"}
+LATER = (
+    "If commands followed the draw (answers, amended children, raised numbers), audit with --later,"
+    " or with a copy from right after it"
+)
+# those of which a draw adds rows, and those that it leaves as they are
+GROWING = ("draw", "offer", "lot")
+KEPT = ("school", "child", "application", "left_list", "imported", "present")
+# what rows that do not fit each other lead to
+MISFITS = (KeyError, ValueError, TypeError, IndexError, OverflowError)
+# the lines to print, and whether all is right
+Findings = tuple[list[str], bool]
 
 
-KINDS = {OFFERED: "is offered", 2: "has accepted", PLAN: "has by a plan"}
-LATER = "If commands followed the draw (answers, amended children, raised numbers), audit with --later, or with a copy from right after it"
-
-
-def in_words(table, row):
+def in_words(table: str, row: Row) -> str:
     """A row as it is printed."""
     if table == "place":
-        child, school, kind, day, reminded = row
-        offer = "" if day is None else f", offered {day_of(day)}" + ("" if reminded is None else f", reminded {day_of(reminded)}")
-        return f"child {child} {KINDS.get(kind, f'has by kind {kind}')} {school}{offer}"
-    return ", ".join(f"{name} {'none' if it is None else it}" for name, it in zip(TABLES[table].split(", "), row))
+        return place_in_words(Place(*row))
+    cells = zip(TABLES[table], row)
+    return ", ".join(f"{name} {'none' if it is None else it}" for name, it in cells)
 
 
-def differences(gone, come, old, new, table):
+def place_in_words(it: Place) -> str:
+    """A place as it is printed."""
+    offered = "" if it.day is None else f", offered {day_of(it.day)}"
+    if it.day is not None and it.reminded is not None:
+        offered += f", reminded {day_of(it.reminded)}"
+    return f"child {it.child} {KINDS.get(it.kind, f'has by kind {it.kind}')} {it.school}{offered}"
+
+
+def differences(
+    gone: str, come: str, old: Sequence[Row], new: Sequence[Row], table: str
+) -> list[str]:
     """The rows of each list that the other one lacks, with a text that says which."""
     one, other = (set(), set()) if old == new else (set(old), set(new))
-    return [f"{gone}: {in_words(table, it)}" for it in sorted(one - other, key=repr)] + [f"{come}: {in_words(table, it)}" for it in sorted(other - one, key=repr)]
+    return [
+        *(f"{gone}: {in_words(table, it)}" for it in sorted(one - other, key=repr)),
+        *(f"{come}: {in_words(table, it)}" for it in sorted(other - one, key=repr)),
+    ]
 
 
-def what_else_changed(before, after, later):
+def what_else_changed(before: Rows, after: Rows, later: bool) -> list[str]:
     """The differences between BEFORE and AFTER, except those that a draw makes."""
-    count, wrong = len(before["draw"]), []
-    for table in ["draw", "offer", "lot"] + ([] if later else ["school", "child", "application", "left_list", "imported", "present"]):
-        # (only those draws, outcomes and lots that are from before this draw)
-        new = [it for it in after[table] if it[0] <= count] if table in ("draw", "offer", "lot") else after[table]
-        wrong += differences(f"a row of {table} of BEFORE is not in AFTER", f"a row of {table} of AFTER was not in BEFORE", before[table], new, table)
-    old, new = ([it["meta"][0][:3]] for it in (before, after))
-    wrong += differences("the season of BEFORE is not that of AFTER", "the season of AFTER was not that of BEFORE", old, new, "meta")
-    if after["meta"][0][3] != len(after["draw"]):
-        wrong.append(f"AFTER has {len(after['draw'])} draws, and counts {after['meta'][0][3]}")
-    if not later and len(after["draw"]) > count + 1:
-        wrong.append(f"AFTER has {len(after['draw']) - count} draws more than BEFORE: with --later the first of them is looked at")
+    count, wrong = len(before.draws), []
+    for table in GROWING if later else GROWING + KEPT:
+        gone = f"a row of {table} of BEFORE is not in AFTER"
+        come = f"a row of {table} of AFTER was not in BEFORE"
+        new = after.tables[table]
+        if table in GROWING:
+            # (only those draws, outcomes and lots that are from before this draw)
+            new = [it for it in new if it[0] <= count]
+        wrong += differences(gone, come, before.tables[table], new, table)
+    # (the number of draws grows, and the version of a file may)
+    one, other = ([it.meta[:3]] for it in (before, after))
+    gone = "the season of BEFORE is not that of AFTER"
+    come = "the season of AFTER was not that of BEFORE"
+    wrong += differences(gone, come, one, other, "meta")
+    if after.meta.draws != len(after.draws):
+        wrong.append(f"AFTER has {len(after.draws)} draws, and counts {after.meta.draws}")
+    if not later and len(after.draws) > count + 1:
+        wrong.append(f"AFTER has {len(after.draws) - count} draws more than BEFORE: with --later"
+                     " the first of them is looked at")
     return wrong
 
 
-def errors_of_lots(pairs, lots):
-    """The errors in the lots: there must be one for each pair, in range, and no two at a school equal."""
-    yield from (f"the lot {lot} of child {child} at {code} is out of range" for (code, child), lot in lots.items() if not 0 <= lot < 2**32)
+def errors_of_lots(pairs: set[Pair], lots: Mapping[Pair, int]) -> Iterator[str]:
+    """The errors in the lots: there must be one for each pair, in range, and no two at a school
+    equal.
+    """
+    for (code, child), lot in lots.items():
+        if not 0 <= lot < 2**32:
+            yield f"the lot {lot} of child {child} at {code} is out of range"
     for code, child in sorted(pairs ^ set(lots)):
-        yield f"child {child} wants {code} and has no lot there" if (code, child) in pairs else f"child {child} has a lot at {code}, which it does not want"
+        if (code, child) in pairs:
+            yield f"child {child} wants {code} and has no lot there"
+        else:
+            yield f"child {child} has a lot at {code}, which it does not want"
     equal = collections.Counter((code, lot) for (code, _), lot in lots.items())
-    yield from (f"{times} lots at {code} are {lot}" for (code, lot), times in sorted(equal.items()) if times > 1)
+    for (code, lot), times in sorted(equal.items()):
+        if times > 1:
+            yield f"{times} lots at {code} are {lot}"
 
 
-def error_of_day(before, day):
+def error_of_day(before: Rows, day: int) -> Iterator[str]:
     """What is wrong with the day of a draw, if anything."""
-    _, offer_day, end = days_of(before["meta"][0])
-    if not max([offer_day, *(it[3] for it in before["draw"])]) <= day <= end:
-        yield f"the day {day_of(day)} is before the offer day or an earlier draw, or after the lists have closed"
+    _, offer_day, end = days_of(before.meta)
+    if not max([offer_day, *(it.day for it in before.draws)]) <= day <= end:
+        yield (f"the day {day_of(day)} is before the offer day or an earlier draw, or after the"
+               " lists have closed")
 
 
-def errors_of_places(before, after, new, day, what):
-    """The differences between the places of AFTER, and those of BEFORE with the new ones. `new` has the schools of children, `what` is the draw's kind."""
-    places = [it for it in before["place"] if it[0] not in new] + [(child, school, OFFERED, day, None) for child, school in new.items()]
-    texts = f"by BEFORE and the {what}, and not in AFTER", f"in AFTER, and not by BEFORE and the {what}"
-    return differences(*texts, places, after["place"], "place")
+def errors_of_places(
+    before: Rows, after: Rows, new: Mapping[int, str], day: int, what: str
+) -> list[str]:
+    """The differences between the places of AFTER, and those of BEFORE with the new ones. `new` has
+    the schools of children, `what` is the draw's kind.
+    """
+    places = [it for it in before.places if it.child not in new]
+    places += [Place(child, school, OFFERED, day, None) for child, school in new.items()]
+    gone = f"by BEFORE and the {what}, and not in AFTER"
+    come = f"in AFTER, and not by BEFORE and the {what}"
+    return differences(gone, come, places, after.places, "place")
 
 
-def audit(before, after, later, only):
+def lots_of(after: Rows, number: int) -> dict[Pair, int]:
+    """The lots of a draw."""
+    return {(it.school, it.child): it.lot for it in after.lots if it.draw == number}
+
+
+def audit(before: Rows, after: Rows, later: bool, only: str | None) -> Findings:
     """The lines to print, and whether all is right."""
-    number, drawn = len(before["draw"]) + 1, {it[0]: it for it in after["draw"]}
+    number = len(before.draws) + 1
     wrong = what_else_changed(before, after, later)
-    if len(before["draw"]) > len(after["draw"]):
-        counts = f"BEFORE has {len(before['draw'])} and AFTER {len(after['draw'])}"
-        wrong.insert(0, f"BEFORE has more draws than AFTER ({counts}): give the copy from before the draw first; are the two files exchanged?")
-    if number not in drawn:
-        return wrong + [f"AFTER has no draw {number}: BEFORE has {number - 1}, and AFTER none more"], False
-    _, at, school, day = drawn[number]
-    wrong += error_of_day(before, day)
-    if (at, school) == (1 + sum(1 for it in before["draw"] if it[1]), None):
-        return audit_round(before, after, later, only, wrong)
-    if at == 0 and school is not None:
-        return audit_fill(before, after, later, only, wrong)
+    if len(before.draws) > len(after.draws):
+        counts = f"BEFORE has {len(before.draws)} and AFTER {len(after.draws)}"
+        wrong.insert(0, f"BEFORE has more draws than AFTER ({counts}): give the copy from before"
+                        " the draw first; are the two files exchanged?")
+    draw = next((it for it in after.draws if it.draw == number), None)
+    if draw is None:
+        wrong.append(f"AFTER has no draw {number}: BEFORE has {number - 1}, and AFTER none more")
+        return wrong, False
+    wrong += error_of_day(before, draw.day)
+    rounds = sum(1 for it in before.draws if it.round)
+    if draw.round == rounds + 1 and draw.school is None:
+        return audit_round(before, after, draw, wrong, later, only)
+    if draw.round == 0 and draw.school is not None:
+        return audit_fill(before, after, draw, wrong, later, only)
     return wrong + [f"draw {number} of AFTER is neither the next round nor a fill"], False
 
 
-def audit_round(before, after, later, only, wrong):
+def audit_round(
+    before: Rows, after: Rows, draw: Draw, wrong: list[str], later: bool, only: str | None
+) -> Findings:
     """The same of the next round. `wrong` has what was found before."""
-    this, number = Problem(before), len(before["draw"]) + 1
-    _, at, _, day = next(it for it in after["draw"] if it[0] == number)
-    lots = {(code, child): lot for draw, code, child, lot in after["lot"] if draw == number}
-    outcomes = {child: (school, fresh) for draw, child, school, fresh in after["offer"] if draw == number}
+    this, lots = Problem(before), lots_of(after, draw.draw)
+    outcomes = {it.child: it for it in after.offers if it.draw == draw.draw}
     wrong += errors_of_lots(this.pairs, lots)
-    for it in sorted(set(this.asks) ^ set(outcomes)):
-        wrong.append(f"child {it} takes part, and has no outcome" if it in this.asks else f"child {it} has an outcome, and does not take part")
+    for child in sorted(set(this.asks) ^ set(outcomes)):
+        if child in this.asks:
+            wrong.append(f"child {child} takes part, and has no outcome")
+        else:
+            wrong.append(f"child {child} has an outcome, and does not take part")
     if not this.pairs <= set(lots) or set(this.asks) != set(outcomes):
         return wrong, False
     this.draw(lots)
-    has, best = {child: outcomes[child][0] for child in this.asks}, this.best()
-    fresh = {it for it in has if has[it] is not None and has[it] != this.own.get(it)}
+    has = {child: outcomes[child].school for child in this.asks}
+    new = {child: school for child, school in has.items()
+           if school is not None and school != this.own.get(child)}
     wrong += this.unstable(has)
-    for it in (it for it in has if has[it] != best[it]):
-        wrong.append(f"not best: child {it} has {has[it] or 'none'}, and the best stable allocation gives it {best[it] or 'none'}")
-    for it in (it for it in has if outcomes[it][1] != (it in fresh)):
-        wrong.append(f"the outcome of child {it} is wrongly marked as {'new' if outcomes[it][1] else 'kept'}")
+    wrong += errors_of_outcomes(this, outcomes, new)
     if not later:
-        wrong += errors_of_places(before, after, {it: has[it] for it in fresh}, day, "round")
+        wrong += errors_of_places(before, after, new, draw.day, "round")
     if only not in (None, *this.schools):
         wrong.append(f"there is no school {only}")
-    held = sum(1 for it in has.values() if it is not None)
     if wrong:
         return wrong, False
-    lines = [f"Round {at}, draw {number}, {day_of(day)}: {len(has)} children, {len(this.schools)} schools, {len(lots)} lots"]
-    lines += [f"Offers {len(fresh)}, kept {held - len(fresh)}, unplaced {len(has) - held}", *this.turned_away(has, only)]
-    return [*lines, "The outcomes are stable, and the best for each child of all that are stable"], True
+    held = sum(1 for it in has.values() if it is not None)
+    return [
+        f"Round {draw.round}, draw {draw.draw}, {day_of(draw.day)}: {len(has)} children,"
+        f" {len(this.schools)} schools, {len(lots)} lots",
+        f"Offers {len(new)}, kept {held - len(new)}, unplaced {len(has) - held}",
+        *this.turned_away(has, only),
+        "The outcomes are stable, and the best for each child of all that are stable",
+    ], True
 
 
-def audit_fill(before, after, later, only, wrong):
+def errors_of_outcomes(
+    this: Problem, outcomes: Mapping[int, Offer], new: Container[int]
+) -> Iterator[str]:
+    """The outcomes that are not the best ones, and those that are wrongly marked as new or not."""
+    best = this.best()
+    for child in this.asks:
+        has = outcomes[child].school
+        if has != best[child]:
+            yield (f"not best: child {child} has {has or 'none'}, and the best stable allocation"
+                   f" gives it {best[child] or 'none'}")
+    for child in this.asks:
+        is_new = outcomes[child].fresh
+        if is_new != (child in new):
+            how = "new" if is_new else "kept"
+            yield f"the outcome of child {child} is wrongly marked as {how}"
+
+
+def audit_fill(
+    before: Rows, after: Rows, draw: Draw, wrong: list[str], later: bool, only: str | None
+) -> Findings:
     """The same of a fill: whether there was a vacancy, and who was first for it."""
-    this, number = Problem(before), len(before["draw"]) + 1
-    _, _, school, day = next(it for it in after["draw"] if it[0] == number)
-    if school not in this.schools:
-        return wrong + [f"draw {number} of AFTER is a fill at {school}, which is no school of BEFORE"], False
+    this, number, school = Problem(before), draw.draw, draw.school
+    if school is None or school not in this.schools:
+        wrong.append(f"draw {number} of AFTER is a fill at {school}, which is no school of BEFORE")
+        return wrong, False
     if only not in (None, school):
         wrong.append(f"draw {number} is a fill at {school}, and not at {only}")
-    if not before["draw"]:
+    if not before.draws:
         wrong.append("there was no round before the fill, so nobody waited")
-    pan, held = this.schools[school][2], sum(1 for it in before["place"] if it[1] == school)
+    pan, held = this.schools[school].pan, sum(1 for it in before.places if it.school == school)
     vacant, waiting = max(0, pan - held), this.waiting(school)
     if not vacant:
         wrong.append(f"school {school} had no vacancy: {held} children had its {pan} places")
-    lots = {(code, child): lot for draw, code, child, lot in after["lot"] if draw == number}
-    outcomes = [it[1:] for it in after["offer"] if it[0] == number]
-    pairs = {(school, it) for it in waiting}
+    lots, pairs = lots_of(after, number), {(school, it) for it in waiting}
     wrong += errors_of_lots(pairs, lots)
+    if not waiting:
+        wrong.append(f"nobody waited at {school}")
     if not waiting or not pairs <= set(lots):
-        return wrong if waiting else wrong + [f"nobody waited at {school}"], False
+        return wrong, False
     keys = {it: (*this.standing(school, it), lots[school, it]) for it in waiting}
     first, *others = sorted(waiting, key=keys.__getitem__)
-    if outcomes != [(first, school, 1)]:
-        has = ", ".join(f"child {child} {code or 'none'}{'' if fresh else ', marked as kept'}" for child, code, fresh in outcomes) or "nobody"
+    outcomes = [it for it in after.offers if it.draw == number]
+    if outcomes != [Offer(number, first, school, 1)]:
+        has = ", ".join(map(outcome_in_words, outcomes)) or "nobody"
         wrong.append(f"not the first: child {first} is, and {has} has the place")
     if not later:
-        wrong += errors_of_places(before, after, {first: school}, day, "fill")
+        wrong += errors_of_places(before, after, {first: school}, draw.day, "fill")
     if wrong:
         return wrong, False
-    lines = [f"Fill of {school}, draw {number}, {day_of(day)}: places {pan}, held {held}, vacancies {vacant}, waiting {len(waiting)}"]
-    lines.append(f"Offered to child {first}, {KEY(*keys[first])}")
-    for child in others:
-        by = next((name for name, one, other in zip(("class", "distance", "lot"), keys[child], keys[first]) if one != other), "nothing")
-        lines.append(f"  after it child {child}, {KEY(*keys[child])}: by {by}")
-    return [*lines, "The child is the first by class, distance and lot of all who waited there, and there was a vacancy"], True
+    return [
+        f"Fill of {school}, draw {number}, {day_of(draw.day)}: places {pan}, held {held},"
+        f" vacancies {vacant}, waiting {len(waiting)}",
+        f"Offered to child {first}, {key_in_words(keys[first])}",
+        *(f"  after it child {it}, {key_in_words(keys[it])}:"
+          f" by {decided_by(keys[it], keys[first]) or 'nothing'}" for it in others),
+        "The child is the first by class, distance and lot of all who waited there, and there was a"
+        " vacancy",
+    ], True
 
 
-def audit_is_later(before, after):
+def outcome_in_words(it: Offer) -> str:
+    """The outcome of a fill as it is printed."""
+    return f"child {it.child} {it.school or 'none'}{'' if it.fresh else ', marked as kept'}"
+
+
+def audit_is_later(before: Rows, after: Rows) -> bool:
     """Whether the same audit with --later finds nothing wrong."""
     try:
         return audit(before, after, True, None)[1]
-    except (KeyError, ValueError, TypeError, IndexError, OverflowError):
+    except MISFITS:
         return False
 
 
-def arguments(reader):
+def arguments(reader: argparse.ArgumentParser) -> None:
     """The arguments of the command."""
-    reader.add_argument("before", metavar="BEFORE", help="a copy of the register from before the round or the fill")
+    reader.add_argument("before", metavar="BEFORE",
+                        help="a copy of the register from before the round or the fill")
     reader.add_argument("after", metavar="AFTER", help="the register, or a copy, from after it")
     reader.add_argument("--later", action="store_true", help="commands may have followed")
     reader.add_argument("--school", metavar="CODE", help="report only whom this school turned away")
 
 
-def main(given):
+def main(given: argparse.Namespace) -> int:
     """Audits."""
     before, after = rows_of(given.before), rows_of(given.after)
     for it in (given.before, given.after):
         files.warn("audit", it, os.stat(it))
     try:
-        lines, right = audit(before, after, given.later, given.school)
-    except (KeyError, ValueError, TypeError, IndexError, OverflowError) as error:
-        lines, right = [f"the rows of a file do not fit each other, so one of them is no register: {error!r}"], False
-    if not right and not given.later and before["draw"] != after["draw"] and audit_is_later(before, after):
+        lines, is_right = audit(before, after, given.later, given.school)
+    except MISFITS as error:
+        is_right, lines = False, ["the rows of a file do not fit each other, so one of them is no"
+                                  f" register: {error!r}"]
+    has_draw = before.draws != after.draws
+    if not is_right and not given.later and has_draw and audit_is_later(before, after):
         lines = [*lines, LATER]
     print("\n".join(lines))
-    return 0 if right else 1
+    return 0 if is_right else 1
