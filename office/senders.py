@@ -15,13 +15,15 @@ import urllib.parse
 import warnings
 from collections.abc import Callable
 
-from register_files import Refused
-
 from . import commands
+from .run import Refused
 
 ANSWER_SECONDS = 120
 # which a browser leaves out of an origin
 PORTS = {"http": ":80", "https": ":443"}
+# the answers that are those of a desk, and not of a site before it
+STATUSES = (200, 400, 409, 503)
+ANSWERS = {"done", "refused", "fault", "memory", "failed"}
 ENDS = {
     signal.SIGKILL: "it was killed, often because memory ran out",
     signal.SIGXFSZ: "a file may not become larger (ulimit -f)",
@@ -87,8 +89,10 @@ class Do:
         self.rest = self.output.read()
         status = self.run.wait()
         self.errors.seek(0)
-        said = ", ".join(it for it in os.fsdecode(self.errors.read()).split("\n") if it)
-        return said or ending(status) if status in (1, 2) or status < 0 else ""
+        if status not in (1, 2) and status >= 0:
+            return ""
+        lines = os.fsdecode(self.errors.read()).split("\n")
+        return ", ".join(filter(None, lines)) or ending(status)
 
 
 def is_address(name: str) -> bool:
@@ -132,16 +136,16 @@ def refusal(status: int, said: dict[str, object]) -> tuple[str, bool]:
 
 def address_of(url: str) -> urllib.parse.SplitResult:
     """The parts of an address that requests can be sent to."""
-    refused = Refused(f"{url} is no address as http://127.0.0.1:8080 or"
-                      " https://admissions.example", 2)
+    refused = Refused(
+        f"{url} is no address as http://127.0.0.1:8080 or https://admissions.example", 2)
     if not re.fullmatch("[!-~]+", url):
         raise refused
     try:
         parts = urllib.parse.urlsplit(url)
-        is_named = parts.hostname and parts.port != 0 and "@" not in parts.netloc
+        has_place = parts.scheme in PORTS and parts.hostname and parts.port != 0
     except ValueError as error:
         raise refused from error
-    if parts.scheme not in PORTS or not is_named:
+    if not has_place or "@" in parts.netloc:
         raise refused
     return parts
 
@@ -154,25 +158,23 @@ class Http:
 
     rest = b""
 
-    def __init__(self, url: str, user: str | None = None,
-                 password: Callable[[], str] = str) -> None:
+    def __init__(self, url: str, user: str | None = None, asked: Callable[[], str] = str) -> None:
         """The password is asked for once it is sure that it can be sent."""
         parts = address_of(url)
         self.url = url
         self.host, self.port = parts.hostname or "", parts.port or int(PORTS[parts.scheme][1:])
-        is_safe = parts.scheme == "https"
-        if user and not is_safe and not is_this_machine(self.host):
+        if user and parts.scheme == "http" and not is_this_machine(self.host):
             raise Refused(f"{url} would carry the password of {user} over the network for all to"
                           " read: the address of a site begins with https://", 2)
-        self.kind = http.client.HTTPSConnection if is_safe else http.client.HTTPConnection
-        self.base = parts.path.rstrip("/")
+        secure, plain = http.client.HTTPSConnection, http.client.HTTPConnection
+        self.kind, self.base = secure if parts.scheme == "https" else plain, parts.path.rstrip("/")
         # A site takes a POST from its own pages alone: what a browser says of them, in the form
         # that it has there
         place = parts.netloc.lower().removesuffix(PORTS[parts.scheme])
         self.headers = {"Content-Type": "application/json", "Origin": f"{parts.scheme}://{place}"}
         if user:
-            pair = base64.b64encode(f"{user}:{password()}".encode()).decode()
-            self.headers["Authorization"] = f"Basic {pair}"
+            signed = base64.b64encode(f"{user}:{asked()}".encode()).decode()
+            self.headers["Authorization"] = f"Basic {signed}"
 
     def ask(self, method: str, path: str, body: bytes | None = None) -> tuple[int, bytes]:
         """The status and the body of a response."""
@@ -184,8 +186,8 @@ class Http:
                         f" {error.verify_message}", False) from error
         except (OSError, UnicodeError) as error:
             # (a host of a label that is too long for a name is a UnicodeError)
-            why = getattr(error, "strerror", None) or error
-            raise Ended(f"no connection: {why}", False) from error
+            said = getattr(error, "strerror", None) or error
+            raise Ended(f"no connection: {said}", False) from error
         try:
             conn.request(method, self.base + path, body, self.headers)
             response = conn.getresponse()
@@ -201,8 +203,7 @@ class Http:
         answer = body.rstrip(b"\n")
         value = commands.read(answer)
         said = value if isinstance(value, dict) else {}
-        is_desk = {"done", "refused", "fault", "memory", "failed"} & set(said)
-        if status in (200, 400, 409, 503) and is_desk:
+        if status in STATUSES and ANSWERS & set(said):
             return answer
         raise Ended(*refusal(status, said))
 
