@@ -3,7 +3,7 @@ import statistics
 from collections.abc import Iterable, Iterator, Mapping, Sequence
 from typing import Protocol, TypeVar
 
-from . import days, texts
+from . import days, fields, persons, texts
 from .model import Child, Register
 
 NEAR_METRES, FAR_METRES, FAR_DAYS = 200, 50_000, 370
@@ -138,26 +138,12 @@ def is_far(home: Home, register: Register) -> bool:
     return bool(far) and min(far) > FAR_METRES
 
 
-def values_of(register: Register, number: int) -> dict[str, str]:
-    """What a register has of a child, in the columns of a row. A child without an application has
-    no day and no preferences.
-    """
-    child, application = register.children[number], register.applications.get(number)
-    applied = {"day": application.day.isoformat(),
-               "preferences": ";".join(application.preferences)} if application else {}
-    return {
-        "name": child.name, "east": str(child.east), "north": str(child.north),
-        "looked_after": "yes" if child.looked_after else "no",
-        "flags": ";".join(map(str, child.flags)), "siblings": ";".join(child.siblings),
-        **applied, "present": child.present,
-    }
-
-
 def differing(row: Person, register: Register) -> list[tuple[str, str]]:
     """The columns in which a row differs from what the register has of its child, each with what
     that is.
     """
-    had = values_of(register, int(row.fields["child"]))
-    has = {**row.fields, "present": row.fields.get("present", "")}
+    number = int(row.fields["child"])
+    had = persons.cells_of(register.children[number], register.applications.get(number))
+    has = fields.OMITTED | row.fields
     has["flags"] = ";".join(sorted(set(has["flags"].split(";")), key=lambda it: int(it or 0)))
     return [(column, value) for column, value in had.items() if has[column] != value]

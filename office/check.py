@@ -217,7 +217,7 @@ class Known:
 
 def values_of(row: Row) -> list[str]:
     """A row as import takes it."""
-    return [row.fields.get(it, "") for it in fields.COLUMNS]
+    return [row.fields.get(it, fields.OMITTED.get(it, "")) for it in fields.COLUMNS]
 
 
 class Check:
@@ -297,7 +297,7 @@ class Check:
         if len(cells) != self.width:
             self.wrong_width(row.number, cells)
             return
-        found = Row(row.number, {}, dict.fromkeys(fields.COLUMNS[:-1], ""))
+        found = Row(row.number, {}, dict.fromkeys(fields.REQUIRED, ""))
         for column in fields.COLUMNS:
             if column in self.columns:
                 self.read_field(found, column, cells[self.columns[column]])
@@ -305,7 +305,7 @@ class Check:
 
     def read_field(self, row: Row, column: str, given: str) -> None:
         """Reads one field of a row."""
-        field = fields.READERS[column](given, self.context)
+        field = fields.read(column, given, self.context)
         row.given[column], row.fields[column] = given, field.text
         if field.expected:
             if (row.number, column) not in self.broken:
@@ -390,7 +390,7 @@ class Check:
         """The rows of children that the register has, of those in which nothing is wrong so far:
         another must be corrected first.
         """
-        if not set(fields.COLUMNS[:-1]) <= set(self.columns):
+        if not set(fields.REQUIRED) <= set(self.columns):
             return
         wrong = {it.row for it in self.findings if it.kind == ERROR}
         for row in self.rows:

@@ -9,6 +9,11 @@ from . import days, rules, texts
 from .rules import LIMITS, Limit
 
 COLUMNS = tuple(rules.COLUMNS)
+# those without which a file of applications is not read, and what each of the others is read as
+# where it is not there
+REQUIRED = tuple(name for name, it in rules.COLUMNS.items() if not it.is_optional)
+OMITTED = {it: "no" if rules.COLUMNS[it].kind == "truth" else "" for it in COLUMNS
+           if it not in REQUIRED}
 # a number as a spreadsheet writes it is far shorter
 MOST_DIGITS = 40
 INVISIBLE = "\u200b\u2060\ufeff"
@@ -219,8 +224,29 @@ def day(text: str, context: Context) -> Field:
     return Field("", form)
 
 
-READERS: dict[str, Callable[[str, Context], Field]] = {
+def any_number(text: str, _: object) -> Field:
+    """A number of which no limit is known."""
+    return number(text, LIMITS["number"], "a number")
+
+
+def any_text(text: str, _: object) -> Field:
+    """A text of which nothing is known."""
+    return Field(trimmed(text))
+
+
+Reader = Callable[[str, Context], Field]
+READERS: dict[str, Reader] = {
     "child": child, "name": name, "east": coordinate, "north": north, "looked_after": truth,
     "flags": flags, "siblings": siblings, "day": day, "preferences": preferences,
     "present": present,
 }
+# of a column that has no reader of its own
+READERS_BY_KIND: dict[str, Reader] = {
+    "truth": truth, "number": any_number, "code_or_none": present, "day": day,
+}
+
+
+def read(column: str, text: str, context: Context) -> Field:
+    """The field of a column."""
+    by_kind = READERS_BY_KIND.get(rules.COLUMNS[column].kind, any_text)
+    return READERS.get(column, by_kind)(text, context)

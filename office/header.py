@@ -70,7 +70,7 @@ def read(row: Row, add: Adds) -> Header:
                 add(row.number, name, cell, "", "fixed", name)
         elif name:
             unknown.append(cell)
-    missing = [it for it in fields.COLUMNS[:-1] if it not in columns]
+    missing = [it for it in fields.REQUIRED if it not in columns]
     near = {
         it: next((cell for cell in unknown if is_near(plain(cell), it)), None) for it in missing
     }

@@ -23,6 +23,7 @@ from . import inputs, senders
 PRIMARY, SECONDARY = "primary", "secondary"
 OFFERED, ACCEPTED, PLAN = "offered", "accepted", "plan"
 # what became of a preference: the place is there; the child left it; no round yet; below; it waits
+NO_DATA = ("application", "left", "place")
 HELD, LEFT, BEFORE, BELOW, WAITS = "place", "left", "before", "below", "waits"
 # for the name of a register among the arguments of a command
 ADDRESS_HELP = ", or the address at which it is served"
@@ -52,7 +53,7 @@ class School:
 @dataclasses.dataclass(frozen=True)
 class Child:
     """A child: its home in metres, its flags as numbers, the codes of its siblings' schools, and
-    its present school or "".
+    its present school or ""; and all its data by the names of the fields of commands.
     """
 
     number: int
@@ -63,6 +64,7 @@ class Child:
     flags: tuple[int, ...]
     siblings: tuple[str, ...]
     present: str
+    data: dict[str, Any] = dataclasses.field(repr=False)
 
 
 @dataclasses.dataclass(frozen=True)
@@ -425,10 +427,11 @@ def school_of(found: dict[str, Any]) -> School:
 
 
 def child_of(found: dict[str, Any]) -> Child:
-    """A child of a document."""
+    """A child of a document, with each field of its data, also one that is not named here."""
+    data = {name: it for name, it in found.items() if name not in NO_DATA}
     return Child(found["child"], found["name"], found["east"], found["north"],
                  found["looked_after"], tuple(found["flags"]), tuple(found["siblings"]),
-                 found["present"])
+                 found["present"], data)
 
 
 def application_of(found: dict[str, Any]) -> Application:

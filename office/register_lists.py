@@ -8,9 +8,9 @@ import json
 
 from register_files import Refused
 
-from . import texts
+from . import persons, texts
 from .model import (
-    ACCEPTED, BEFORE, BELOW, HELD, LEFT, OFFERED, PLAN, WAITS, Application, Child, Place, Register,
+    ACCEPTED, BEFORE, BELOW, HELD, LEFT, OFFERED, PLAN, WAITS, Application, Place, Register,
 )
 
 Cell = str | int | None
@@ -98,14 +98,8 @@ def is_near(word: str, others: list[str]) -> bool:
 
 def amend(register: Register, number: int) -> str:
     """The line that amends a child with the data that the register has, to be edited."""
-    line = {"cmd": "amend", "child": number, **data_of(register.children[number])}
+    line = persons.command_of("amend", register.children[number])
     return json.dumps(line, ensure_ascii=False, separators=(",", ":")) + "\n"
-
-
-def data_of(it: Child) -> dict[str, object]:
-    """The data of a child, as commands have them."""
-    return {"name": it.name, "east": it.east, "north": it.north, "looked_after": it.looked_after,
-            "flags": it.flags, "siblings": it.siblings, "present": it.present}
 
 
 def unplaced(register: Register) -> Rows:

@@ -10,11 +10,9 @@ from typing import Any
 
 from register_files import Refused
 
-from . import model, sheet
-from .model import PLAN, Application, Child, Pair, Register, School
+from . import fields, model, persons, sheet
+from .model import PLAN, Pair, Register, School
 
-HEADER = ("child", "name", "east", "north", "looked_after", "flags", "siblings", "day",
-          "preferences", "present")
 SEED = "trial"
 Command = dict[str, Any]
 
@@ -39,42 +37,23 @@ def sent(program: str, path: str, commands: Iterable[Command]) -> None:
     ran(program, "do", path, given=lines.encode())
 
 
-def person(child: Child) -> Command:
-    """The data of a child, as a command has them."""
-    return {
-        "child": child.number, "name": child.name, "east": child.east, "north": child.north,
-        "looked_after": child.looked_after, "flags": list(child.flags),
-        "siblings": list(child.siblings), "present": child.present,
-    }
-
-
 def school(it: School) -> Command:
     """The command of a school."""
     return {"cmd": "add_school", "school": it.code, "name": it.name, "pan": it.pan, "east": it.east,
             "north": it.north, "criteria": list(it.criteria)}
 
 
-def joined(items: Iterable[object]) -> str:
-    """A list as a field of the file that is imported."""
-    return ";".join(map(str, items))
-
-
-def row_of(child: Child, application: Application) -> list[object]:
-    """A row of the file that is imported."""
-    return [child.number, child.name, child.east, child.north,
-            "yes" if child.looked_after else "no", joined(child.flags), joined(child.siblings),
-            application.day, joined(application.preferences), child.present]
-
-
 def make_first(program: str, path: str, before: Register, schools: dict[str, School]) -> None:
     """A register with the data of one that had no round yet, and these schools."""
     ran(program, "init", path, before.phase, before.year, *before.holidays)
     sent(program, path, map(school, schools.values()))
-    rows = [row_of(before.children[it], found) for it, found in before.applications.items()]
+    cells = [persons.cells_of(before.children[it], found)
+             for it, found in before.applications.items()]
+    rows = [[it[column] for column in fields.COLUMNS] for it in cells]
     with open(path + ".csv", "xb") as file:
-        file.write(sheet.csv_bytes([HEADER, *rows]))
+        file.write(sheet.csv_bytes([fields.COLUMNS, *rows]))
     ran(program, "import", path, path + ".csv")
-    others = [{"cmd": "add_child", **person(it)} for it in before.children.values()
+    others = [persons.command_of("add_child", it) for it in before.children.values()
               if it.number not in before.applications]
     plans = [{"cmd": "name_plan", "child": child, "school": it.school}
              for child, it in before.places.items() if it.kind == PLAN]

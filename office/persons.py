@@ -1,0 +1,32 @@
+"""Children as commands and files of applications have them: with each field that the rules list, so
+that a field which is new in the program is repeated and compared like the others.
+"""
+from typing import Any
+
+from . import rules
+from .fields import COLUMNS
+from .model import Application, Child
+
+
+def command_of(name: str, child: Child) -> dict[str, Any]:
+    """The command of this name with the data of a child: one that adds or amends it."""
+    return {"cmd": name, **{it: child.data[it] for it in rules.COMMANDS[name]}}
+
+
+def cells_of(child: Child, application: Application | None) -> dict[str, str]:
+    """What a child has in each column of a file of applications. Without an application it has no
+    day and no preferences.
+    """
+    values = dict(child.data)
+    if application:
+        values |= {"day": application.day.isoformat(), "preferences": application.preferences}
+    return {it: cell_of(values[it]) for it in COLUMNS if it in values}
+
+
+def cell_of(value: Any) -> str:
+    """A value as a cell has it."""
+    if isinstance(value, bool):
+        return "yes" if value else "no"
+    if isinstance(value, (list, tuple)):
+        return ";".join(map(str, value))
+    return str(value)
