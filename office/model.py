@@ -23,8 +23,9 @@ from . import inputs, senders
 PRIMARY, SECONDARY = "primary", "secondary"
 OFFERED, ACCEPTED, PLAN = "offered", "accepted", "plan"
 # what became of a preference: the place is there; the child left it; no round yet; below; it waits
-NO_DATA = ("application", "left", "place")
 HELD, LEFT, BEFORE, BELOW, WAITS = "place", "left", "before", "below", "waits"
+# the members of a child that are not fields of commands
+NO_DATA = ("application", "left", "place")
 # for the name of a register among the arguments of a command
 ADDRESS_HELP = ", or the address at which it is served"
 USER_HELP = "sign in with this name where a register is served; the password is asked for"
