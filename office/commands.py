@@ -7,8 +7,14 @@ from typing import Any
 
 from . import days, rules, texts
 
-PLAIN = re.compile("0|[1-9][0-9]*", re.ASCII)
-MOST_PAN = rules.LIMITS["pan"].most
+# what may follow the prefix of a criterion
+VALUES = {
+    "number": f"(?:0|[1-9][0-9]{{0,{len(str(rules.LIMITS['number'].most)) - 1}}})",
+    "code": rules.CODE.pattern,
+}
+CRITERION = re.compile(
+    "|".join(re.escape(it.text) + (VALUES[it.value] if it.value else "") for it in rules.CRITERIA)
+)
 
 
 def is_number(value: object) -> bool:
@@ -16,27 +22,15 @@ def is_number(value: object) -> bool:
     return type(value) is int and rules.LIMITS["number"].has(value)
 
 
-def is_plain(text: str) -> bool:
-    """Whether a text is such a number, as a criterion has it."""
-    # (the length first: a number of very many digits is none for Python either)
-    is_short = len(text) <= len(str(rules.LIMITS["number"].most))
-    return is_short and bool(PLAIN.fullmatch(text)) and is_number(int(text))
-
-
 def is_criterion(value: object) -> bool:
     """Whether a value is one of the forms of criteria."""
-    if not isinstance(value, str):
+    if not isinstance(value, str) or not CRITERION.fullmatch(value):
         return False
-    return any(
-        value == form.text
-        if form.value is None
-        else value.startswith(form.text) and AFTER[form.value](value.removeprefix(form.text))
-        for form in rules.CRITERIA
-    )
+    prefixes = [it.text for it in rules.CRITERIA if it.value == "number"]
+    return all(is_number(int(value.removeprefix(it))) for it in prefixes if value.startswith(it))
 
 
-# what follows the prefix of a criterion, and each kind of field that is no list
-AFTER: dict[str, Callable[[str], bool]] = {"number": is_plain, "code": rules.is_code}
+# each kind of field that is no list
 KINDS: dict[str, Callable[[Any], bool]] = {
     "child": lambda it: is_number(it) and rules.LIMITS["child"].has(it),
     "code": rules.is_code,

@@ -1,5 +1,6 @@
-"""The files that follow from the rules of the source: office/rules.json, tables of docs/ERRORS.md.
+"""The files that follow from the rules of the source, and from the words for them.
 
+They are office/rules.json, the module of the page that has both, and tables of docs/ERRORS.md.
 office/words.json, which is written by hand, has words for each refusal, error and kind of field,
 and for no other.
 """
@@ -14,6 +15,11 @@ from typing import Any
 import source_rules
 
 RULES, WORDS, PAGE = Path("office/rules.json"), Path("office/words.json"), Path("docs/ERRORS.md")
+MODULE = Path("deploy/site/rules.js")
+MODULE_HEAD = (
+    "// The rules of the program and the words for them: office/rules.json and office/words.json.\n"
+    "// tools/reference --update writes this file.\n"
+)
 # the groups of words, and how the table of each begins
 TITLES = {
     "refusals": "| Refusal | Meaning | What to do |",
@@ -92,30 +98,42 @@ def with_tables(text: str, made: dict[str, list[str]]) -> str:
     return text
 
 
+def module_of(document: dict[str, Any], words: str) -> str:
+    """The text of the module of the page."""
+    rules = source_rules.text_of(document).rstrip()
+    return f"{MODULE_HEAD}export const rules = {rules};\n\nexport const words = {words.rstrip()};\n"
+
+
+def text_in(path: Path) -> str:
+    """What a file has, or nothing where it is not there."""
+    return path.read_text(encoding="utf-8") if path.exists() else ""
+
+
 def failures(texts: dict[tuple[str, str, str], str]) -> Iterator[str]:
     """What is wrong with the files; and an empty text for each of them that is as it must be."""
+    advice = "tools/reference --update writes it anew"
     try:
         document = source_rules.Rules(texts).document()
-        made = RULES.read_text(encoding="utf-8") if RULES.exists() else ""
-        wrong = [] if made == source_rules.text_of(document) else [
-            f"{RULES} is not what tools/reference --rules prints: tools/reference --update"]
+        is_same = text_in(RULES) == source_rules.text_of(document)
+        yield "" if is_same else f"{RULES} is not what tools/reference --rules prints: {advice}"
+        words = text_in(WORDS)
+        wrong = list(wrong_words(document, json.loads(words)))
         yield from wrong or [""]
-        found = list(wrong_words(document, json.loads(WORDS.read_text(encoding="utf-8"))))
-        yield from found or [""]
-        if not wrong and not found:
-            text = PAGE.read_text(encoding="utf-8")
-            same = with_tables(text, tables(document)) == text
-            wrong = [] if same else [f"{PAGE} has other tables: tools/reference --update"]
-            yield from wrong or [""]
+        has_module = text_in(MODULE) == module_of(document, words)
+        yield "" if has_module else f"{MODULE} has other rules or words: {advice}"
+        if is_same and not wrong:
+            text = text_in(PAGE)
+            has_tables = with_tables(text, tables(document)) == text
+            yield "" if has_tables else f"{PAGE} has other tables than these words: {advice}"
     except (source_rules.FormError, ValueError) as error:
         yield str(error)
 
 
 def update(texts: dict[tuple[str, str, str], str]) -> None:
     """Writes the files anew."""
-    document = source_rules.Rules(texts).document()
+    document, words = source_rules.Rules(texts).document(), text_in(WORDS)
     RULES.write_text(source_rules.text_of(document), encoding="utf-8")
-    if wrong := list(wrong_words(document, json.loads(WORDS.read_text(encoding="utf-8")))):
+    if wrong := list(wrong_words(document, json.loads(words))):
         raise source_rules.FormError("\n".join(wrong))
-    text = with_tables(PAGE.read_text(encoding="utf-8"), tables(document))
-    PAGE.write_text(text, encoding="utf-8")
+    MODULE.write_text(module_of(document, words), encoding="utf-8")
+    PAGE.write_text(with_tables(text_in(PAGE), tables(document)), encoding="utf-8")

@@ -46,13 +46,21 @@ def unfold(page: Any, form: str) -> None:
     page.value(f"document.getElementById('{form}').closest('details').open = true")
 
 
+def more_schools(page: Any) -> None:
+    """Has the page know the schools S1 to S9, until it reads the register again."""
+    page.value("import('/register.js').then(it => { for (let at = 1; at < 10; at++)"
+               " it.register.schools.set(`S${at}`, { school: `S${at}`, name: '' }); })")
+
+
 def keeps(page: Any, see: Any, button: str, name: str, inside: str, outside: str) -> None:
     """A value at its limit is asked about. One beyond it is not sent, and its field is marked until
     it is mended."""
+    more_schools(page)
     write(page, **{name: inside})
     asked = press(page, button)
     press_no(page)
     see(f"{name} may be {inside[:20]}", (asked, marks(page, name)), ("", [UNMARKED]))
+    more_schools(page)
     write(page, **{name: outside})
     said = press(page, button)
     [[is_marked, text, count]] = marks(page, name)
@@ -67,8 +75,6 @@ def limits(page: Any, see: Any) -> None:
     """The limits of the data of a child, at a correction."""
     visit(page, "#child/8/amend")
     before, button = page.value(FIELDS), "#amend-form button"
-    page.value("import('/register.js').then(it => { for (let at = 1; at < 10; at++)"
-               " it.register.schools.set(`S${at}`, { school: `S${at}`, name: '' }); })")
     siblings = [f"S{at}" for at in range(1, 10)]
     most = {name: limit.most for name, limit in LIMITS.items()}
     accents = "é" * (most["name"] // 2)
@@ -109,23 +115,7 @@ def several(page: Any, see: Any, button: str, before: dict[str, str]) -> None:
         ([UNMARKED], ""))
 
 
-def broken(page: Any, see: Any) -> None:
-    """A page that has not all of its files."""
-    answer = "document.getElementById('answer')"
-    page.rule = lambda method, path: "broken" if path == "/words.json" else None
-    page.open("/?broken")
-    page.wait(f"{answer} && {answer}.textContent")
-    see("a page without the words says that it is not whole", page.value(f"{answer}.textContent"),
-        "The page could not be loaded whole. Reload it; if this stays, inform whoever runs the"
-        " desk.")
-    page.rule = None
-    page.errors.clear()
-
-
 def corrections(world, page, see):
-    see("the rules and their words are for the office alone",
-        [[world.ask(f"/{name}.json", who).status for who in (None, "alpha", "jane")]
-         for name in ("rules", "words")], [[401, 403, 200]] * 2)
     limits(page, see)
     visit(page, "#child/8/amend")
     see("a correction begins with every present value", page.value(FIELDS),
@@ -179,7 +169,6 @@ def corrections(world, page, see):
         {"cmd": "amend", "child": 9, "name": "Child of 9", "east": 0, "north": 901, "looked_after": False,
         "flags": [], "siblings": ["A"], "present": "", "boarder": True})
     page.rule = None
-    broken(page, see)
     opened(page, "/?again")
 
 

@@ -1,5 +1,6 @@
 // Requests to the desk, and its answers in plain English.
-import { inWords, meaningOf, rules } from "./rules.js";
+import { inWords, meaningOf } from "./refusals.js";
+import { rules } from "./rules.js";
 
 const byName = (group, text) => Object.fromEntries(Object.keys(rules[group]).map((name) => [name, text(group, name)]));
 

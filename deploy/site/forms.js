@@ -2,10 +2,10 @@
 import { Shown } from "./desk.js";
 import { KEPT, draftOf, keepFor } from "./drafts.js";
 import { at, dayField, dayInput, element, field, report, say } from "./elements.js";
+import { isCode, isDay, isWithin, limits, shown as limit, span } from "./limits.js";
 import { details, plain } from "./matching.js";
-import { child, isRead as hasIndex, nextNumber, register, school, update } from "./register.js";
+import { child, isRead, nextNumber, register, school, update } from "./register.js";
 import { again, go } from "./router.js";
-import { isCode, isDay, isWithin, limits, shown as limit, span } from "./rules.js";
 import { isSure, send } from "./sending.js";
 import { day, isolated, readDay, today } from "./words.js";
 
@@ -205,7 +205,7 @@ const late = (it) => (register.season && it.day > register.season.closing_day
 
 // An application of a child that has none
 export function applyForm(of, act) {
-  if (!hasIndex) return null;
+  if (!isRead) return null;
   const submit = async (application, forget) => {
     const question = `Record for child ${of}: ${inWords(application)}?${late(application)} An application cannot be changed.`;
     if (!await isSure(question, "Yes, record it", inOrder(application))) return;
@@ -217,7 +217,7 @@ export function applyForm(of, act) {
 
 // #add: a new child, and its application
 export function addView() {
-  if (!hasIndex) throw new Shown("The index of the register is missing: a new child cannot be compared with the others. Inform whoever runs the desk.");
+  if (!isRead) throw new Shown("The register could not be read, so a new child cannot be compared with the others. Try again.");
   const next = nextNumber();
   const blank = { name: "", east: "", north: "", looked_after: false, flags: [], siblings: [], present: "" };
   const read = (wrong) => {
@@ -254,7 +254,7 @@ async function add(data, application, forget) {
 
 // A plan that names a school
 export function planForm({ number: of, name }, act) {
-  if (!hasIndex) return null;
+  if (!isRead) return null;
   const select = schoolSelect("plan", "", "choose a school");
   const read = (wrong) => {
     if (!select.value) wrong.add("plan", "Choose the school that the plan names.");

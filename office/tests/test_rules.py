@@ -170,7 +170,7 @@ def test_each_kind_and_each_column_has_a_reader() -> None:
              for it in listed.values()}
     assert kinds == commands.KINDS.keys()
     assert list(fields.READERS) == list(fields.COLUMNS) == HEADER.split(",")
-    assert {it.value for it in rules.CRITERIA if it.value} == commands.AFTER.keys()
+    assert {it.value for it in rules.CRITERIA if it.value} == commands.VALUES.keys()
 
 
 COMMAND = {"cmd": "x", "child": 7, "school": "OAK", "day": "2025-03-03", "draw": 5}
