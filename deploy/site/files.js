@@ -6,13 +6,14 @@ import { at, button, childLink, download, element, field, progress, say } from "
 import { folded } from "./matching.js";
 import { child, nameOf, parsed, readNow, school, who } from "./register.js";
 import { again } from "./router.js";
+import { rules } from "./rules.js";
 import { follow, isBusy, isDaySure, isFree, isSure, sendAll, settle } from "./sending.js";
 import { answerOf, fieldsOf, separatorOf, titlesOf } from "./sheets.js";
 import { column, table } from "./tables.js";
 import { count, criteriaInWords, day, isDay, isolated, plural, schoolInWords } from "./words.js";
 
-const COMMANDS = ["add_school", "raise_pan", "add_child", "amend", "name_plan", "apply", "accept", "decline", "leave_list", "remind", "lapse"];
 const IN_TERMINAL = ["round", "fill"];
+const COMMANDS = Object.keys(rules.commands).filter((it) => !IN_TERMINAL.includes(it));
 const CAN_BE_REPLACED = ["amend", "accept", "add_child"];
 const WORKBOOK = "is a workbook, which this page does not read. Save it as CSV: in Excel by ‘Save as’, ‘CSV UTF-8’; in LibreOffice by ‘Save as’, "
   + "‘Text CSV’ in UTF-8. Then choose the CSV.";
