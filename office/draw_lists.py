@@ -6,12 +6,14 @@ has ended since has none any more, so where it is needed to tell who was last, n
 import collections
 import dataclasses
 import math
+from collections.abc import Iterator
 
 from register_files import Refused
 
 from . import model, texts
-from .model import Draw, Register
+from .model import Draw, Pair, Register
 from .register_lists import Cell, Rows
+from .run import Progress
 
 # of a child whose application a plan has ended since
 ENDED = "ended"
@@ -38,18 +40,26 @@ def came_of(school: str | None, is_fresh: bool) -> str:
     return NONE if school is None else OFFERED if is_fresh else KEPT
 
 
+def with_lots(register: Register) -> Iterator[tuple[Draw, dict[Pair, int]]]:
+    """The draws with their lots. Of a file each is a run of the program, so progress is shown."""
+    progress = Progress("draws", len(register.draws))
+    for draw in register.draws:
+        yield draw, register.lots(draw.number)
+        progress.at(draw.number)
+    progress.end()
+
+
 def draws(register: Register) -> Rows:
     """The rounds and fills, with what came of each."""
     header: list[Cell] = ["draw", "kind", "round", "school", "day", "lots", "offers", "kept",
                           "unplaced"]
     rows: Rows = []
-    for it in register.draws:
+    for it, drawn in with_lots(register):
         fresh = register.fresh[it.number]
         came = collections.Counter(came_of(school, fresh[child])
                                    for child, school in register.outcomes[it.number].items())
         rows.append([it.number, "round" if it.round else "fill", it.round, it.school,
-                     it.day.isoformat(), len(register.lots(it.number)), came[OFFERED], came[KEPT],
-                     came[NONE]])
+                     it.day.isoformat(), len(drawn), came[OFFERED], came[KEPT], came[NONE]])
     return [header, *rows]
 
 
@@ -103,14 +113,15 @@ def preferences(register: Register) -> Rows:
     return [["round", "day", "preference", "children", "percent"], *rows]
 
 
-def by_school(register: Register, draw: int) -> dict[str, list[Entry]]:
-    """Who had a lot in a draw, by schools in their order."""
-    outcomes = register.outcomes[draw]
-    found: dict[str, list[Entry]] = {}
-    for (code, child), lot in sorted(register.lots(draw).items()):
-        rank = register.rank(code, child) if child in register.applications else None
-        found.setdefault(code, []).append(Entry(child, lot, outcomes.get(child), rank))
-    return found
+def by_school(register: Register) -> Iterator[tuple[Draw, str, list[Entry]]]:
+    """Who had a lot in a draw, by draws and schools in their order."""
+    for draw, drawn in with_lots(register):
+        outcomes = register.outcomes[draw.number]
+        found: dict[str, list[Entry]] = {}
+        for (code, child), lot in sorted(drawn.items()):
+            rank = register.rank(code, child) if child in register.applications else None
+            found.setdefault(code, []).append(Entry(child, lot, outcomes.get(child), rank))
+        yield from ((draw, code, there) for code, there in found.items())
 
 
 def last_of(offered: list[Entry]) -> Entry | None:
@@ -124,13 +135,12 @@ def last_of(offered: list[Entry]) -> Entry | None:
 def last_offered(register: Register) -> Rows:
     """The last that was offered at each school in each draw, and how many were."""
     rows: Rows = []
-    for draw in register.draws:
-        for code, there in by_school(register, draw.number).items():
-            if offered := [it for it in there if it.allotted == code]:
-                last = last_of(offered)
-                rank = last.rank if last and last.rank else (None, None)
-                who: list[Cell] = [last.child, *rank, last.lot] if last else [None] * 4
-                rows.append([draw.number, draw.day.isoformat(), code, len(offered), *who])
+    for draw, code, there in by_school(register):
+        if offered := [it for it in there if it.allotted == code]:
+            last = last_of(offered)
+            rank = last.rank if last and last.rank else (None, None)
+            who: list[Cell] = [last.child, *rank, last.lot] if last else [None] * 4
+            rows.append([draw.number, draw.day.isoformat(), code, len(offered), *who])
     header: list[Cell] = ["draw", "day", "school", "offers", "child", "class", "metres", "lot"]
     return [header, *rows]
 
@@ -138,13 +148,12 @@ def last_offered(register: Register) -> Rows:
 def equal_at_limit(register: Register) -> Rows:
     """Where only the lot decided, or may have: who was offered or refused a place there."""
     rows: Rows = []
-    for draw in register.draws:
-        for code, there in by_school(register, draw.number).items():
-            for it in sorted(decided(register, code, there), key=lambda it: it.lot):
-                rank: list[Cell] = [*(it.rank or (None, None))]
-                is_known = it.rank is not None
-                came = OFFERED if it.allotted == code else REFUSED if is_known else UNKNOWN
-                rows.append([draw.number, code, it.child, *rank, it.lot, came])
+    for draw, code, there in by_school(register):
+        for it in sorted(decided(register, code, there), key=lambda it: it.lot):
+            rank: list[Cell] = [*(it.rank or (None, None))]
+            is_known = it.rank is not None
+            came = OFFERED if it.allotted == code else REFUSED if is_known else UNKNOWN
+            rows.append([draw.number, code, it.child, *rank, it.lot, came])
     return [["draw", "school", "child", "class", "metres", "lot", "came"], *rows]
 
 
