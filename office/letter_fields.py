@@ -1,26 +1,38 @@
-"""What a letter to a family has, worked out from a register, and the proved text of the program that it must agree with."""
+"""What a letter to a family has, of a register as the program shows it, and the proved text of the
+program that it must agree with.
+"""
 import dataclasses
 import datetime
 
-from . import days, ranking
-from .register import ACCEPTED, OFFERED, PLAN
+from register_files import Refused
 
-ANSWER_DAYS = datetime.timedelta(days=14)
+from . import days, ranking
+from .model import OFFERED, PLAN, WAITS, Application, Place, Preference, Register, School
+from .register_lists import ANSWER_DAYS
+
+Cell = str | int | datetime.date | None
+# of a child without a place
+NONE = "none"
 MOST_WAITS = 10
 # why a child does not wait at a school above its place
-TURNED_DOWN, LEFT, EITHER = "declined, or not answered in time", "you left its list", "declined, not answered in time, or you left its list"
-DECLINED = "declined"
-STATES = {OFFERED: "offered", ACCEPTED: "accepted", PLAN: "plan"}
+DECLINED, LEFT = "declined", "you left its list"
+TURNED_DOWN = "declined, or not answered in time"
+EITHER = "declined, not answered in time, or you left its list"
 COLUMNS = (
-    "child", "name", "year", "phase", "state", "school", "school_name", "preference", "offered", "offered_words", "reminded", "reminded_words", "answer_by",
-    "answer_by_words", "criterion", "criterion_code", "metres", "ended_school", "ended_name", "ended_because", "late", "appeal",
+    "child", "name", "year", "phase", "state", "school", "school_name", "preference", "offered",
+    "offered_words", "reminded", "reminded_words", "answer_by", "answer_by_words", "criterion",
+    "criterion_code", "metres", "ended_school", "ended_name", "ended_because", "late", "appeal",
 )
 WAIT_COLUMNS = ("school", "name", "position", "of", "criterion", "metres")
+# a day of the register, and the same in words
+IN_WORDS = {f"{it}_words": it for it in ("offered", "reminded", "answer_by")}
 
 
 @dataclasses.dataclass(frozen=True)
 class Listed:
-    """A school that the family prefers to the child's place: how the child ranks there, and its position where it waits, else None and why not."""
+    """A school that the family prefers to the child's place: how the child ranks there, and its
+    position where it waits, else None and why not.
+    """
 
     code: str
     name: str
@@ -33,9 +45,20 @@ class Listed:
     because: str | None = None
 
     @property
-    def was_refused(self):
-        """Whether the family may appeal: it was not offered a place there that it declined or let lapse."""
+    def was_refused(self) -> bool:
+        """Whether the family may appeal: it was not offered a place there that it declined or let
+        lapse.
+        """
         return self.because in (None, LEFT)
+
+
+@dataclasses.dataclass(frozen=True)
+class Ended:
+    """The place that a child had before and has no more, and why, if there is one."""
+
+    school: str | None = None
+    name: str | None = None
+    because: str | None = None
 
 
 @dataclasses.dataclass(frozen=True)
@@ -57,154 +80,201 @@ class Letter:
     criterion: str | None
     criterion_code: str | None
     metres: int | None
-    criteria: tuple
+    criteria: tuple[str, ...]
     ended_school: str | None
     ended_name: str | None
     ended_because: str | None
-    listed: tuple
+    listed: tuple[Listed, ...]
     closing: datetime.date
 
     @property
-    def is_late(self):
-        """Whether the application came after the closing date, and so took no part in the first round."""
+    def is_late(self) -> bool:
+        """Whether the application came after the closing date, and so took no part in the first
+        round.
+        """
         return self.applied is not None and self.applied > self.closing
 
     @property
-    def late(self):
+    def late(self) -> str | None:
         """The same in a cell."""
         return "yes" if self.is_late else None
 
     @property
-    def appeals(self):
+    def appeals(self) -> tuple[Listed, ...]:
         """The schools against whose refusal the family may appeal."""
         return tuple(it for it in self.listed if it.was_refused)
 
     @property
-    def appeal(self):
+    def appeal(self) -> str:
         """Their names in a cell."""
         return "; ".join(it.name for it in self.appeals)
 
     @property
-    def waits(self):
+    def waits(self) -> tuple[Listed, ...]:
         """The schools where the child waits."""
         return tuple(it for it in self.listed if it.position)
 
     @property
-    def declined(self):
-        """The schools above its place where it does not wait, as it declined or left them, or an offer lapsed."""
+    def declined(self) -> tuple[Listed, ...]:
+        """The schools above its place where it does not wait, as it declined or left them, or an
+        offer lapsed.
+        """
         return tuple(it for it in self.listed if not it.position)
 
-    def proved(self):
+    def place_lines(self) -> list[str]:
+        """The lines of the proved text about the place."""
+        named = f"Place: {self.school} {self.school_name}"
+        if self.state == NONE:
+            return ["Place: none"]
+        if self.state != OFFERED:
+            return [f"{named}, {self.state}"]
+        if not self.reminded:
+            return [f"{named}, offered {self.offered}"]
+        return [f"{named}, offered {self.offered}, reminded {self.reminded}",
+                f"The offer may be withdrawn 14 days after {self.reminded} if it is not answered."]
+
+    def proved(self) -> str:
         """The text that the program must print for this child."""
-        lines = [f"Admission {self.year} {self.phase}", f"Child {self.child} {self.name}"]
-        if self.state == "none":
-            lines.append("Place: none")
-        elif self.state == "offered":
-            lines.append(f"Place: {self.school} {self.school_name}, offered {self.offered}" + (f", reminded {self.reminded}" if self.reminded else ""))
-            lines += [f"The offer may be withdrawn 14 days after {self.reminded} if it is not answered."] if self.reminded else []
-        else:
-            lines.append(f"Place: {self.school} {self.school_name}, {self.state}")
-        lines += [f"Waiting: {it.code} {it.name}, position {it.position} of {it.of}, class {it.number}, {it.metres} metres" for it in self.waits]
-        return "\n".join(lines + ([] if self.waits else ["Waiting: nowhere"])) + "\n"
+        waits = [f"Waiting: {it.code} {it.name}, position {it.position} of {it.of},"
+                 f" class {it.number}, {it.metres} metres" for it in self.waits]
+        lines = [f"Admission {self.year} {self.phase}", f"Child {self.child} {self.name}",
+                 *self.place_lines(), *(waits or ["Waiting: nowhere"])]
+        return "\n".join(lines) + "\n"
 
 
 class Writer:
-    """Makes the letters of a register. `before` is the register from before a round, a fill or withdrawals, if places that ended are to be named, `flags` are
-    the office's words for flags, and `day` is the date of the letters."""
+    """Makes the letters of a register. `before` is the register from before a round, a fill or
+    withdrawals, if places that ended are to be named, `flags` are the office's words for flags,
+    and `day` is the date of the letters.
+    """
 
-    def __init__(self, register, before=None, flags=None, day=datetime.date.max):
+    def __init__(self, register: Register, before: Register | None = None,
+                 flags: dict[int, str] | None = None, day: datetime.date = datetime.date.max,
+                 ) -> None:
         self.register, self.before, self.flags, self.day = register, before, flags, day
-        # the schools that each child was offered and the days of the offers, the last one at the end
-        self.offered: dict[int, list[tuple[str, datetime.date]]] = {}
-        draws = {it.number: it.day for it in register.draws}
-        for draw, fresh in sorted(register.fresh.items()):
-            for child in (it for it, is_fresh in fresh.items() if is_fresh):
-                self.offered.setdefault(child, []).append((register.outcomes[draw][child], draws[draw]))
-        self.wanted = ranking.Problem(register).wanted if register.draws else {}
-        self.queues: dict[str, list[tuple[int, int]]] = {}
-        for child, schools in self.wanted.items():
-            for code in schools:
-                self.queues.setdefault(code, []).append(self.rank(code, child))
+        # the schools that each child was offered and the days of the offers, the last at the end
+        self.offered: dict[int, list[tuple[str | None, datetime.date]]] = {}
+        for draw in register.draws:
+            outcomes = register.outcomes[draw.number]
+            for child, is_fresh in register.fresh[draw.number].items():
+                if is_fresh:
+                    self.offered.setdefault(child, []).append((outcomes[child], draw.day))
 
-    def rank(self, code, child):
-        """Class and distance of a child at a school."""
-        school, one = self.register.schools[code], self.register.children[child]
-        return ranking.class_of(school, one), ranking.distance(school, one)
+    def words(self, school: School, number: int) -> str:
+        """What a class of a school means."""
+        found: str = ranking.in_words(school, number, self.flags)
+        return found
 
-    def listed(self, code, child, preference):
+    def listed(self, code: str, child: int, at: int, found: Preference) -> Listed:
         """A school above the place of a child."""
-        (number, metres), queue = self.rank(code, child), self.queues.get(code, [])
-        waits = code in self.wanted.get(child, ())
-        position = 1 + sum(it < (number, metres) for it in queue) if waits else None
         school = self.register.schools[code]
-        words = ranking.in_words(school, number, self.flags)
-        return Listed(code, school.name, preference, number, words, metres, position, len(queue) if waits else None, None if waits else self.not_waiting(child, code))
+        because = None if found.state == WAITS else self.not_waiting(child, code)
+        return Listed(code, school.name, at, found.number, self.words(school, found.number),
+                      found.metres, found.position, found.of, because)
 
-    def not_waiting(self, child, code):
-        """Why a child does not wait at a school above its place. One that was offered a place there, and none elsewhere since, declined it or let it lapse."""
+    def not_waiting(self, child: int, code: str) -> str:
+        """Why a child does not wait at a school above its place. One that was offered a place
+        there, and none elsewhere since, declined it or let it lapse.
+        """
         offered = self.offered.get(child, [])
         if code not in (it for it, _ in offered):
             return LEFT
         last, day = offered[-1]
         return EITHER if last != code else TURNED_DOWN if self.may_have_lapsed(day) else DECLINED
 
-    def may_have_lapsed(self, offered, reminded=None):
-        """Whether an offer can have been withdrawn by the date of the letter: 14 days after the reminder, which is sent 14 days after the offer or later."""
+    def may_have_lapsed(self, offered: datetime.date, reminded: datetime.date | None = None,
+                        ) -> bool:
+        """Whether an offer can have been withdrawn by the date of the letter: 14 days after the
+        reminder, which is sent 14 days after the offer or later.
+        """
         return self.day - (reminded or offered + ANSWER_DAYS) >= ANSWER_DAYS
 
-    def letter(self, number):
+    def letter(self, number: int) -> Letter:
         """The letter of a child."""
         register = self.register
-        child, place, application = register.children[number], register.places.get(number), register.applications.get(number)
+        place, application = register.places.get(number), register.applications.get(number)
         school = register.schools[place.school] if place else None
-        wishes = application.preferences if application else ()
-        is_listed = place and place.school in wishes
-        above = wishes[: wishes.index(place.school)] if is_listed else wishes
-        class_number, metres = self.rank(school.code, number) if is_listed else (None, None)
+        found = application.listed.get(place.school) if application and place else None
+        above = self.above(number, application, place) if register.draws else ()
         started = place and (place.reminded or place.day)
+        criterion, code = self.criterion_of(school, found)
+        ended = self.ended(number, place)
         return Letter(
-            child=number, name=child.name, year=register.year, phase="primary" if register.phase == days.PRIMARY else "secondary",
-            state=STATES[place.kind] if place else "none", applied=application.day if application else None,
-            school=school.code if school else None, school_name=school.name if school else None, preference=len(above) + 1 if is_listed else None,
-            offered=place.day if place else None, reminded=place.reminded if place else None, answer_by=started + ANSWER_DAYS if started else None,
-            criterion=ranking.in_words(school, class_number, self.flags) if is_listed else "named by an EHC plan" if place else None,
-            criterion_code=self.code_of(school, class_number) if is_listed else "plan" if place else None, metres=metres,
-            criteria=tuple(ranking.in_words(school, it, self.flags) for it in range(len(school.criteria) + 2)) if school else (),
-            **self.ended(number, place), listed=tuple(self.listed(it, number, at) for at, it in enumerate(above, 1)) if register.draws else (),
-            closing=register.days[0],
+            child=number, name=register.children[number].name, year=register.year,
+            phase=register.phase, state=place.kind if place else NONE,
+            applied=application.day if application else None,
+            school=school.code if school else None, school_name=school.name if school else None,
+            preference=len(above) + 1 if found else None, offered=place.day if place else None,
+            reminded=place.reminded if place else None,
+            answer_by=started + ANSWER_DAYS if started else None, criterion=criterion,
+            criterion_code=code, metres=found.metres if found else None,
+            criteria=self.criteria_of(school), ended_school=ended.school, ended_name=ended.name,
+            ended_because=ended.because, listed=above, closing=register.days[0],
         )
 
-    @staticmethod
-    def code_of(school, number):
-        """The criterion of a class as schools have it."""
-        return "looked-after" if number == 0 else school.criteria[number - 1] if number <= len(school.criteria) else "none"
+    def above(self, number: int, application: Application | None, place: Place | None,
+              ) -> tuple[Listed, ...]:
+        """The schools that a child lists above its place, or all of its list."""
+        found = []
+        for at, (code, it) in enumerate(application.listed.items() if application else (), 1):
+            if place and place.school == code:
+                break
+            found.append(self.listed(code, number, at, it))
+        return tuple(found)
 
-    def ended(self, number, place):
+    def criterion_of(self, school: School | None, found: Preference | None,
+                     ) -> tuple[str | None, str | None]:
+        """By what a child has its place, in words and as schools have it."""
+        if school is None:
+            return None, None
+        if found is None:
+            return "named by an EHC plan", PLAN
+        at = found.number
+        code = school.criteria[at - 1] if 0 < at <= len(school.criteria) else "none"
+        return self.words(school, at), code if at else "looked-after"
+
+    def criteria_of(self, school: School | None) -> tuple[str, ...]:
+        """The order at a school, in words."""
+        if school is None:
+            return ()
+        return tuple(self.words(school, it) for it in range(len(school.criteria) + 2))
+
+    def ended(self, number: int, place: Place | None) -> Ended:
         """The place that the child had before and has no more, and why."""
         had = self.before.places.get(number) if self.before else None
-        if had is None or place and place.school == had.school:
-            return {"ended_school": None, "ended_name": None, "ended_because": None}
-        if place is None and (had.kind == ACCEPTED or not self.may_have_lapsed(had.day, had.reminded)):
-            because = "you declined it"
-        elif place is None:
-            reminder = f", of which we reminded you on {days.in_words(had.reminded)}," if had.reminded else ""
-            because = f"our offer of {days.in_words(had.day)}{reminder} was declined, or was withdrawn because it was not answered"
-        elif place.kind == PLAN:
-            because = f"the EHC plan of the child names {self.register.schools[place.school].name}"
+        if self.before is None or had is None or place and place.school == had.school:
+            return Ended()
+        if had.kind == PLAN:
+            raise Refused(f"{self.before.name} is no copy from before {self.register.name}: child"
+                          f" {number} has a place by a plan there, which nothing ends")
+        schools = self.register.schools
+        if place and place.kind == PLAN:
+            because = f"the EHC plan of the child names {schools[place.school].name}"
+        elif place:
+            because = f"a place at {schools[place.school].name}, which you prefer, was offered"
+        elif had.day and self.may_have_lapsed(had.day, had.reminded):
+            reminder = (f", of which we reminded you on {days.in_words(had.reminded)},"
+                        if had.reminded else "")
+            because = (f"our offer of {days.in_words(had.day)}{reminder} was declined, or was"
+                       " withdrawn because it was not answered")
         else:
-            because = f"a place at {self.register.schools[place.school].name}, which you prefer, was offered"
-        return {"ended_school": had.school, "ended_name": self.register.schools[had.school].name, "ended_because": because}
+            because = "you declined it"
+        return Ended(had.school, schools[had.school].name, because)
 
 
-def row_of(letter):
+def row_of(letter: Letter) -> list[Cell]:
     """A row of the file for a mail merge."""
-    words = {f"{it}_words": days.in_words(day) if (day := getattr(letter, it)) else None for it in ("offered", "reminded", "answer_by")}
-    cells = [words[it] if it in words else getattr(letter, it) for it in COLUMNS]
-    for it in letter.waits:
-        cells += [it.code, it.name, it.position, it.of, it.criterion, it.metres]
+    cells: list[Cell] = []
+    for it in COLUMNS:
+        value: Cell = getattr(letter, IN_WORDS.get(it, it))
+        is_in_words = it in IN_WORDS and isinstance(value, datetime.date)
+        cells.append(days.in_words(value) if is_in_words else value)
+    for wait in letter.waits:
+        cells += [wait.code, wait.name, wait.position, wait.of, wait.criterion, wait.metres]
     return cells + [None] * (len(WAIT_COLUMNS) * (MOST_WAITS - len(letter.waits)))
 
 
-def header():
+def header() -> list[str]:
     """The columns of the file for a mail merge."""
-    return [*COLUMNS, *(f"waiting_{at}_{it}" for at in range(1, MOST_WAITS + 1) for it in WAIT_COLUMNS)]
+    waits = [f"waiting_{at}_{it}" for at in range(1, MOST_WAITS + 1) for it in WAIT_COLUMNS]
+    return [*COLUMNS, *waits]

@@ -30,13 +30,17 @@ A template is HTML with the fields of jinja2. It may name pictures (PNG, JPEG,
 GIF, WebP, SVG), fonts and style sheets (.css) of its own folder, and nothing
 else: no other file gets into a letter, nor anything from a network.
 
-The program opens FILE and closes it, so that the file alone is the register.
-While it prints the texts no other program can open FILE. They are printed from
-a copy that nobody else can read, by no port that others could use; afterwards
-FILE must be what it was, byte for byte. The PDF and the CSV are made of the
-register as it was then, and each letter must be the program's to the letter.
-Otherwise nothing is written. If this command is killed, delete the folders
-FOLDER.part-.. and FILE.part-.. that remain.
+FILE is the register, or the address at which it is served, as
+http://127.0.0.1:8080, or with --user https://admissions.example. The register
+is read, the texts are printed, and afterwards it must be what it was. Each
+letter must be to the letter what the register shows. Otherwise nothing is
+written. The PDF and the CSV are made of the register as it was then.
+
+The program opens a file and closes it, so that the file alone is the register.
+While it prints the texts no other program can open the file. They are printed
+from a copy that nobody else can read, by no port that others could use. If this
+command is killed, delete the folders FOLDER.part-.., FILE.part-.. and
+/tmp/admissions-.. that remain.
 
 The program prints all letters in a network of its own, in seconds. Where the
 system allows none, as in most containers, it is run for each letter, which
@@ -44,6 +48,7 @@ takes minutes for 2,000.
 
 examples:
   admissions-letters reg.db letters-1
+  admissions-letters http://127.0.0.1:8080 letters-1
   admissions-letters --copy-template letter.html
   admissions-letters reg.db --pdf letters-1 --template letter.html \\
       --before copies/before-draw-1.db --date 2025-03-03
@@ -55,72 +60,74 @@ the one beside this command, or in PATH.
 """
 import argparse
 import contextlib
-import csv
 import datetime
-import io
+import functools
 import os
 import shutil
 import signal
-import subprocess
 import sys
 import tempfile
 import time
-from collections.abc import Iterator
+from collections.abc import Callable, Iterator, Sequence
 
 import register_files as files
 from register_files import Refused
 
-from . import days, letter_fields, letter_pdf, printed, ranking, register, sheet, texts
+from . import letter_fields, letter_pdf, model, printed, ranking, senders, sheet, texts, worklists
+from .letter_fields import Cell, Letter
+from .model import Register
 
+# what prints the letters of children, in their order
+Printer = Callable[[list[int]], Iterator[bytes]]
 STEP = 100
 
 
-def children_of(file, name, day):
+def children_of(register: Register, name: str, day: datetime.date | None) -> list[int]:
     """The children of a worklist, each once, in its order."""
-    query = files.found(["admissions-query", "query"])
-    if not query:
-        raise Refused("there is no admissions-query beside this program")
-    words = [query, file, name, *(["--day", day] if day else [])]
-    ran = subprocess.run(words, capture_output=True, text=True, encoding="utf-8", check=False)
-    if ran.returncode == 2:
-        raise Refused(ran.stderr.strip().split("\n")[-1].replace("admissions-query: error: ", ""), 2)
-    if ran.returncode:
-        raise Refused(ran.stderr.strip().split("\n")[-1].replace("admissions-query: ", ""))
-    rows = csv.DictReader(io.StringIO(ran.stdout, newline=""))
-    if "child" not in (rows.fieldnames or []):
+    if said := worklists.unfit(name, {"day": day}):
+        raise Refused(said, 2)
+    options = {"day": day or datetime.date.today()}
+    worklists.see(register, name, options)
+    header, *rows = worklists.rows_of(register, name, options)
+    if "child" not in header:
         raise Refused(f"{name} has no column `child`", 2)
-    return list(dict.fromkeys(int(it["child"]) for it in rows))
+    found = [row[header.index("child")] for row in rows]
+    return list(dict.fromkeys(it for it in found if isinstance(it, int)))
 
 
-def chosen(given, file):
+def chosen(given: argparse.Namespace, register: Register) -> list[int]:
     """The children whose letters are wanted: of a worklist, of a sheet, or by their numbers."""
     if given.child:
         found = [(f"--child {it}", it) for it in given.child]
     elif os.sep in given.only or "." in given.only:
-        found = [(f"{given.only}, row {row}", it) for row, it, _ in letter_pdf.by_child(given.only) if it is not None]
+        found = [(f"{given.only}, row {row}", it)
+                 for row, it, _ in letter_pdf.by_child(given.only) if it is not None]
     else:
-        return children_of(file, given.only, given.day)
-    known = register.read(file, is_opened=True).children
+        return children_of(register, given.only, given.day)
     for where, it in found:
-        if it not in known:
+        if it not in register.children:
             raise Refused(f"{where}: {given.file} has no child {it}")
     return list(dict.fromkeys(it for _, it in found))
 
 
-def see_room(target):
+def see_room(target: str) -> None:
     """Refuses a folder that has files, or whose own folder is not there."""
     folder = os.path.abspath(target)
-    if os.path.lexists(folder) and (not os.path.isdir(folder) or os.path.islink(folder) or os.listdir(folder)):
+    is_free = os.path.isdir(folder) and not os.path.islink(folder) and not os.listdir(folder)
+    if os.path.lexists(folder) and not is_free:
         raise Refused(f"{target} is there already, and not empty")
     if not os.path.isdir(os.path.dirname(folder)):
         raise Refused(f"the folder of {target} is not there")
 
 
 @contextlib.contextmanager
-def new_folder(target):
-    """A new folder beside the one that is to be made, which is removed at the end where it was not renamed."""
+def new_folder(target: str) -> Iterator[str]:
+    """A new folder beside the one that is to be made, which is removed at the end where it was not
+    renamed.
+    """
     folder = os.path.abspath(target)
-    room = tempfile.mkdtemp(prefix=os.path.basename(folder) + ".part-", dir=os.path.dirname(folder))
+    start = os.path.basename(folder) + ".part-"
+    room = tempfile.mkdtemp(prefix=start, dir=os.path.dirname(folder))
     try:
         yield room
     finally:
@@ -131,69 +138,101 @@ def new_folder(target):
             shutil.rmtree(room, ignore_errors=True)
 
 
+def changed(name: str) -> Refused:
+    """The refusal of letters of a register that is another one afterwards."""
+    return Refused(f"{name} was changed while its letters were printed: nothing was written")
+
+
 @contextlib.contextmanager
-def copied(name: str, file: str) -> Iterator[str]:
-    """A copy of a register that nobody else can read. No program opens the register meanwhile, and at the
-    end it must be what it was, byte for byte."""
+def of_file(name: str) -> Iterator[tuple[Register, Printer]]:
+    """The register of a file, and its letters, printed from a copy that nobody else can read. No
+    program opens the file meanwhile, and at the end it must be what it was, byte for byte.
+    """
+    # (an absolute path, so that no name that begins with a dash is mistaken for an option)
+    program, file = files.program(), os.path.realpath(name)
+    if not os.path.isfile(file):
+        raise Refused(f"{name} is no file")
+    if failure := files.merge_log(program, file):
+        raise Refused(f"{name} does not open: {failure}")
+    files.warn("letters", name, os.stat(file))
     with files.held(name, file) as fd, files.room_beside(name, file) as room:
         copy = os.path.join(room, "copy.db")
         files.copy_to(fd, copy)
-        yield copy
+        yield model.read(name), functools.partial(printed.letters, program, copy)
         if files.has_content(file + "-wal") or not files.is_equal(fd, copy):
-            raise Refused(f"{name} was changed while its letters were printed: nothing was written")
+            raise changed(name)
 
 
-def proved_letters(program: str, copy: str, children: list[int]) -> dict[int, bytes]:
+@contextlib.contextmanager
+def of_server(name: str, user: str | None) -> Iterator[tuple[Register, Printer]]:
+    """The register that is served at an address, and its letters. At the end it must be what it
+    was.
+    """
+    sender = senders.Http(name, user, senders.password)
+    register = model.of_server(sender)
+    yield register, functools.partial(printed.served, sender)
+    if model.of_server(sender) != register:
+        raise changed(name)
+
+
+def proved_letters(print_all: Printer, children: list[int]) -> dict[int, bytes]:
     """The texts that the program prints, by child."""
     start, found = time.monotonic(), {}
-    for at, (child, text) in enumerate(zip(children, printed.letters(program, copy, children), strict=True), 1):
+    for at, (child, text) in enumerate(zip(children, print_all(children), strict=True), 1):
         found[child] = text
         if at % STEP == 0 or at == len(children):
-            print(f"{at} of {len(children)} texts, {time.monotonic() - start:.1f} seconds", file=sys.stderr, flush=True)
+            print(f"{at} of {len(children)} texts, {time.monotonic() - start:.1f} seconds",
+                  file=sys.stderr, flush=True)
     return found
 
 
-def worked_out(given, file, children):
-    """The letters with all their fields, if the CSV or the PDF is wanted."""
-    if not given.csv and not given.pdf:
-        return []
-    now, before = register.read(file, is_opened=True), None
-    if given.before:
-        before = register.read(given.before)
-        register.same_season(before, now)
+def worked_out(given: argparse.Namespace, now: Register, children: list[int]) -> list[Letter]:
+    """The letters with all their fields."""
+    before = model.read(given.before) if given.before else None
+    if before:
+        model.same_season(before, now)
     if given.pdf and not now.draws:
         raise Refused(f"{given.file} had no round yet, so there is no place to write of")
     writer = letter_fields.Writer(now, before, ranking.flags_of(given.flags), given.date)
     return [writer.letter(it) for it in children]
 
 
-def compare(letters, proved):
+def compare(letters: list[Letter], proved: dict[int, bytes]) -> None:
     """Refuses a letter that is not the program's."""
     for it in letters:
         if it.proved().encode() != proved[it.child]:
-            raise Refused(f"the letter of child {it.child} is not what the program prints: no letter is written; report this with a copy of the register")
+            raise Refused(f"the letter of child {it.child} is not what the program prints: no"
+                          " letter is written; report this with a copy of the register")
 
 
-def csv_of(letters, columns, addresses):
-    """The file for a mail merge: with a mark by which spreadsheets know UTF-8, and without cells that they would run. The columns of the addresses are last; one
-    that is also a column of the letters has another name."""
-    header, lines = letter_fields.header(), []
+def csv_of(letters: list[Letter], columns: list[str], addresses: dict[int, list[str]]) -> bytes:
+    """The file for a mail merge: with a mark by which spreadsheets know UTF-8, and without cells
+    that they would run. The columns of the addresses are last; one that is also a column of the
+    letters has another name.
+    """
+    header = letter_fields.header()
     header += [f"address_{it}" if it in header else it for it in columns]
+    lines: list[Sequence[Cell]] = [header]
     for one in letters:
-        lines.append([*letter_fields.row_of(one), *addresses.get(one.child, [None] * len(columns))])
-    rows = [[texts.for_spreadsheet(it) if isinstance(it, str) else it for it in cells] for cells in (header, *lines)]
-    return b"\xef\xbb\xbf" + sheet.csv_bytes(rows)
+        address = addresses.get(one.child, [""] * len(columns))
+        lines.append([*letter_fields.row_of(one), *address])
+    rows = [[texts.for_spreadsheet(it) if isinstance(it, str) else it for it in cells]
+            for cells in lines]
+    data: bytes = sheet.csv_bytes(rows)
+    return b"\xef\xbb\xbf" + data
 
 
-def write_texts(proved, room):
+def write_texts(proved: dict[int, bytes], room: str) -> None:
     """Writes the proved text of each child."""
     for child, text in proved.items():
         with open(os.path.join(room, f"letter-{child:07}.txt"), "xb") as file:
             file.write(text)
 
 
-def name_all(rooms):
-    """Gives each folder its name. No signal interrupts that; a folder takes the name of an empty one, and of none that has files."""
+def name_all(rooms: list[tuple[str, str]]) -> None:
+    """Gives each folder its name. No signal interrupts that; a folder takes the name of an empty
+    one, and of none that has files.
+    """
     os.sync()
     for it in files.SIGNALS:
         signal.signal(it, signal.SIG_IGN)
@@ -213,90 +252,96 @@ def see_targets(given: argparse.Namespace) -> None:
 
 def make(given: argparse.Namespace) -> int:
     """Writes all that is wanted."""
-    program = files.program()
-    # (an absolute path, so that no name that begins with a dash is mistaken for an option)
-    file = os.path.realpath(given.file)
-    if not os.path.isfile(file):
-        raise Refused(f"{given.file} is no file")
     see_targets(given)
-    if failure := files.merge_log(program, file):
-        raise Refused(f"{given.file} does not open: {failure}")
-    files.warn("letters", given.file, os.stat(file))
     columns, addresses = letter_pdf.addresses_of(given.addresses) if given.addresses else ([], {})
-    with copied(given.file, file) as copy:
-        children = chosen(given, file)
-        if given.folder and children and not register.read(file, is_opened=True).draws:
-            print(f"admissions-letters: {given.file} had no round yet, so each text says `Place: none`: do not send it as a decision", file=sys.stderr)
-        letters = worked_out(given, file, children)
-        proved = proved_letters(program, copy, children)
+    is_served = senders.is_address(given.file)
+    opened = of_server(given.file, given.user) if is_served else of_file(given.file)
+    with opened as (register, print_all):
+        children = chosen(given, register)
+        if given.folder and children and not register.draws:
+            print(f"admissions-letters: {given.file} had no round yet, so each text says"
+                  " `Place: none`: do not send it as a decision", file=sys.stderr)
+        letters = worked_out(given, register, children)
+        proved = proved_letters(print_all, children)
     compare(letters, proved)
     write(given, letters, proved, columns, addresses)
     # (if nobody reads these lines, the letters are there all the same)
     with contextlib.suppress(OSError):
         for it in (given.folder, given.pdf, given.csv):
             if it:
-                print(f"{texts.count(len(children), 'letter is', 'letters are')} in {it}", flush=True)
+                said = texts.count(len(children), "letter is", "letters are")
+                print(f"{said} in {it}", flush=True)
     return 0
 
 
-def write(
-    given: argparse.Namespace, letters: list[letter_fields.Letter], proved: dict[int, bytes],
-    columns: list[str], addresses: dict[int, list[str]],
-) -> None:
+def write(given: argparse.Namespace, letters: list[Letter], proved: dict[int, bytes],
+          columns: list[str], addresses: dict[int, list[str]]) -> None:
     """Writes all that is wanted, or nothing."""
     with contextlib.ExitStack() as stack:
-        rooms = [(stack.enter_context(new_folder(it)), it) for it in (given.folder, given.pdf) if it]
+        targets = [it for it in (given.folder, given.pdf) if it]
+        rooms = [(stack.enter_context(new_folder(it)), it) for it in targets]
         if given.folder:
             write_texts(proved, rooms[0][0])
         if given.pdf:
-            letter_pdf.write_letters(letters, given.template or letter_pdf.TEMPLATE, addresses, given.date, rooms[-1][0], given.double_sided)
+            template = given.template or letter_pdf.TEMPLATE
+            letter_pdf.write_letters(letters, template, addresses, given.date, rooms[-1][0],
+                                     given.double_sided)
         if given.csv:
             sheet.write_new(given.csv, csv_of(letters, columns, addresses))
         name_all(rooms)
 
 
-def read_day(text):
-    """A day of an option."""
-    found = days.read(text)
-    if found is None:
-        raise argparse.ArgumentTypeError(f"{text} is no day YYYY-MM-DD")
-    return found
-
-
-def arguments(reader):
+def arguments(reader: argparse.ArgumentParser) -> None:
     """The arguments of the command."""
-    reader.add_argument("file", metavar="FILE", nargs="?", help="the register")
-    reader.add_argument("folder", metavar="FOLDER", nargs="?", help="the folder for the proved texts")
-    reader.add_argument("--only", metavar="NAME", help="the letters of this worklist of admissions-query, or of the children in this file (CSV, .xlsx)")
-    reader.add_argument("--child", metavar="N", type=int, action="append", help="the letter of this child")
-    reader.add_argument("--day", metavar="D", help="the day of the worklist, YYYY-MM-DD")
-    reader.add_argument("--csv", metavar="OUT.csv", help="write a file for a mail merge")
-    reader.add_argument("--pdf", metavar="FOLDER", help="write PDF files, one for each child and printer.pdf")
-    reader.add_argument("--template", metavar="FILE", help="the template of the PDF")
-    reader.add_argument("--copy-template", metavar="FILE", help="write the template that comes with the program, to be edited")
-    reader.add_argument("--addresses", metavar="FILE", help="the lines of the addresses, by child")
-    reader.add_argument("--flags", metavar="FILE", help=ranking.FLAGS_HELP)
-    reader.add_argument("--before", metavar="COPY", help="a copy from before the last round, fill or withdrawals, to name the places that ended")
-    reader.add_argument("--date", metavar="D", type=read_day, default=datetime.date.today(), help="the date of the letters, today by default")
-    reader.add_argument("--double-sided", action="store_true", help="in printer.pdf each letter begins on a new sheet")
+    add = reader.add_argument
+    add("file", metavar="FILE", nargs="?", help=f"the register{model.ADDRESS_HELP}")
+    add("folder", metavar="FOLDER", nargs="?", help="the folder for the proved texts")
+    add("--only", metavar="NAME", help="the letters of this worklist of admissions-query, or of the"
+        " children in this file (CSV, .xlsx)")
+    add("--child", metavar="N", type=int, action="append", help="the letter of this child")
+    add("--day", metavar="D", type=worklists.read_day, help="the day of the worklist, YYYY-MM-DD")
+    add("--user", metavar="NAME", help="sign in with this name; the password is asked for")
+    add("--csv", metavar="OUT.csv", help="write a file for a mail merge")
+    add("--pdf", metavar="FOLDER", help="write PDF files, one for each child and printer.pdf")
+    add("--template", metavar="FILE", help="the template of the PDF")
+    add("--copy-template", metavar="FILE", help="write the template that comes with the program, to"
+        " be edited")
+    add("--addresses", metavar="FILE", help="the lines of the addresses, by child")
+    add("--flags", metavar="FILE", help=ranking.FLAGS_HELP)
+    add("--before", metavar="COPY", help="a copy from before the last round, fill or withdrawals,"
+        " to name the places that ended")
+    add("--date", metavar="D", type=worklists.read_day, default=datetime.date.today(),
+        help="the date of the letters, today by default")
+    add("--double-sided", action="store_true", help="in printer.pdf each letter begins on a new"
+        " sheet")
 
 
-def main(given):
-    """Writes letters, or the template."""
-    if given.copy_template:
-        if given.file or given.folder:
-            raise Refused("--copy-template takes no FILE", 2)
-        letter_pdf.copy_template(given.copy_template)
-        print(f"the template is in {given.copy_template}: edit it, and use it by --template {given.copy_template}")
-        return 0
-    missing = [name for name, it in (("FILE", given.file), ("FOLDER", given.folder or given.csv or given.pdf)) if not it]
-    if missing:
-        raise Refused(f"error: the following arguments are required: {', '.join(missing)}", 2)
+def see_arguments(given: argparse.Namespace) -> None:
+    """Refuses arguments that do not fit each other."""
+    has_target = given.folder or given.csv or given.pdf
+    named = (("FILE", given.file), ("FOLDER", has_target))
+    if missing := [name for name, it in named if not it]:
+        required = ", ".join(missing)
+        raise Refused(f"error: the following arguments are required: {required}", 2)
     if not given.pdf and (given.template or given.double_sided):
         raise Refused("--template and --double-sided need --pdf", 2)
     if (given.before or given.addresses or given.flags) and not given.pdf and not given.csv:
         raise Refused("--before, --addresses and --flags need --pdf or --csv", 2)
     if given.child and (given.only or given.day):
         raise Refused("--child takes no --only and no --day", 2)
+    if given.user and not senders.is_address(given.file):
+        raise Refused("--user needs the address at which a register is served", 2)
+
+
+def main(given: argparse.Namespace) -> int:
+    """Writes letters, or the template."""
+    if given.copy_template:
+        if given.file or given.folder:
+            raise Refused("--copy-template takes no FILE", 2)
+        letter_pdf.copy_template(given.copy_template)
+        print(f"the template is in {given.copy_template}: edit it, and use it by --template"
+              f" {given.copy_template}")
+        return 0
+    see_arguments(given)
     given.only = given.only or "children"
     return make(given)

@@ -1,6 +1,7 @@
-"""The letters of a register as the program prints them, without a port that others could use.
+"""The letters of a register as the program prints them: of one that is served, from its server;
+of a file without a port that others could use.
 
-The program serves a copy of the register that nobody else can read, in a network of its own, which no
+The program serves a copy of the file that nobody else can read, in a network of its own, which no
 process outside of it reaches. Where the system allows no such network, as in most containers, the
 program prints each letter by a run of its own, which opens the copy each time.
 """
@@ -12,7 +13,6 @@ import multiprocessing
 import multiprocessing.connection
 import os
 import queue
-import re
 import signal
 import socket
 import struct
@@ -23,7 +23,8 @@ from collections.abc import Callable, Iterator
 import register_files as files
 from register_files import Refused
 
-ANSWER_SECONDS = 30
+from . import senders
+
 # nobody else is in the network, so any port is free
 PORT = 8080
 PR_SET_PDEATHSIG = 1
@@ -33,7 +34,9 @@ NO_NETWORK = "no network"
 
 
 def ends_with(parent: int) -> Callable[[], None]:
-    """What a child process does first: it requests to be ended when its parent ends, also if that is killed."""
+    """What a child process does first: it requests to be ended when its parent ends, also if that
+    is killed.
+    """
 
     def start() -> None:
         for it in files.SIGNALS:
@@ -46,8 +49,10 @@ def ends_with(parent: int) -> Callable[[], None]:
 
 
 def has_own_network() -> bool:
-    """Moves this process into a network of its own with 127.0.0.1 alone, where the system allows it. Who may make one
-    without a user namespace, as root, needs none: in it root has no rights to the files of other users."""
+    """Moves this process into a network of its own with 127.0.0.1 alone, where the system allows
+    it. Who may make one without a user namespace, as root, needs none: in it root has no rights to
+    the files of other users.
+    """
     user, group = os.geteuid(), os.getegid()
     maps: dict[str, str] = {}
     if ctypes.CDLL(None).unshare(CLONE_NEWNET) != 0:
@@ -70,7 +75,8 @@ def serving(program: str, copy: str) -> Iterator[None]:
     """The program serves a file, until it is ended."""
     with tempfile.TemporaryFile("w+") as errors:
         words, start = [program, "serve", copy, str(PORT)], ends_with(os.getpid())
-        with subprocess.Popen(words, stdin=subprocess.DEVNULL, stdout=subprocess.PIPE, stderr=errors, text=True, preexec_fn=start) as desk:
+        with subprocess.Popen(words, stdin=subprocess.DEVNULL, stdout=subprocess.PIPE,
+                              stderr=errors, text=True, preexec_fn=start) as desk:
             assert desk.stdout
             try:
                 if (first := desk.stdout.readline()) != f"serving on 127.0.0.1:{PORT}\n":
@@ -78,31 +84,24 @@ def serving(program: str, copy: str) -> Iterator[None]:
                     desk.terminate()
                     desk.wait()
                     errors.seek(0)
-                    said = ", ".join(errors.read().split("\n")).strip(", ") or f"it prints {first!r}"
-                    raise Refused(f"the program does not serve: {said}")
+                    said = ", ".join(errors.read().split("\n")).strip(", ")
+                    raise Refused(f"the program does not serve: {said or f'it prints {first!r}'}")
                 yield
             finally:
                 desk.terminate()
 
 
-def served(child: int) -> bytes:
-    """The letter of a child, from the program that serves."""
-    try:
-        with socket.create_connection(("127.0.0.1", PORT), timeout=ANSWER_SECONDS) as it:
-            it.sendall(f"GET /child/{child}/letter HTTP/1.1\r\n\r\n".encode())
-            response = b""
-            while piece := it.recv(65536):
-                response += piece
-    except OSError as error:
-        raise Refused(f"no letter comes for child {child}: {error}") from error
-    head, _, text = response.partition(b"\r\n\r\n")
-    length = re.search(rb"(?i)\r\ncontent-length: *([0-9]+)", head)
-    if not head.startswith(b"HTTP/1.1 200 ") or not length or len(text) != int(length[1]):
-        raise Refused(f"no letter comes for child {child}: {head.decode('latin-1').splitlines()[0] if head else 'nothing was answered'}")
-    return text
+def served(sender: senders.Http, children: list[int]) -> Iterator[bytes]:
+    """The letters of children, from a server."""
+    for child in children:
+        try:
+            yield sender.read(f"/child/{child}/letter")
+        except Refused as error:
+            raise Refused(f"no letter comes for child {child}: {error}") from error
 
 
-def serve_alone(answers: multiprocessing.connection.Connection, program: str, copy: str, children: list[int], parent: int) -> None:
+def serve_alone(answers: multiprocessing.connection.Connection, program: str, copy: str,
+                children: list[int], parent: int) -> None:
     """What a process in a network of its own does: it sends each letter, or why there is none."""
     ends_with(parent)()
     try:
@@ -110,19 +109,21 @@ def serve_alone(answers: multiprocessing.connection.Connection, program: str, co
             answers.send(NO_NETWORK)
             return
         with serving(program, copy):
-            for it in children:
-                answers.send(served(it))
+            for letter in served(senders.Http(f"http://127.0.0.1:{PORT}"), children):
+                answers.send(letter)
     except (Refused, OSError) as error:
         # (the one that reads may have ended)
         with contextlib.suppress(OSError):
-            answers.send(error if isinstance(error, Refused) else Refused(f"the program does not serve: {error.strerror or error}"))
+            said = f"the program does not serve: {getattr(error, 'strerror', None) or error}"
+            answers.send(error if isinstance(error, Refused) else Refused(said))
 
 
 def from_own_network(program: str, copy: str, children: list[int]) -> Iterator[bytes | str]:
     """The letters of a served copy in the order of the children; or NO_NETWORK alone."""
     context = multiprocessing.get_context("fork")
     answers, other = context.Pipe(duplex=False)
-    reader = context.Process(target=serve_alone, args=(other, program, copy, children, os.getpid()), daemon=True)
+    given = (other, program, copy, children, os.getpid())
+    reader = context.Process(target=serve_alone, args=given, daemon=True)
     reader.start()
     other.close()
     try:
@@ -134,7 +135,8 @@ def from_own_network(program: str, copy: str, children: list[int]) -> Iterator[b
             if answer == NO_NETWORK:
                 return
     except EOFError as error:
-        raise Refused(f"no letter comes for child {it}: the process that reads it was ended") from error
+        raise Refused(f"no letter comes for child {it}: the process that reads it was"
+                      " ended") from error
     finally:
         answers.close()
         reader.terminate()
@@ -143,7 +145,8 @@ def from_own_network(program: str, copy: str, children: list[int]) -> Iterator[b
 
 def from_runs(program: str, copy: str, children: list[int]) -> Iterator[bytes]:
     """The same, by a run of the program for each letter, so many at once as there are processors. A
-    run locks the file that it opens, so each has a copy of its own."""
+    run locks the file that it opens, so each has a copy of its own.
+    """
     copies: queue.SimpleQueue[str] = queue.SimpleQueue()
     count = min(len(os.sched_getaffinity(0)), len(children))
     for at in range(count):
@@ -154,11 +157,13 @@ def from_runs(program: str, copy: str, children: list[int]) -> Iterator[bytes]:
     def printed(child: int) -> bytes:
         own = copies.get()
         try:
-            ran = subprocess.run([program, "letter", own, str(child)], stdin=subprocess.DEVNULL, capture_output=True, check=False)
+            ran = subprocess.run([program, "letter", own, str(child)], stdin=subprocess.DEVNULL,
+                                 capture_output=True, check=False)
         finally:
             copies.put(own)
         if ran.returncode:
-            said = ", ".join(os.fsdecode(ran.stderr).split("\n")).strip(", ") or f"status {ran.returncode}"
+            said = ", ".join(os.fsdecode(ran.stderr).split("\n")).strip(", ")
+            said = said or f"status {ran.returncode}"
             raise Refused(f"no letter comes for child {child}: {said}")
         return ran.stdout
 
@@ -169,11 +174,12 @@ def from_runs(program: str, copy: str, children: list[int]) -> Iterator[bytes]:
         runs.shutdown(cancel_futures=True)
     with open(copy, "rb") as file:
         if not all(files.is_equal(file.fileno(), f"{copy}.{at}") for at in range(count)):
-            raise Refused("a copy of the register was changed while its letters were printed: nothing was written")
+            raise Refused("a copy of the register was changed while its letters were printed:"
+                          " nothing was written")
 
 
 def letters(program: str, copy: str, children: list[int]) -> Iterator[bytes]:
-    """The letters that the program prints, in the order of the children."""
+    """The letters of a file that the program prints, in the order of the children."""
     if not children:
         return
     for it in from_own_network(program, copy, children):

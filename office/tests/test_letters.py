@@ -16,6 +16,7 @@ import time
 import model_season
 import pikepdf
 import pytest
+import served
 from conftest import PROGRAM, ROOT, apply, child, do, make, school
 from test_send import count, wait_for
 
@@ -104,6 +105,15 @@ def test_the_place_that_ended(office, tmp_path):
     text = text_of(tmp_path / "out" / "letter-0000001.pdf")
     assert "has ended, because" in text and "7 April 2025" in text and "21 April 2025" in text
     assert "has ended" not in text_of(tmp_path / "out" / "letter-0000002.pdf")
+
+
+def test_a_copy_that_is_not_from_before(office, tmp_path):
+    """By a plan that nothing ends it is known: child 7 has Oak by one in the copy, and no place in the register."""
+    town(tmp_path)
+    make(tmp_path / "early.db", [school("OAK"), child(7, name=NAMES[7])])
+    ran = office("letters", "early.db", "--csv", "out.csv", "--before", "reg.db")
+    said = "admissions-letters: reg.db is no copy from before early.db: child 7 has a place by a plan there, which nothing ends\n"
+    assert ran.returncode == 1 and ran.stderr == said and not (tmp_path / "out.csv").exists(), ran
 
 
 def test_pdf(office, tmp_path):
@@ -268,7 +278,7 @@ def test_the_template_is_the_offices(office, tmp_path):
 
 
 def test_a_letter_that_is_not_the_programs(office, tmp_path):
-    """A program that prints another letter for one child: nothing is written."""
+    """A program that prints another letter for one child: nothing is written, be it texts alone."""
     town(tmp_path)
     fake = tmp_path / "fake"
     fake.write_text(f"""#!/usr/bin/python3
@@ -286,9 +296,97 @@ while True:
     conn.close()
 """, "utf-8")
     fake.chmod(0o700)
-    ran = office("letters", "reg.db", "--csv", "out.csv", program=fake)
-    assert ran.returncode == 1 and "the letter of child 3 is not what the program prints" in ran.stderr and not (tmp_path / "out.csv").exists(), ran
-    assert office("letters", "reg.db", "texts", program=fake).returncode == 0
+    for words in (("--csv", "out"), ("out",)):
+        ran = office("letters", "reg.db", *words, program=fake)
+        assert ran.returncode == 1 and "the letter of child 3 is not what the program prints" in ran.stderr and not (tmp_path / "out").exists(), ran
+
+
+# what is changed in the document of the register for child 3, which waits at Oak at position 2 of 3 in class 2 at 30 metres, and has Elm
+CHANGES = {
+    "position": 'wish["position"] -= 1', "of": 'wish["of"] += 1', "class": 'wish["class"] += 1', "metres": 'wish["metres"] += 1', "state": 'wish["state"] = "below"; del wish["position"], wish["of"]',
+    "place": 'child["place"]["kind"] = "accepted"', "day": 'child["place"]["offered"] = "2025-03-04"', "name": 'child["name"] += "x"', "year": 'it["season"]["year"] = 2026',
+}
+
+
+@pytest.mark.parametrize("change", CHANGES)
+def test_a_register_that_is_shown_otherwise(office, tmp_path, change):
+    """A letter has all of this, so none is written where the document differs from it in anything."""
+    town(tmp_path)
+    fake = tmp_path / "fake"
+    fake.write_text(f"""#!/usr/bin/python3
+import json, os, subprocess, sys
+if sys.argv[1] != "show":
+    os.execv("{PROGRAM}", ["{PROGRAM}", *sys.argv[1:]])
+it = json.loads(subprocess.run(["{PROGRAM}", *sys.argv[1:]], capture_output=True, check=True).stdout)
+child = it["children"][2]
+wish = child["application"]["preferences"][0]
+assert (wish["class"], wish["metres"], wish["position"], wish["of"], child["place"]["school"]) == (2, 30, 2, 3, "ELM")
+{CHANGES[change]}
+print(json.dumps(it))
+""", "utf-8")
+    fake.chmod(0o700)
+    for words in (("--csv", "out"), ("out", "--child", "3")):
+        ran = office("letters", "reg.db", *words, program=fake)
+        said = f"the letter of child {1 if change == 'year' and words[0] == '--csv' else 3} is not what the program prints"
+        assert ran.returncode == 1 and said in ran.stderr and not (tmp_path / "out").exists(), ran
+
+
+def test_letters_of_a_served_register(office, tmp_path):
+    """Texts, CSV and PDF of the address, also of a site with a password, are those of the file; and so are those of a worklist. Without the password there are none."""
+    reg = town(tmp_path)
+    do(reg, [{"cmd": "accept", "child": 3, "school": "ELM"}])
+    assert office("letters", "reg.db", "file", "--csv", "file.csv", "--before", "before.db").returncode == 0
+    texts = {it.name: it.read_bytes() for it in (tmp_path / "file").iterdir()}
+    assert len(texts) == 7
+    with served.desk(reg) as address, served.site(address) as site:
+        ran = office("letters", "reg.db", "out")
+        assert ran.returncode == 1 and "it is in use" in ran.stderr and not (tmp_path / "out").exists(), ran
+        for name, words, typed in (("desk", [address], None), ("site", [site, "--user", "jane"], "secret\n")):
+            ran = office("letters", *words, name, "--csv", f"{name}.csv", "--pdf", f"{name}-pdf", "--before", "before.db", stdin=typed)
+            assert ran.returncode == 0 and ran.stdout == f"7 letters are in {name}\n7 letters are in {name}-pdf\n7 letters are in {name}.csv\n", ran
+            assert {it.name: it.read_bytes() for it in (tmp_path / name).iterdir()} == texts
+            assert (tmp_path / f"{name}.csv").read_bytes() == (tmp_path / "file.csv").read_bytes()
+            assert "position 2 of 3" in text_of(tmp_path / f"{name}-pdf" / "letter-0000003.pdf")
+        ran = office("letters", address, "some", "--only", "no-answer")
+        assert ran.returncode == 0 and sorted(it.name for it in (tmp_path / "some").iterdir()) == [f"letter-000000{it}.txt" for it in (1, 2, 4, 5)], ran
+        for words, said in ((["--user", "jane"], "status 401: sign in\n"), (["--child", "9", "--user", "jane"], "status 401: sign in\n")):
+            ran = office("letters", site, "out", *words, stdin="wrong\n")
+            assert ran.returncode == 1 and ran.stderr.endswith(said) and not (tmp_path / "out").exists(), ran
+        ran = office("letters", address, "out", "--child", "9")
+        assert ran.returncode == 1 and ran.stderr == f"admissions-letters: --child 9: {address} has no child 9\n" and not (tmp_path / "out").exists(), ran
+    ran = office("letters", "reg.db", "out", "--user", "jane", stdin="secret\n")
+    assert ran.returncode == 2 and "--user needs the address" in ran.stderr and not (tmp_path / "out").exists(), ran
+
+
+MOVE = {"cmd": "amend", "child": 4, "name": NAMES[4], "east": 40, "north": 0, "looked_after": False, "flags": [], "siblings": []}
+
+
+@pytest.mark.parametrize("commands, said", [
+    ({3: [{"cmd": "raise_pan", "school": "ELM", "pan": 5}]}, "was changed while its letters were printed: nothing was written"),
+    ({7: [{"cmd": "decline", "child": 1, "school": "ELM"}]}, "was changed while its letters were printed: nothing was written"),
+    ({3: [{**MOVE, "east": 25}], 4: [MOVE]}, "the letter of child 3 is not what the program prints"),
+])
+def test_a_served_register_that_changes_meanwhile(office, tmp_path, commands, said):
+    """Where a command comes before one of the letters nothing is written; also where it is undone at once, so that the register is the same before and after: child 4,
+    for once nearer to Oak than 3, is before it there."""
+    reg, seen = town(tmp_path), []
+
+    def meanwhile(address, path):
+        seen.append(path)
+        for number, them in commands.items():
+            if path == f"/child/{number}/letter":
+                for it in them:
+                    served.send(address, it)
+
+    with served.desk(reg) as address, served.site(address, meanwhile) as site:
+        for words in (["out"], ["--csv", "out"], ["--pdf", "out"]):
+            ran = office("letters", site, *words, "--user", "jane", stdin="secret\n")
+            assert ran.returncode == 1 and ran.stderr.count(said) == 1 and not (tmp_path / "out").exists(), ran
+            assert seen == ["/register", *(f"/child/{it}/letter" for it in NAMES), "/register"]
+            seen.clear()
+            if len(commands) == 1:
+                break
+    assert not list(tmp_path.glob("*.part-*"))
 
 
 @pytest.mark.parametrize("name, played", [("after-1.db", model_season.after_first), ("reg.db", model_season.after_second)])
@@ -498,7 +596,8 @@ def test_a_register_that_changes_meanwhile(tools, tmp_path, has_network, target,
 
 @pytest.mark.parametrize("line, said", [
     ('[ "$1" != serve ] || { echo serving elsewhere; exec sleep 600; }', "the program does not serve: it prints 'serving elsewhere\\n'"),
-    ('[ "$1" != do ] || chmod 0 "$0"', "the program does not serve: Permission denied"),
+    ('[ "$1" != show ] || chmod 0 "$0"', "the program does not serve: Permission denied"),
+    ('[ "$1" != do ] || chmod 0 "$0"', "there is no program: name it by ADMISSIONS"),
 ])
 def test_a_program_that_does_not_serve(tools, tmp_path, line, said):
     """One that prints another line and goes on is ended; one that cannot be started any more is named, in one line."""
