@@ -4,26 +4,29 @@ import io
 import os
 import re
 import sys
-from collections.abc import Mapping
+from collections.abc import Collection, Mapping, Sequence
 
 import register_files as files
 from register_files import Refused
 
 from . import book, inputs, kinds, sheet, texts
 from .model import Child, Pair
+from .rules import LIMITS
 
-MOST_LOT = 4_294_967_295
+MOST_LOT = LIMITS["number"].most
 MOST_SHOWN = 100
 # where so small a part of at least so many rows or pairs is in the other file, the sheet is of
 # other pairs
 MANY, FEW_PART = 10, 10
 NOT_TEXT = "is no text in UTF-8: save it as CSV in UTF-8"
 # the columns of a header, by the names that are understood
-COLUMNS = {"school": "school", "code": "school", "child": "child", "number": "child",
-           "name": "name", "lot": "lot"}
-# the number of a row, and its cells
-Row = tuple[int, list[str]]
-Cell = str | int | None
+COLUMNS = {
+    "school": "school", "code": "school", "child": "child", "number": "child", "name": "name",
+    "lot": "lot",
+}
+WANTED = ["school", "child", "lot"]
+# a row's number and its cells
+Numbered = tuple[int, list[str]]
 
 
 def named(name: str) -> str:
@@ -75,34 +78,37 @@ def pairs_of(name: str, school: str | None) -> list[Pair]:
     return found
 
 
-def without_end(cells: list[str]) -> list[str]:
+def without_end(cells: Sequence[str]) -> list[str]:
     """Cells without the blanks around them, and without empty ones at the end."""
-    cells = [it.strip() for it in cells]
-    while cells and not cells[-1]:
-        cells.pop()
-    return cells
+    found = [it.strip() for it in cells]
+    while found and not found[-1]:
+        found.pop()
+    return found
 
 
-def is_named(cells: list[str]) -> bool:
+def columns_in(cells: Sequence[str]) -> list[str | None]:
+    """Which column each cell of a header names."""
+    return [COLUMNS.get(it.strip().lower()) for it in cells]
+
+
+def is_named(cells: Sequence[str]) -> bool:
     """Whether a row is a header by whose names the columns are found: it has more than code, number
     and lot, or these in another order.
     """
-    names = [COLUMNS.get(it.lower()) for it in without_end(cells)]
-    return names != ["school", "child", "lot"] and {"school", "child", "lot"} <= set(names)
+    names = columns_in(without_end(cells))
+    return names != WANTED and set(WANTED) <= set(names)
 
 
-def csv_rows(name: str, text: str) -> list[Row]:
+def csv_rows(name: str, text: str) -> list[Numbered]:
     """The rows of a CSV, each with its number. Without a header that has a name column, fields are
     codes and digits, so there is one kind of separator; where none is found, it is the blank.
     """
     header = sheet.first_line(text)
     marks = [it for it in ",;\t" if it in text]
-    by_name = next((it for it in ",;\t" if is_named(next(csv.reader([header], delimiter=it), []))),
-                   None)
+    by_name = next((it for it in ",;\t" if is_named(split_by(header, it))), None)
     if by_name is None and len(marks) > 1:
-        raise Refused(f"{named(name)} has {' and '.join(map(repr, marks))} in it: save it with one"
-                      " separator")
-    # (where there is no mark, the fields of a row are told apart by blanks, in pair_apart)
+        several = " and ".join(map(repr, marks))
+        raise Refused(f"{named(name)} has {several} in it: save it with one separator")
     mark = by_name or (marks or [","])[0]
     rows = csv.reader(io.StringIO(text, newline=""), delimiter=mark, skipinitialspace=True)
     try:
@@ -111,9 +117,14 @@ def csv_rows(name: str, text: str) -> list[Row]:
         raise Refused(f"{named(name)} is no CSV: {error}") from error
 
 
-def rows_of(name: str) -> list[Row]:
-    """The rows of a sheet, each with its number, as code, number and lot, and the header if there
-    is one. Empty rows are omitted.
+def split_by(line: str, mark: str) -> list[str]:
+    """The cells of a line with a separator."""
+    return next(csv.reader([line], delimiter=mark), [])
+
+
+def rows_of(name: str) -> list[Numbered]:
+    """The rows of a sheet, each with its number, as code, number and lot, without a header. Empty
+    rows are omitted.
     """
     data = bytes_of(name)
     if data.startswith(b"PK\x03\x04") and name != "-":
@@ -123,12 +134,16 @@ def rows_of(name: str) -> list[Row]:
         rows = csv_rows(name, decoded(name, data))
     rows = [(at, cells) for at, cells in rows if without_end(cells)]
     if rows and is_named(rows[0][1]):
-        names = [COLUMNS.get(it.strip().lower()) for it in rows[0][1]]
-        places = [names.index(it) for it in ("school", "child", "lot")]
-        return [(at, without_end([cells[it] if it < len(cells) else "" for it in places]))
-                for at, cells in rows[1:]]
+        names = columns_in(rows[0][1])
+        places = [names.index(it) for it in WANTED]
+        return [(at, without_end(cells_at(cells, places))) for at, cells in rows[1:]]
     rows = [(at, pair_apart(without_end(cells))) for at, cells in rows]
     return rows[1:] if rows and is_header(rows[0][1]) else rows
+
+
+def cells_at(cells: Sequence[str], places: Sequence[int]) -> list[str]:
+    """The cells at these places; "" where a row has none."""
+    return [cells[it] if it < len(cells) else "" for it in places]
 
 
 def pair_apart(fields: list[str]) -> list[str]:
@@ -136,7 +151,7 @@ def pair_apart(fields: list[str]) -> list[str]:
     return fields[0].split() + fields[1:] if 0 < len(fields) < 3 else fields
 
 
-def is_header(fields: list[str]) -> bool:
+def is_header(fields: Sequence[str]) -> bool:
     """Whether a row has neither a child's number nor a lot. A row that is mistaken for a header
     leaves a pair without a lot.
     """
@@ -153,25 +168,27 @@ def wrong_lot(lot: str) -> str:
 class Filled:
     """The lots of a filled sheet as its rows are read: the row of each pair, and of each lot."""
 
-    def __init__(self, name: str, pairs: list[Pair]) -> None:
+    def __init__(self, name: str, pairs: Collection[Pair]) -> None:
         self.name, self.known = named(name), set(pairs)
         self.lots: dict[Pair, int] = {}
         self.rows: dict[Pair, int] = {}
-        self.drawn: dict[tuple[str, int], int] = {}
+        # by schools and lots
+        self.drawn: dict[Pair, int] = {}
 
-    def add(self, at: int, fields: list[str]) -> str:
+    def add(self, at: int, fields: Sequence[str]) -> str:
         """Reads a row, and says what is wrong with it, or "" """
         if len(fields) not in (2, 3):
             return f"has not the three fields code, number and lot: {' '.join(fields)}"
         code, number, lot = [*fields, ""][:3]
-        pair = (code, int(number) if re.fullmatch(r"[0-9]{1,9}", number) else 0)
+        pair = (code, int(number)) if re.fullmatch(r"[0-9]{1,9}", number) else None
+        is_known = pair in self.known
         if pair in self.rows:
             return f"has a pair that row {self.rows[pair]} has: {code} {number}"
-        if pair in self.known:
+        if pair and is_known:
             self.rows[pair] = at
         if len(fields) == 2:
             return f"has no lot: {code} {number}"
-        if pair not in self.known:
+        if not pair or not is_known:
             return f"is none of the pairs: {code} {number}"
         if said := wrong_lot(lot):
             return f"has a lot {said}: {lot}"
@@ -182,47 +199,48 @@ class Filled:
         return ""
 
 
-def see_other_pairs(filled: Filled, rows: list[Row], pairs: list[Pair]) -> None:
-    """Refuses a sheet of which next to no row is of the pairs."""
-    most, count = max(len(rows), len(pairs)), len(filled.rows)
-    if rows and most >= MANY and count * FEW_PART < most:
-        are = "are" if count > 1 else "is"
-        raise Refused(f"{filled.name} is a sheet of other pairs: {count or 'none'} of its"
-                      f" {texts.count(len(rows), 'row')} {are} of the"
-                      f" {texts.count(len(pairs), 'pair')}. Give the file of pairs of which the"
-                      " sheet was made")
-
-
-def lots_of(name: str, pairs: list[Pair]) -> dict[Pair, int]:
+def lots_of(name: str, pairs: Sequence[Pair]) -> dict[Pair, int]:
     """The lot of each pair. All that is wrong is reported at once."""
     filled, rows = Filled(name, pairs), rows_of(name)
-    wrong = [f"row {at} of {filled.name} {said}" for at, fields in rows
-             if (said := filled.add(at, fields))]
-    see_other_pairs(filled, rows, pairs)
-    wrong += [f"{filled.name} has no row for line {at} of the pairs: {it[0]} {it[1]}"
-              for at, it in enumerate(pairs, 1) if it not in filled.rows]
+    wrong = [f"row {at} of {filled.name} {said}"
+             for at, fields in rows if (said := filled.add(at, fields))]
+    see_pairs(filled, len(rows), len(pairs))
+    wrong += [f"{filled.name} has no row for line {at} of the pairs: {code} {number}"
+              for at, (code, number) in enumerate(pairs, 1) if (code, number) not in filled.rows]
     if len(wrong) == 1:
         raise Refused(wrong[0])
     for it in wrong[:MOST_SHOWN]:
         files.say(2, f"admissions-lots: {it}")
     if wrong:
         more = f", of which the first {MOST_SHOWN} are above" if len(wrong) > MOST_SHOWN else ""
-        count = texts.count(len(wrong), "error")
-        raise Refused(f"correct {count} in {filled.name} first{more}")
+        raise Refused(f"correct {texts.count(len(wrong), 'error')} in {filled.name} first{more}")
     return filled.lots
 
 
-def write(name: str, pairs: list[Pair], children: Mapping[int, Child] | None = None) -> None:
+def see_pairs(filled: Filled, rows: int, pairs: int) -> None:
+    """Refuses a sheet of other pairs, by how many rows and pairs there are."""
+    near, most = len(filled.rows), max(rows, pairs)
+    if rows and most >= MANY and near * FEW_PART < most:
+        count = f"{near or 'none'} of its {texts.count(rows, 'row')} {'are' if near > 1 else 'is'}"
+        raise Refused(f"{filled.name} is a sheet of other pairs: {count} of the"
+                      f" {texts.count(pairs, 'pair')}. Give the file of pairs of which the sheet"
+                      " was made")
+
+
+def write(name: str, pairs: Sequence[Pair], children: Mapping[int, Child] | None = None) -> None:
     """Writes the sheet for the supervisor: a workbook, or by another ending a CSV. Where children
     are given, with their names.
     """
-    names = {it: [children[it].name] for _, it in pairs} if children else {}
-    header: list[Cell] = ["school", "child", *(["name"] if names else []), "lot"]
+    header = ["school", "child", *(["name"] if children else []), "lot"]
+    rows: list[list[book.Value]] = [
+        [code, number, *([children[number].name] if children else []), None]
+        for code, number in pairs
+    ]
     if os.path.splitext(name)[1].lower() == ".xlsx":
-        rows: list[list[Cell]] = [[code, it, *names.get(it, []), None] for code, it in pairs]
-        title = "a lot for each row: a whole number, no two equal at one school"
-        page = book.Page("lots", title, [header, *rows], {len(header): MOST_LOT})
+        purpose = "a lot for each row: a whole number, no two equal at one school"
+        page = book.Page("lots", purpose, [header, *rows], {len(header): MOST_LOT})
         sheet.write_new(name, book.data([page], "Lots"))
-        return
-    plain = ([code, it, *map(texts.for_spreadsheet, names.get(it, [])), ""] for code, it in pairs)
-    sheet.write_new(name, b"\xef\xbb\xbf" + sheet.csv_bytes([header, *plain]))
+    else:
+        plain = [[texts.for_spreadsheet(it) if isinstance(it, str) else it for it in row]
+                 for row in rows]
+        sheet.write_new(name, b"\xef\xbb\xbf" + sheet.csv_bytes([header, *plain]))

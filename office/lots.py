@@ -44,9 +44,10 @@ from register_files import Refused
 
 from . import days, lot_sheets, model, next_draw, texts
 from .model import Pair, Reader
+from .rules import LIMITS
 from .run import put
 
-MOST_DRAW = 10_000
+MOST_DRAW = LIMITS["draws"].most
 
 
 def arguments(reader: argparse.ArgumentParser) -> None:

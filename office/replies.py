@@ -1,23 +1,28 @@
 """A sheet of families' answers, or a worklist, as a file of commands: a line for each row."""
 import json
 import os
+from collections.abc import Sequence
 from typing import Any
 
 from register_files import Refused
 
 from . import commands, fields, inputs, kinds, sheet, texts
+from .sheet import Row
 
 # where so many rows, or more, have so small a part that is nearly right, the whole file is another
 MANY_ROWS, FEW_PART = 10, 10
 # what a row may say of itself, and what --as may say of all rows
-ANSWERS = {"accept": "accept", "decline": "decline", "leave_list": "leave_list",
-           "leave": "leave_list", "name_plan": "name_plan", "plan": "name_plan"}
-KINDS = ("accept", "decline", "leave_list", "remind", "lapse")
+ANSWERS = {
+    "accept": "accept", "decline": "decline", "leave_list": "leave_list", "leave": "leave_list",
+    "name_plan": "name_plan", "plan": "name_plan",
+}
 NAMED_KINDS = ("accept", "decline", "leave", "leave_list", "remind", "lapse")
 DATED = ("remind", "lapse")
-# where a row says what it is, which child and which school
-Places = tuple[int | None, int, int]
+# the commands that a sheet makes
+MADE = (*ANSWERS.values(), *DATED)
 Command = dict[str, Any]
+# where the columns reply, child and school are; a sheet of which --as says what it is has no reply
+Columns = tuple[int | None, int, int]
 
 
 def is_sheet(name: str) -> bool:
@@ -25,66 +30,74 @@ def is_sheet(name: str) -> bool:
     return name.lower().endswith((".csv", ".xlsx"))
 
 
-def places_of(header: list[str], kind: str | None) -> tuple[Places, bool]:
+def columns_of(header: Sequence[str], kind: str | None) -> tuple[Columns, bool]:
     """Where the columns are: by a header, or in the order answer, child, school, name. Whether
     there is a header.
     """
-    names = [fields.trimmed(it).lower() for it in header]
+    names = names_in(header)
     if {"child", "school"} <= set(names):
         what = next((names.index(it) for it in kinds.REPLY_COLUMNS if it in names), None)
         return (what, names.index("child"), names.index("school")), True
     return ((None, 0, 1) if kind else (0, 1, 2)), False
 
 
-def cells_of(row: sheet.Row, places: Places) -> list[str]:
-    """The cells of a row at these places; one that it has not is empty."""
-    return [fields.trimmed(row.cells[at]) if at is not None and at < len(row.cells) else ""
-            for at in places]
+def names_in(header: Sequence[str]) -> list[str]:
+    """The names of columns, to be compared."""
+    return [fields.trimmed(it).lower() for it in header]
 
 
-def command_of(row: sheet.Row, places: Places, kind: str | None,
-               day: str) -> tuple[Command, list[str]]:
-    """The command of a row, and what is wrong with it."""
-    what, child, school = cells_of(row, places)
+def cell(row: Row, at: int | None) -> str:
+    """A cell of a row, or "" where there is none."""
+    return row.cells[at] if at is not None and at < len(row.cells) else ""
+
+
+def command_of(
+    row: Row, columns: Columns, kind: str | None, day: str
+) -> tuple[Command, list[str]]:
+    """The command of a row, and what is wrong with it. Where anything is, there is no command."""
+    what, child, school = (fields.trimmed(cell(row, it)) for it in columns)
     found = kind or ANSWERS.get(what.lower())
     number, code = fields.child(child, None), school.upper()
     wrong = []
     if not found:
-        wrong.append((what, "accept, decline, leave or plan"))
+        wrong.append(f"{texts.shown(what)}: expected accept, decline, leave or plan")
     if number.expected:
-        wrong.append((child, number.expected))
+        wrong.append(f"{texts.shown(child)}: expected {number.expected}")
     if not texts.is_code(code):
-        wrong.append((school, "the code of a school (1 to 8 of A-Z and 0-9)"))
+        wrong.append(f"{texts.shown(school)}: expected the code of a school (1 to 8 of A-Z and"
+                     " 0-9)")
     if wrong:
-        return {}, [f"row {row.number}, {texts.shown(it)}: expected {expected}"
-                    for it, expected in wrong]
-    dated = {"day": day} if found in DATED else {}
-    return {"cmd": found, "child": int(number.text), "school": code, **dated}, []
+        return {}, [f"row {row.number}, {it}" for it in wrong]
+    command = {"cmd": found, "child": int(number.text), "school": code}
+    return (command | {"day": day} if found in DATED else command), []
 
 
-def is_near(row: sheet.Row, places: Places, kind: str | None) -> bool:
+def is_near(row: Row, columns: Columns, kind: str | None) -> bool:
     """Whether a row has a reply, or what else a command needs, so that it may be meant as one."""
-    what, child, school = cells_of(row, places)
+    what, child, school = (fields.trimmed(cell(row, it)) for it in columns)
     if not kind and what.lower() in ANSWERS:
         return True
-    return not fields.child(child, None).expected and bool(texts.is_code(school.upper()))
+    return not fields.child(child, None).expected and texts.is_code(school.upper())
 
 
-def see_replies(name: str, rows: list[sheet.Row], places: Places, has_header: bool,
-                kind: str | None) -> None:
-    """Refuses as a whole what is no sheet of replies and no worklist, or has no child."""
-    if said := kinds.of_columns(rows[0].cells, kind):
+def see_replies(
+    name: str, first: Row, below: list[Row], columns: Columns, kind: str | None
+) -> None:
+    """Refuses as a whole what is no sheet of replies and no worklist, or has no child. `first` is
+    its first row, and `below` are those that are no header.
+    """
+    if said := kinds.of_columns(first.cells, kind):
         raise Refused(f"nothing was sent: {name} is {said}")
-    below = rows[has_header:]
     if not below:
         raise Refused(f"nothing was sent: {name} has no child, and so there is nothing to send")
-    near, count = sum(is_near(it, places, kind) for it in below), len(below)
-    if near == 0 and count > 1 or count >= MANY_ROWS and near * FEW_PART < count:
+    near = sum(is_near(it, columns, kind) for it in below)
+    is_other = near == 0 and len(below) > 1
+    if is_other or len(below) >= MANY_ROWS and near * FEW_PART < len(below):
         form = "a child's number and a school's code, as 23,ELM"
         if not kind:
             form = "a reply, a child's number and a school's code, as decline,23,ELM,Bo Bell"
-        raise Refused(f"nothing was sent: {name} seems to be another file: {near or 'none'} of its"
-                      f" {count:,} rows {'have' if near > 1 else 'has'} {form}")
+        have = f"{near or 'none'} of its {len(below):,} rows {'have' if near > 1 else 'has'}"
+        raise Refused(f"nothing was sent: {name} seems to be another file: {have} {form}")
 
 
 def commands_of(name: str, kind: str | None, day: str) -> tuple[bytes, list[str] | None]:
@@ -94,27 +107,27 @@ def commands_of(name: str, kind: str | None, day: str) -> tuple[bytes, list[str]
     rows = sheet.read(name).rows
     if not rows:
         raise Refused(f"nothing was sent: {name} has no row, and so no child")
-    places, has_header = places_of(rows[0].cells, kind)
-    see_replies(name, rows, places, has_header, kind)
-    found = [command_of(row, places, kind, day) for row in rows[has_header:]]
+    columns, has_header = columns_of(rows[0].cells, kind)
+    below = rows[1:] if has_header else rows
+    see_replies(name, rows[0], below, columns, kind)
+    found = [command_of(row, columns, kind, day) for row in below]
     wrong = [it for _, them in found for it in them]
-    for it in wrong:
-        print(it)
+    for said in wrong:
+        print(said)
     if wrong:
         count = texts.count(len(wrong), "error")
         raise Refused(f"nothing was sent: correct {count} in {name} first")
-    names = names_of(rows, has_header, kind)
+    at = name_column(rows[0].cells, kind, has_header)
+    names = [cell(row, at).strip() for row in below]
     return b"".join(line_of(it) for it, _ in found), names if any(names) else None
 
 
-def names_of(rows: list[sheet.Row], has_header: bool, kind: str | None) -> list[str]:
-    """The name that each row has, or ""."""
-    header = [fields.trimmed(it).lower() for it in rows[0].cells]
-    at = None if kind else 3
+def name_column(header: Sequence[str], kind: str | None, has_header: bool) -> int | None:
+    """Where the column of the names is, if there is one."""
     if has_header:
-        at = header.index("name") if "name" in header else None
-    return [row.cells[at].strip() if at is not None and at < len(row.cells) else ""
-            for row in rows[has_header:]]
+        names = names_in(header)
+        return names.index("name") if "name" in names else None
+    return None if kind else 3
 
 
 def line_of(command: Command) -> bytes:
@@ -127,16 +140,20 @@ def is_made(data: bytes) -> bool:
     same name is kept.
     """
     found = [commands.read(it) for it in data.splitlines()]
-    made = (*KINDS, "name_plan")
-    if any(commands.wrong_field(it) or it["cmd"] not in made for it in found):
-        return False
-    return data == b"".join(map(line_of, found))
+    return all(map(is_made_command, found)) and data == b"".join(map(line_of, found))
+
+
+def is_made_command(found: Any) -> bool:
+    """Whether a value is a command that a sheet makes."""
+    is_one = isinstance(found, dict) and found.get("cmd") in MADE
+    return is_one and not commands.wrong_field(found)
 
 
 def was_sent(stem: str) -> bool:
     """Whether anything of a file was sent: there are answers of it, or of an interrupted run."""
+    start = os.path.basename(stem)
     ends = (".answers", ".interrupted.answers", ".answers.part-")
-    starts = tuple(os.path.basename(stem) + it for it in ends)
+    starts = tuple(start + end for end in ends)
     return any(it.startswith(starts) for it in os.listdir(os.path.dirname(stem) or "."))
 
 

@@ -211,14 +211,15 @@ def questions(lines: list[Line], reg: Register, given: argparse.Namespace,
 
 def name_risks(lines: list[Line], reg: Register, given: argparse.Namespace) -> list[risks.Risk]:
     """Answers to which a sheet has another name than the register."""
-    names_for: Callable[[Line], set[str]]
-    if given.names:
-        names = risks.names_of(given.names)
-        names_for = lambda it: names.get(it.command["child"], set())  # noqa: E731
-    elif given.row_names:
-        names_for = lambda it: {given.row_names[it.number - 1]} - {""}  # noqa: E731
-    else:
+    if not (given.names or given.row_names):
         return []
+    by_child = risks.names_of(given.names) if given.names else {}
+
+    def names_for(line: Line) -> set[str]:
+        if given.names:
+            return by_child.get(line.command["child"], set())
+        return {given.row_names[line.number - 1]} - {""}
+
     return list(risks.name_risks(lines, reg, names_for))
 
 
