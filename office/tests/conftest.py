@@ -8,110 +8,150 @@ import pathlib
 import shutil
 import subprocess
 import sys
+from collections.abc import Iterable
+from typing import Any, Protocol
 
 import pytest
 
 sys.dont_write_bytecode = True
 ROOT = pathlib.Path(__file__).resolve().parents[2]
 sys.path[:0] = [str(ROOT), str(ROOT / "tools")]
+SEASON = ROOT / "examples" / "season"
 BUILT = ROOT / "bin" / "admissions"
-PROGRAM = os.environ.get("ADMISSIONS") or (str(BUILT) if BUILT.exists() else shutil.which("admissions") or "")
+FOUND = str(BUILT) if BUILT.exists() else shutil.which("admissions")
+PROGRAM = os.environ.get("ADMISSIONS") or FOUND or ""
 HEADER = "child,name,east,north,looked_after,flags,siblings,day,preferences,present"
+OFFICE = ("audit", "check", "figures", "letters", "lots", "query", "send", "trial", "why")
+Command = dict[str, Any]
+Ran = subprocess.CompletedProcess[str]
 
 
-def pytest_sessionstart(session):
+class Office(Protocol):
+    """Runs a command in the folder of a test: office("check", "a.csv"). It returns its status,
+    output and errors. The command "" is the program.
+    """
+
+    def __call__(self, name: str, *given: object, stdin: str | None = None,
+                 program: object = None) -> Ran: ...
+
+
+def pytest_sessionstart(session: pytest.Session) -> None:
     """Without a program nothing can be tested."""
     if not PROGRAM:
         pytest.exit("there is no program: build it, or name it by ADMISSIONS", 2)
 
 
-def pytest_terminal_summary(terminalreporter):
-    """Prints what a test that passed has recorded: what it took, where this machine may not have another."""
+def pytest_terminal_summary(terminalreporter: Any) -> None:
+    """Prints what a test that passed has recorded: what it took, where this machine may not have
+    another.
+    """
     for it in terminalreporter.getreports("passed"):
         for name, value in it.user_properties:
             terminalreporter.write_line(f"{it.nodeid.rpartition('::')[2]}: {name}: {value}")
 
 
 @pytest.fixture(scope="session", name="tools")
-def tools_fixture(tmp_path_factory):
+def tools_fixture(tmp_path_factory: pytest.TempPathFactory) -> pathlib.Path:
     """A folder with the program and the commands under their names."""
     folder = tmp_path_factory.mktemp("tools")
     os.symlink(os.path.realpath(PROGRAM), folder / "admissions")
-    for name in ("audit", "check", "figures", "letters", "lots", "query", "send", "trial", "why"):
+    for name in OFFICE:
         os.symlink(ROOT / "office" / "command", folder / f"admissions-{name}")
-    for name in ("backup",):
-        os.symlink(ROOT / "tools" / name, folder / f"admissions-{name}")
+    os.symlink(ROOT / "tools" / "backup", folder / "admissions-backup")
     return folder
 
 
 @pytest.fixture(name="office")
-def office_fixture(tools, tmp_path):
-    """Runs a command in the folder of a test: office("check", "a.csv") with its status, output and errors."""
+def office_fixture(tools: pathlib.Path, tmp_path: pathlib.Path) -> Office:
+    """The commands, in the folder of a test."""
 
-    def run(name, *given, stdin=None, program=None):
-        words = [str(tools / (f"admissions-{name}" if name else "admissions")), *map(str, given)]
-        environment = {**os.environ, "PATH": f"{tools}:{os.environ['PATH']}", "ADMISSIONS": str(program or tools / "admissions")}
-        return subprocess.run(words, cwd=tmp_path, input=stdin, capture_output=True, text=True, env=environment, timeout=300, check=False)
+    def run(name: str, *given: object, stdin: str | None = None, program: object = None) -> Ran:
+        command = tools / (f"admissions-{name}" if name else "admissions")
+        environment = {**os.environ, "PATH": f"{tools}:{os.environ['PATH']}",
+                       "ADMISSIONS": str(program or tools / "admissions")}
+        return subprocess.run([str(command), *map(str, given)], cwd=tmp_path, input=stdin,
+                              capture_output=True, text=True, env=environment, timeout=300,
+                              check=False)
 
     return run
 
 
-def make(path, commands, year="2025"):
-    """A new register with these commands done."""
+def make(path: pathlib.Path, commands: Iterable[Command], year: str = "2025") -> list[Command]:
+    """A new register with these commands done, and the answers."""
     subprocess.run([PROGRAM, "init", path, "secondary", year], check=True)
     return do(path, commands)
 
 
-def do(path, commands):
+def do(path: pathlib.Path, commands: Iterable[Command]) -> list[Command]:
     """The answers to commands, each of which must be done."""
-    ran = subprocess.run([PROGRAM, "do", path], input="".join(json.dumps(it) + "\n" for it in commands), capture_output=True, text=True, check=False)
-    answers = [json.loads(it) for it in ran.stdout.splitlines()]
-    assert len(answers) == len(commands) and all(it.get("done") for it in answers), (ran.stderr, [it for it in zip(commands, answers) if not it[1].get("done")])
+    given = list(commands)
+    lines = "".join(json.dumps(it) + "\n" for it in given)
+    ran = subprocess.run([PROGRAM, "do", path], input=lines, capture_output=True, text=True,
+                         check=False)
+    answers: list[Command] = [json.loads(it) for it in ran.stdout.splitlines()]
+    wrong = [it for it in zip(given, answers) if not it[1].get("done")]
+    assert len(answers) == len(given) and not wrong, (ran.stderr, wrong)
     return answers
 
 
-def school(code, pan=2, east=0, criteria=(), name=None):
+def school(code: str, pan: int = 2, east: int = 0, criteria: Iterable[str] = (),
+           name: str | None = None) -> Command:
     """The command of a school."""
-    return {"cmd": "add_school", "school": code, "name": name or f"{code} School", "pan": pan, "east": east, "north": 0, "criteria": list(criteria)}
+    return {"cmd": "add_school", "school": code, "name": name or f"{code} School", "pan": pan,
+            "east": east, "north": 0, "criteria": list(criteria)}
 
 
-def child(number, east=100, name=None, **more):
+def child(number: int, east: int = 100, name: str | None = None, **more: object) -> Command:
     """The command of a child."""
-    return {"cmd": "add_child", "child": number, "name": name or f"Child {number}", "east": east, "north": 0, "looked_after": False, "flags": [], "siblings": [], **more}
+    return {"cmd": "add_child", "child": number, "name": name or f"Child {number}", "east": east,
+            "north": 0, "looked_after": False, "flags": [], "siblings": [], **more}
 
 
-def apply(number, preferences, day="2024-10-20"):
+def apply(number: int, preferences: list[str], day: str = "2024-10-20") -> Command:
     """The command of an application."""
     return {"cmd": "apply", "child": number, "day": day, "preferences": preferences}
 
 
+def run_in_season(*words: object, given: bytes | None = None) -> None:
+    """Runs the program in the folder of the example season."""
+    subprocess.run([PROGRAM, *map(str, words)], cwd=SEASON, check=True, stdout=subprocess.DEVNULL,
+                   input=given)
+
+
+def do_file(path: pathlib.Path, name: str) -> None:
+    """Sends a file of the example season."""
+    run_in_season("do", path, given=(SEASON / name).read_bytes())
+
+
 @pytest.fixture(scope="session", name="season")
-def season_fixture(tmp_path_factory):
-    """The example season, played by the program: copies from before and after each of its rounds."""
-    folder, source = tmp_path_factory.mktemp("season"), ROOT / "examples" / "season"
-    run = lambda *words, given=None: subprocess.run([PROGRAM, *words], cwd=source, check=True, stdout=subprocess.DEVNULL, input=given)  # noqa: E731
+def season_fixture(tmp_path_factory: pytest.TempPathFactory) -> pathlib.Path:
+    """The example season, played by the program: copies from before and after each of its rounds.
+    """
+    folder = tmp_path_factory.mktemp("season")
     reg = folder / "reg.db"
-    run("init", reg, "secondary", "2025")
-    send = lambda name: run("do", reg, given=(source / name).read_bytes())  # noqa: E731
-    send("schools.jsonl")
-    run("import", reg, "applications.csv")
-    send("plans.jsonl")
+    run_in_season("init", reg, "secondary", "2025")
+    do_file(reg, "schools.jsonl")
+    run_in_season("import", reg, "applications.csv")
+    do_file(reg, "plans.jsonl")
     shutil.copy(reg, folder / "before-1.db")
-    send("first_round.jsonl")
+    do_file(reg, "first_round.jsonl")
     shutil.copy(reg, folder / "after-1.db")
-    send("answers.jsonl")
-    send("summer.jsonl")
+    do_file(reg, "answers.jsonl")
+    do_file(reg, "summer.jsonl")
     shutil.copy(reg, folder / "before-2.db")
-    send("second_round.jsonl")
+    do_file(reg, "second_round.jsonl")
     return folder
 
 
-TOWN = [school("OAK", pan=1), school("ELM", pan=2, east=500), child(1, name="Ann Abel", present="PRIM7"), child(2, name="Bo Bell"), apply(1, ["OAK", "ELM"]),
-    apply(2, ["OAK", "ELM"])]
+TOWN = [
+    school("OAK", pan=1), school("ELM", pan=2, east=500),
+    child(1, name="Ann Abel", present="PRIM7"), child(2, name="Bo Bell"),
+    apply(1, ["OAK", "ELM"]), apply(2, ["OAK", "ELM"]),
+]
 
 
 @pytest.fixture(name="reg")
-def reg_fixture(tmp_path):
+def reg_fixture(tmp_path: pathlib.Path) -> pathlib.Path:
     """A register with two schools and two children that applied."""
     make(tmp_path / "reg.db", TOWN)
     return tmp_path / "reg.db"

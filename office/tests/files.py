@@ -3,41 +3,79 @@ import datetime
 import pathlib
 import re
 import sqlite3
+from collections.abc import Collection, Iterable, Mapping, Sequence
+from typing import Any
 
 ROOT = pathlib.Path(__file__).resolve().parents[2]
-TABLES = re.findall(r"^CREATE TABLE .*$", (ROOT / "docs" / "FORMATS.md").read_text("utf-8"), re.MULTILINE)
+FORMATS = (ROOT / "docs" / "FORMATS.md").read_text("utf-8")
+TABLES = re.findall(r"^CREATE TABLE .*$", FORMATS, re.MULTILINE)
+KINDS = {"offered": 1, "accepted": 2, "plan": 3}
+# a school or a child as the commands have it
+Command = Mapping[str, Any]
+# a draw: its day, the school of each child or None, the lots by school and child, and the children
+# with a new offer
+Draw = tuple[str, Mapping[int, str | None], Mapping[tuple[str, int], int], Collection[int]]
 
 
-def number(day):
+def number(day: str) -> int:
     """A day as files have it."""
     return (datetime.date.fromisoformat(day) - datetime.date(1970, 1, 1)).days
 
 
-def write(path, schools, children, lists, late=(), places=(), left=(), draws=()):
-    """A register of secondary entry in 2025, of commands in the form of bench/questions. A draw is (day, {child: school or None}, {(school, child): lot}, fresh)."""
+def write(
+    path: pathlib.Path,
+    schools: Mapping[str, Command],
+    children: Mapping[int, Command],
+    lists: Mapping[int, Sequence[str]],
+    late: Collection[int] = (),
+    places: Mapping[int, tuple[str, str]] | None = None,
+    left: Iterable[tuple[int, str]] = (),
+    draws: Sequence[Draw] = (),
+) -> None:
+    """A register of secondary entry in 2025. A place is a school and "offered", "accepted" or
+    "plan".
+    """
     path.unlink(missing_ok=True)
     conn = sqlite3.connect(path)
     # (these files need not outlive a power loss)
     conn.execute("PRAGMA synchronous = OFF")
     for it in TABLES:
         conn.execute(it)
-    conn.execute("INSERT INTO meta VALUES (1, 2, 2, 2025, '', ?)", (len(draws),))
-    for it in schools.values():
-        conn.execute("INSERT INTO school VALUES (?, ?, ?, ?, ?, ?)", (it["school"], it["name"], it["pan"], it["east"], it["north"], ";".join(it["criteria"])))
-    for it in children.values():
-        flags = sum(1 << flag for flag in set(it["flags"]))
-        conn.execute("INSERT INTO child VALUES (?, ?, ?, ?, ?, ?, ?)", (it["child"], it["name"], it["east"], it["north"], int(it["looked_after"]), flags, ";".join(it["siblings"])))
-        if it.get("present"):
-            conn.execute("INSERT INTO present VALUES (?, 0, ?)", (it["child"], it["present"]))
-    for child, listed in lists.items():
-        conn.execute("INSERT INTO application VALUES (?, ?, ?)", (child, number("2024-11-20" if child in late else "2024-10-31"), ";".join(listed)))
-    for child, (school, kind) in dict(places).items():
+    insert(conn, "meta", [(1, 2, 2, 2025, "", len(draws))])
+    insert(conn, "school", (
+        (it["school"], it["name"], it["pan"], it["east"], it["north"], ";".join(it["criteria"]))
+        for it in schools.values()
+    ))
+    insert(conn, "child", map(row_of_child, children.values()))
+    present = ((it["child"], it.get("present")) for it in children.values())
+    insert(conn, "present", ((child, 0, school) for child, school in present if school))
+    insert(conn, "application", (
+        (child, number("2024-11-20" if child in late else "2024-10-31"), ";".join(listed))
+        for child, listed in lists.items()
+    ))
+    for child, (school, kind) in (places or {}).items():
         day = number("2025-03-03") if kind == "offered" else None
-        conn.execute("INSERT INTO place VALUES (?, ?, ?, ?, NULL)", (child, school, {"offered": 1, "accepted": 2, "plan": 3}[kind], day))
-    conn.executemany("INSERT INTO left_list VALUES (?, ?)", sorted(left))
-    for at, (day, outcomes, lots, fresh) in enumerate(draws, 1):
-        conn.execute("INSERT INTO draw VALUES (?, ?, NULL, ?)", (at, at, number(day)))
-        conn.executemany("INSERT INTO offer VALUES (?, ?, ?, ?)", [(at, child, school, int(child in fresh)) for child, school in outcomes.items()])
-        conn.executemany("INSERT INTO lot VALUES (?, ?, ?, ?)", [(at, school, child, lot) for (school, child), lot in lots.items()])
+        insert(conn, "place", [(child, school, KINDS[kind], day, None)])
+    insert(conn, "left_list", sorted(left))
+    for at, (day_of, outcomes, lots, fresh) in enumerate(draws, 1):
+        insert(conn, "draw", [(at, at, None, number(day_of))])
+        insert(conn, "offer", (
+            (at, child, school, int(child in fresh)) for child, school in outcomes.items()
+        ))
+        insert(conn, "lot", ((at, school, child, lot) for (school, child), lot in lots.items()))
     conn.commit()
     conn.close()
+
+
+def insert(conn: sqlite3.Connection, table: str, rows: Iterable[Sequence[object]]) -> None:
+    """Adds rows to a table."""
+    for row in rows:
+        conn.execute(f"INSERT INTO {table} VALUES ({', '.join('?' for _ in row)})", row)
+
+
+def row_of_child(it: Command) -> tuple[object, ...]:
+    """The row of a child."""
+    flags = sum(1 << flag for flag in set(it["flags"]))
+    siblings = ";".join(it["siblings"])
+    return (it["child"], it["name"], it["east"], it["north"], int(it["looked_after"]), flags,
+            siblings)
