@@ -6,7 +6,7 @@ import datetime
 
 from register_files import Refused
 
-from . import days, ranking
+from . import criteria, days
 from .model import OFFERED, PLAN, WAITS, Application, Place, Preference, Register, School
 from .register_lists import ANSWER_DAYS
 
@@ -162,7 +162,7 @@ class Writer:
 
     def words(self, school: School, number: int) -> str:
         """What a class of a school means."""
-        found: str = ranking.in_words(school, number, self.flags)
+        found: str = criteria.in_words(school, number, self.flags)
         return found
 
     def listed(self, code: str, child: int, at: int, found: Preference) -> Listed:
@@ -267,8 +267,9 @@ def row_of(letter: Letter) -> list[Cell]:
     cells: list[Cell] = []
     for it in COLUMNS:
         value: Cell = getattr(letter, IN_WORDS.get(it, it))
-        is_in_words = it in IN_WORDS and isinstance(value, datetime.date)
-        cells.append(days.in_words(value) if is_in_words else value)
+        if it in IN_WORDS and isinstance(value, datetime.date):
+            value = days.in_words(value)
+        cells.append(value)
     for wait in letter.waits:
         cells += [wait.code, wait.name, wait.position, wait.of, wait.criterion, wait.metres]
     return cells + [None] * (len(WAIT_COLUMNS) * (MOST_WAITS - len(letter.waits)))

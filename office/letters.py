@@ -73,7 +73,7 @@ from collections.abc import Callable, Iterator, Sequence
 import register_files as files
 from register_files import Refused
 
-from . import letter_fields, letter_pdf, model, printed, ranking, senders, sheet, texts, worklists
+from . import criteria, letter_fields, letter_pdf, model, printed, senders, sheet, texts, worklists
 from .letter_fields import Cell, Letter
 from .model import Register
 
@@ -193,7 +193,7 @@ def worked_out(given: argparse.Namespace, now: Register, children: list[int]) ->
         model.same_season(before, now)
     if given.pdf and not now.draws:
         raise Refused(f"{given.file} had no round yet, so there is no place to write of")
-    writer = letter_fields.Writer(now, before, ranking.flags_of(given.flags), given.date)
+    writer = letter_fields.Writer(now, before, criteria.flags_of(given.flags), given.date)
     return [writer.letter(it) for it in children]
 
 
@@ -307,7 +307,7 @@ def arguments(reader: argparse.ArgumentParser) -> None:
     add("--copy-template", metavar="FILE", help="write the template that comes with the program, to"
         " be edited")
     add("--addresses", metavar="FILE", help="the lines of the addresses, by child")
-    add("--flags", metavar="FILE", help=ranking.FLAGS_HELP)
+    add("--flags", metavar="FILE", help=criteria.FLAGS_HELP)
     add("--before", metavar="COPY", help="a copy from before the last round, fill or withdrawals,"
         " to name the places that ended")
     add("--date", metavar="D", type=worklists.read_day, default=datetime.date.today(),

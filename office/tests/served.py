@@ -8,7 +8,8 @@ import pathlib
 import socket
 import subprocess
 import threading
-from collections.abc import Callable, Iterator
+from collections.abc import Callable, Iterable, Iterator
+from typing import Any
 
 from conftest import PROGRAM
 
@@ -18,8 +19,8 @@ Meanwhile = Callable[[str, str], object]
 
 
 @contextlib.contextmanager
-def desk(path: pathlib.Path) -> Iterator[str]:
-    """The address at which the program serves a register."""
+def served(path: pathlib.Path | str) -> Iterator[tuple[str, subprocess.Popen[str]]]:
+    """The address at which the program serves a register, and its run."""
     with socket.socket() as held:
         # (a port that is bound so is given to nobody else, and the program can listen on it)
         held.setsockopt(socket.SOL_SOCKET, socket.SO_REUSEADDR, 1)
@@ -29,17 +30,20 @@ def desk(path: pathlib.Path) -> Iterator[str]:
         with subprocess.Popen(words, stdout=subprocess.PIPE, text=True) as run:
             try:
                 assert run.stdout and run.stdout.readline() == f"serving on 127.0.0.1:{port}\n"
-                yield f"http://127.0.0.1:{port}"
+                yield f"http://127.0.0.1:{port}", run
             finally:
                 run.terminate()
+                run.wait()
 
 
-def send(address: str, command: dict[str, object]) -> None:
-    """Sends a command, which must be done, to the desk at an address."""
+def do_over(address: str, commands: Iterable[dict[str, Any]]) -> bool:
+    """Sends commands to a register that is served, each of which must be done."""
     conn = http.client.HTTPConnection(address.removeprefix("http://"))
-    conn.request("POST", "/command", json.dumps(command))
-    assert json.loads(conn.getresponse().read())["done"]
-    conn.close()
+    for it in commands:
+        conn.request("POST", "/command", json.dumps(it))
+        assert json.loads(conn.getresponse().read())["done"], it
+        conn.close()
+    return True
 
 
 @contextlib.contextmanager

@@ -12,7 +12,7 @@ import hostile
 import openpyxl
 import pytest
 from conftest import HEADER, PROGRAM, apply, child, do, make, school
-from serving import served
+from served import served
 
 from office import check, model, sheet, texts
 

@@ -12,7 +12,7 @@ import pytest
 from conftest import apply, child, do, make, school
 from figures_page import Page, beside_model, table
 from files import write
-from serving import do_over, served
+from served import do_over, served
 
 from office import charts, figure_counts, model, rounds
 from office.run import Refused

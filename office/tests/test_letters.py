@@ -338,7 +338,7 @@ def test_letters_of_a_served_register(office, tmp_path):
     assert office("letters", "reg.db", "file", "--csv", "file.csv", "--before", "before.db").returncode == 0
     texts = {it.name: it.read_bytes() for it in (tmp_path / "file").iterdir()}
     assert len(texts) == 7
-    with served.desk(reg) as address, served.site(address) as site:
+    with served.served(reg) as (address, _), served.site(address) as site:
         ran = office("letters", "reg.db", "out")
         assert ran.returncode == 1 and "it is in use" in ran.stderr and not (tmp_path / "out").exists(), ran
         for name, words, typed in (("desk", [address], None), ("site", [site, "--user", "jane"], "secret\n")):
@@ -376,9 +376,9 @@ def test_a_served_register_that_changes_meanwhile(office, tmp_path, commands, sa
         for number, them in commands.items():
             if path == f"/child/{number}/letter":
                 for it in them:
-                    served.send(address, it)
+                    served.do_over(address, [it])
 
-    with served.desk(reg) as address, served.site(address, meanwhile) as site:
+    with served.served(reg) as (address, _), served.site(address, meanwhile) as site:
         for words in (["out"], ["--csv", "out"], ["--pdf", "out"]):
             ran = office("letters", site, *words, "--user", "jane", stdin="secret\n")
             assert ran.returncode == 1 and ran.stderr.count(said) == 1 and not (tmp_path / "out").exists(), ran

@@ -8,7 +8,7 @@ import openpyxl
 import pytest
 from conftest import PROGRAM
 from seasons import Town, file_of
-from serving import served
+from served import served
 
 from office import model
 

@@ -131,7 +131,7 @@ def child_rows(season, number):
 
 def test_children_and_places_beside_the_model(query, tmp_path):
     """Each child and its place in each list that has it, of seasons in which plans end applications; all that may have become of a school is there."""
-    seen = collections.Counter()
+    seen: collections.Counter[str] = collections.Counter()
     for seed in range(6):
         season = played(seed).season
         reg = file_of(season, tmp_path / "reg.db")
@@ -212,7 +212,7 @@ def equal_at_limit(season):
 
 def test_draws_beside_the_model(query, tmp_path):
     """Lots, preferences, the last that was offered and where only a lot decided, of seasons in which plans have ended applications since."""
-    seen = collections.Counter()
+    seen: collections.Counter[str] = collections.Counter()
     for seed in range(SEEDS):
         season = played(seed).season
         reg = file_of(season, tmp_path / "reg.db")
@@ -220,9 +220,9 @@ def test_draws_beside_the_model(query, tmp_path):
         for draw, (lots, has, _) in enumerate(season.drawn, 1):
             wanted = sorted([code, lot, it, season.children[it]["name"], has.get(it)] for (code, it), lot in lots.items())
             assert rows_in(register, "lots", draw=draw) == text(wanted), (seed, draw)
-        for name, wanted in (("preferences", preferences), ("last-offered", last_offered), ("equal-at-limit", equal_at_limit)):
+        for name, expected in (("preferences", preferences), ("last-offered", last_offered), ("equal-at-limit", equal_at_limit)):
             found = rows_in(register, name)
-            assert found == text(wanted(season)), (seed, name)
+            assert found == text(expected(season)), (seed, name)
             place = {"preferences": 2, "last-offered": 5, "equal-at-limit": 6}[name]
             seen.update(f"{name} {it[place]}" for it in found if not it[place].isdigit() or name == "preferences")
             seen.update("the only one" for it in found if name == "last-offered" and it[4] and not it[5])
@@ -311,7 +311,7 @@ def test_a_register_that_is_served(office, tmp_path):
     before = ("moved", "--draw", town.season.draws[-1][0], "--before", "before.db")
     moves = office("query", "reg.db", *before).stdout
     assert office("query", "reg.db", "--workbook", "file.xlsx", "--day", "2025-06-19").returncode == 0
-    with served.desk(reg) as address:
+    with served.served(reg) as (address, _):
         assert printed_of_all(office, address) == wanted and office("query", address, *before).stdout == moves
         assert office("query", address, "--workbook", "served.xlsx", "--day", "2025-06-19").returncode == 0
         ran = office("query", "reg.db", "season")
@@ -330,7 +330,7 @@ def test_a_register_behind_a_site(office, tmp_path):
     """With the name and the password, of each list; without them, or with another, nothing is printed and the reason is. A name needs an address."""
     reg = file_of(played(2).season, tmp_path / "reg.db")
     wanted = printed_of_all(office, "reg.db")
-    with served.desk(reg) as address, served.site(address) as site:
+    with served.served(reg) as (address, _), served.site(address) as site:
         assert printed_of_all(office, site, "--user", served.USER, stdin=f"{served.PASSWORD}\n") == wanted
         for words, typed in ((("--user", "jane"), "wrong\n"), (("--user", "joe"), "secret\n"), ((), None)):
             ran = office("query", site, "draws", *words, stdin=typed)

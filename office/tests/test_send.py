@@ -16,7 +16,7 @@ from typing import ClassVar
 
 import pytest
 from conftest import PROGRAM, ROOT, apply, child, do, make, school
-from serving import served
+from served import served
 
 from office import commands, rules, senders
 

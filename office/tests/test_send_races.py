@@ -8,10 +8,11 @@ import subprocess
 import threading
 import urllib.error
 import urllib.request
+from collections.abc import Callable
 
 import pytest
 from conftest import apply, child, do
-from serving import do_over, served
+from served import do_over, served
 from test_send import ROUND, TODAY, count, text
 
 OTHER_PAIRS = "has changed since it was compared, and the lots would go to other children: print the pairs again, make the sheet anew, and draw again"
@@ -94,8 +95,24 @@ def test_what_changed_at_the_question_over_http(tools, late, tmp_path):
         assert status == 0 and "line 1: round 1: 2 children were offered a place, 0 kept theirs, 0 have none\n1 of 1 line done" in out, out
 
 
+# (all three children live at one place: the lots of OAK are 1, 2 and 3, so child 1 has it, and for its place those of 2 and 3 are 7 and 5)
+ROUND_AND_FILL: list[dict[str, object]] = [
+    apply(3, ["OAK", "ELM"]), dict(ROUND, lots=[1, 2, 3, 1, 2, 3]), {"cmd": "decline", "child": 1, "school": "OAK"},
+    {"cmd": "fill", "draw": 2, "school": "OAK", "day": "2025-03-10", "lots": [7, 5]},
+]
+
+
+class Site(socketserver.TCPServer):
+    """A site before a desk. `act` is called with the path and the command of each request, before it is passed on."""
+
+    desk: str
+    act: Callable[[str, str | None], object]
+
+
 class Between(http.server.BaseHTTPRequestHandler):
     """Passes each request on to the desk of its server, and first lets another act."""
+
+    server: Site
 
     def do_GET(self):
         """Passes it on."""
@@ -120,7 +137,7 @@ class Between(http.server.BaseHTTPRequestHandler):
 def sent_between(office, tmp_path, desk, lines, act):
     """Sends lines past one that acts: `act` is called with the path and the command of each request, before it."""
     (tmp_path / "a.jsonl").write_text(text(lines))
-    with socketserver.TCPServer(("127.0.0.1", 0), Between) as server:
+    with Site(("127.0.0.1", 0), Between) as server:
         server.desk, server.act = desk, act
         thread = threading.Thread(target=server.serve_forever, daemon=True)
         thread.start()
@@ -160,11 +177,9 @@ def test_a_change_just_before_the_round_over_http(office, late, tmp_path):
 def test_a_file_may_change_the_pairs_itself(office, late, tmp_path):
     """What the lines before a round do to the pairs is meant; and what another does meanwhile to nobody's pairs stops nothing. Then a fill of the same file."""
     with served(late) as (desk, _):
-        lines = [apply(3, ["OAK", "ELM"]), {**ROUND, "lots": [1, 2, 3, 1, 2, 3]}, {"cmd": "decline", "child": 1, "school": "OAK"},
-            {"cmd": "fill", "draw": 2, "school": "OAK", "day": "2025-03-10", "lots": [7, 5]}]
+        lines = ROUND_AND_FILL
         other = {"cmd": "raise_pan", "school": "ELM", "pan": 3}
         ran, _ = sent_between(office, tmp_path, desk, lines, lambda _, command: command == "round" and do_over(desk, [other]))
-        # (all three live at one place: the lots of OAK are 1, 2 and 3, so child 1 has it, and for its place those of 2 and 3 are 7 and 5)
         assert ran.returncode == 0 and "line 2: round 1: 3 children were offered a place, 0 kept theirs, 0 have none\n" in ran.stdout, ran
         assert "line 4: child 3 was offered the place\n4 of 4 lines done" in ran.stdout, ran
 
@@ -172,8 +187,7 @@ def test_a_file_may_change_the_pairs_itself(office, late, tmp_path):
 def test_a_change_between_two_draws_over_http(office, late, tmp_path):
     """A fill after the round of the same file is compared with what the round left: another's answer before it is seen."""
     with served(late) as (desk, _):
-        lines = [apply(3, ["OAK", "ELM"]), {**ROUND, "lots": [1, 2, 3, 1, 2, 3]}, {"cmd": "decline", "child": 1, "school": "OAK"},
-            {"cmd": "fill", "draw": 2, "school": "OAK", "day": "2025-03-10", "lots": [7, 5]}]
+        lines = ROUND_AND_FILL
         other = {"cmd": "leave_list", "child": 2, "school": "OAK"}
         ran, url = sent_between(office, tmp_path, desk, lines, lambda _, command: command == "decline" and do_over(desk, [other]))
         assert ran.returncode == 1 and ran.stderr == f"admissions-send: stopped: {url} {OTHER_PAIRS}\n" and "line 4: not tried\n3 of 4 lines done" in ran.stdout, ran

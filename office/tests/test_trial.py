@@ -10,7 +10,7 @@ import subprocess
 import model_season
 import pytest
 from conftest import apply, child, do, make, school
-from serving import served
+from served import served
 
 
 def tried(season, changes, held):

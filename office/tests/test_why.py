@@ -10,7 +10,7 @@ import pytest
 from by_path import loaded
 from conftest import ROOT, apply, child, do, make, school
 from files import write
-from serving import served
+from served import served
 
 from office import model, why
 
