@@ -216,8 +216,8 @@ class File:
     nobody refers to it any more, or this process ends.
     """
 
-    def __init__(self, name: str, fd: int) -> None:
-        self.name, self.program = name, files.program()
+    def __init__(self, name: str, fd: int, program: str | None = None) -> None:
+        self.name, self.program = name, program or files.program()
         try:
             self.room = tempfile.TemporaryDirectory(prefix="admissions-")
             self.copy = os.path.join(self.room.name, "copy.db")
@@ -338,12 +338,20 @@ def read_held(name: str) -> Register:
     if files.has_content(path + "-wal"):
         raise Refused(f"{name} has changed since it was compared: see what was changed, and send"
                       " the line again")
+    return read_stored(name)
+
+
+def read_stored(name: str, program: str | None = None) -> Register:
+    """The register of a file as it is, without its log, whoever has it open: as it was when it was
+    closed last.
+    """
+    path = os.path.realpath(name)
     try:
         fd = os.open(path, os.O_RDONLY | os.O_NOFOLLOW | os.O_NONBLOCK | os.O_CLOEXEC)
     except OSError as error:
         raise Refused(f"{name} cannot be read: {error.strerror}") from error
     try:
-        return of_source(File(name, fd))
+        return of_source(File(name, fd, program))
     finally:
         os.close(fd)
 

@@ -17,7 +17,7 @@ Taken = typing.TypeVar("Taken")
 
 
 def phase(text: str) -> str:
-    if text not in PHASES.values():
+    if text not in PHASES:
         raise Refused(f"{text!r} is no phase: type primary or secondary, in small letters", 2)
     return text
 

@@ -25,18 +25,11 @@ from register_files import Refused
 
 from . import copies
 from .programs import call, program
-from .registers import Register, known, open_error, rows, season_of
+from .registers import Register, known, open_error, stored
 from .second_copy import fetched, now, place_of, write_report
 from .settings_copy import OWN, members_of
 
 REPORT = "drill.report"
-COUNTS = {
-    "schools": "school",
-    "children": "child",
-    "applications": "application",
-    "places": "place",
-    "rounds and fills": "draw",
-}
 
 
 def arguments(reader: argparse.ArgumentParser) -> None:
@@ -75,12 +68,16 @@ def tried(copy: pathlib.Path, room: str) -> str:
         call(program("admissions-restore"), copy, file)
         if error := open_error(file):
             raise Refused(f"{copy} was restored, but does not open: {error}")
-        season = season_of(file)
-        counts = ", ".join(
-            f"{rows(file, f'SELECT count(*) FROM {table}')[0][0]} {name}"
-            for name, table in COUNTS.items()
-        )
-        return f"restored and opened, {season.phase} {season.year}: {counts}; {settings_text(copy)}"
+        found = stored(file)
+        counts = {
+            "schools": len(found.schools),
+            "children": len(found.children),
+            "applications": len(found.applications),
+            "places": len(found.places),
+            "rounds and fills": len(found.draws),
+        }
+        text = ", ".join(f"{number} {name}" for name, number in counts.items())
+        return f"restored and opened, {found.phase} {found.year}: {text}; {settings_text(copy)}"
 
 
 def settings_text(copy: pathlib.Path) -> str:

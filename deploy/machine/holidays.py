@@ -1,34 +1,30 @@
 """The holidays of a register that is there. A register has them from the beginning on, so it is
 made anew; and only while it is empty."""
 import contextlib
-import datetime
 import pathlib
 import tempfile
 import typing
 
+from office import texts
 from register_files import Refused
 
 from . import files
 from .programs import USER, call, is_booted, program, tool
-from .registers import Register, open_error, rows, season_of
+from .registers import Register, open_error, stored
 
 
 def days_of(file: pathlib.Path) -> list[str]:
     """The holidays of a register, in rising order."""
-    text = rows(file, "SELECT holidays FROM meta")[0][0]
-    first = datetime.date(1970, 1, 1)
-    return [(first + datetime.timedelta(int(it))).isoformat() for it in text.split(";") if it]
+    return [it.isoformat() for it in stored(file).holidays]
 
 
 def content_of(file: pathlib.Path) -> str:
-    """What a register holds beside its season, as `2 school, 1 child`; an empty text where it is
-    empty."""
-    tables = rows(
-        file,
-        "SELECT name FROM sqlite_master WHERE type = 'table' AND name <> 'meta' ORDER BY rowid",
-    )
-    counts = {name: rows(file, f"SELECT count(*) FROM {name}")[0][0] for (name,) in tables}
-    return ", ".join(f"{count} {name}" for name, count in counts.items() if count)
+    """What a register holds beside its season, as `2 schools, 1 child`; an empty text where it is
+    empty: without a school and a child there is nothing else."""
+    found = stored(file)
+    schools, children = len(found.schools), len(found.children)
+    counts = (schools, "school", "schools"), (children, "child", "children")
+    return ", ".join(texts.count(number, one, many) for number, one, many in counts if number)
 
 
 def change_of(register: Register, days: list[str]) -> str | None:
@@ -56,7 +52,7 @@ def see_empty(register: Register) -> None:
 def change(register: Register, days: list[str], before: list[str]) -> str:
     """Makes the register anew with these days, while its desk is stopped. What was there is kept as
     a copy beside it."""
-    season = season_of(register.file)
+    season = stored(register.file)
     with files.as_desk():
         part = tempfile.TemporaryDirectory(dir=register.folder, prefix="reg.db.part-")
     with stopped(register), part as room:

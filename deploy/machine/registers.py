@@ -2,17 +2,15 @@
 import dataclasses
 import pathlib
 import re
-import sqlite3
-import typing
-import urllib.parse
 
+from office import model
 from register_files import Refused
 
 from . import copies
 from .programs import call, program
 
 NAME = re.compile("[a-z0-9]([a-z0-9-]{0,38}[a-z0-9])?")
-PHASES = {1: "primary", 2: "secondary"}
+PHASES = (model.PRIMARY, model.SECONDARY)
 REGISTERS, COPIES = pathlib.Path("/var/lib/admissions"), pathlib.Path("/var/backups/admissions")
 SETTINGS, LOGS = pathlib.Path("/etc/admissions"), pathlib.Path("/var/log/admissions")
 
@@ -66,15 +64,6 @@ class Register:
         return copies.made(self.copies)
 
 
-@dataclasses.dataclass(frozen=True)
-class Season:
-    """What the file of a register says of itself."""
-
-    phase: str
-    year: int
-    version: int
-
-
 def named(name: str) -> Register:
     if not NAME.fullmatch(name):
         raise Refused(
@@ -100,24 +89,9 @@ def all_registers() -> list[Register]:
     return [Register(it.parent.name) for it in found if NAME.fullmatch(it.parent.name)]
 
 
-def rows(file: pathlib.Path, query: str) -> list[tuple[typing.Any, ...]]:
-    """What a query reads from a file as it is: without its log, and nothing is left beside it."""
-    try:
-        name = f"file:{urllib.parse.quote(str(file))}?mode=ro&immutable=1"
-        with_file = sqlite3.connect(name, uri=True)
-        try:
-            return with_file.execute(query).fetchall()
-        finally:
-            with_file.close()
-    except sqlite3.Error as error:
-        raise Refused(f"{file} cannot be read as a register: {error}") from error
-
-
-def season_of(file: pathlib.Path) -> Season:
-    found = rows(file, "SELECT phase, year, version FROM meta")
-    if len(found) != 1 or found[0][0] not in PHASES:
-        raise Refused(f"{file} is no register")
-    return Season(PHASES[found[0][0]], found[0][1], found[0][2])
+def stored(file: pathlib.Path) -> model.Register:
+    """What a file holds, as the program shows it: without its log, also while it is served."""
+    return model.read_stored(str(file), program("admissions"))
 
 
 def open_error(file: pathlib.Path, as_user: str | None = None) -> str:

@@ -37,6 +37,7 @@ import sys
 import time
 import typing
 
+from office import model
 from register_files import Refused
 
 from . import answers, certificates, files, holidays, people, settings_copy, sites
@@ -50,10 +51,9 @@ from .registers import (
     REGISTERS,
     SETTINGS,
     Register,
-    Season,
     known,
     named,
-    season_of,
+    stored,
 )
 
 NEEDED = {
@@ -75,7 +75,7 @@ def arguments(reader: argparse.ArgumentParser) -> None:
         metavar="NAME",
         help="the name of the register: small letters, digits and hyphens (default: PHASE-YEAR)",
     )
-    add("--phase", choices=list(PHASES.values()))
+    add("--phase", choices=list(PHASES))
     add("--year", help="the year of entry, from 2000 to 2100")
     add(
         "--holiday",
@@ -199,7 +199,7 @@ def checked(given: argparse.Namespace) -> None:
 def completed(given: argparse.Namespace) -> Register:
     """The register; what is not given is asked for."""
     if given.copy:
-        given.name = given.name or name_of(season_of(pathlib.Path(given.copy)))
+        given.name = given.name or name_of(stored(pathlib.Path(given.copy)))
     elif given.name is None or not named(given.name).is_made:
         given.phase = given.phase or ask("--phase (primary or secondary)", answers.phase)
         given.year = given.year or ask("--year of entry", answers.year)
@@ -242,7 +242,7 @@ def completed(given: argparse.Namespace) -> Register:
     return register
 
 
-def name_of(season: Season | argparse.Namespace) -> str:
+def name_of(season: model.Register | argparse.Namespace) -> str:
     return f"{season.phase}-{season.year}"
 
 
@@ -324,7 +324,7 @@ def make_register(register: Register, given: argparse.Namespace) -> typing.Itera
     """Makes the register, or sees that the one that is there is the one that is named."""
     file = register.file
     if register.is_made:
-        found = season_of(file)
+        found = stored(file)
         if given.phase not in (None, found.phase) or given.year not in (None, found.year):
             raise Refused(
                 f"{file} is the register of {found.phase} {found.year} already:"

@@ -29,7 +29,7 @@ from register_files import Refused
 from . import certificates, copies, people
 from .desk import site_status_of, status_of
 from .drill import REPORT as DRILL
-from .registers import REGISTERS, SETTINGS, Register, all_registers, known, season_of
+from .registers import REGISTERS, SETTINGS, Register, all_registers, known, stored
 from .programs import call, is_booted, tool
 from .second_copy import NONE, REPORT as SECOND, line_of, place_of
 from .settings_copy import REPORT as BESIDE
@@ -102,8 +102,8 @@ def report(register: Register) -> dict[str, State]:
 
 def file_of(register: Register) -> State:
     found = register.file.lstat()
-    season = season_of(register.file)
-    text = f"{season.phase} {season.year}, file version {season.version}, {found.st_size:,} bytes"
+    season = stored(register.file)
+    text = f"{season.phase} {season.year}, {found.st_size:,} bytes"
     is_private = stat.S_ISREG(found.st_mode) and not found.st_mode & 0o077
     if not is_private:
         return False, f"{text}, and others can read it: chmod 600 {register.file}"

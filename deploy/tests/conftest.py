@@ -1,8 +1,8 @@
 """What the tests of deploy/ share: the modules of deploy/machine, and a machine of folders in place
 of this one. They need no root, no nginx and no systemd."""
+import json
 import os
 import pathlib
-import sqlite3
 import sys
 import typing
 
@@ -30,17 +30,42 @@ def machine_fixture(tmp_path: pathlib.Path, monkeypatch: pytest.MonkeyPatch) -> 
     return tmp_path
 
 
+# in place of the program: a register of these tests is the text that the program would show of it
+STAND_IN = """#!/bin/sh
+[ "$1" = show ] && exec cat "$2"
+exit 2
+"""
+
+
+def document(schools: int = 0, holidays: typing.Sequence[str] = ()) -> str:
+    """What the program shows of a register without children."""
+    school: dict[str, object] = {"name": "A", "criteria": [], "east": 0, "north": 0, "pan": 1}
+    school |= {"plans": 0, "taken": 0, "vacancies": 1, "waiting": 0}
+    season = {
+        "closing": "2024-10-31",
+        "holidays": list(holidays),
+        "last_list_day": "2025-12-31",
+        "offer_day": "2025-03-03",
+        "phase": "secondary",
+        "year": 2025,
+    }
+    listed = [{**school, "school": f"S{at}"} for at in range(schools)]
+    return json.dumps({"children": [], "draws": [], "schools": listed, "season": season})
+
+
 @pytest.fixture(name="register")
-def register_fixture(machine: pathlib.Path) -> registers.Register:
-    """A register with its folders, and a file that says of itself what a register says."""
+def register_fixture(
+    machine: pathlib.Path, monkeypatch: pytest.MonkeyPatch
+) -> registers.Register:
+    """A register with its folders, and a stand-in for the program that shows it."""
     register = registers.Register("secondary-2025")
     for path in (register.folder, register.copies, register.settings, register.logs):
         path.mkdir()
-    with sqlite3.connect(register.file) as file:
-        file.execute("CREATE TABLE meta (version, phase, year, holidays, draws)")
-        file.execute("INSERT INTO meta VALUES (2, 2, 2025, '', 0)")
-        file.execute("CREATE TABLE school (code)")
-    file.close()
+    register.file.write_text(document(), encoding="utf-8")
+    program = machine / "admissions"
+    program.write_text(STAND_IN, encoding="utf-8")
+    program.chmod(0o755)
+    monkeypatch.setattr(registers, "program", lambda name: str(machine / name))
     (register.settings / "site-name").write_text("admissions.example\n")
     (register.settings / "roles").write_text("# who may do what\njane office;\nalpha school-A;\n")
     (register.settings / "passwords").write_text("jane:$6$x\nalpha:$6$y\n")

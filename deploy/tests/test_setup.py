@@ -9,14 +9,13 @@ import os
 import pathlib
 import shutil
 import subprocess
-import sqlite3
 import sys
 import tarfile
 import tempfile
 import typing
 
 import pytest
-from conftest import ROOT
+from conftest import ROOT, document
 from machine import answers, files, holidays, people, registers, setup
 from register_files import Refused
 from setup_arguments import given_to_setup
@@ -332,19 +331,15 @@ def test_the_lock_lets_one_change_at_a_time(
 
 
 def test_the_holidays_of_an_empty_register_and_no_other(register: registers.Register) -> None:
-    # 20181 is 2025-04-03 by hand: 55 years with 14 leap days, and 92 days (31 + 28 + 31 + 2)
-    with sqlite3.connect(register.file) as file:
-        file.execute("UPDATE meta SET holidays = '20181;20182'")
-    file.close()
+    days = ["2025-04-03", "2025-04-04"]
+    register.file.write_text(document(holidays=days), encoding="utf-8")
     assert holidays.days_of(register.file) == ["2025-04-03", "2025-04-04"]
     assert holidays.change_of(register, ["2025-04-03", "2025-04-04"]) is None
     assert holidays.change_of(register, []) == (
         "the holidays of secondary-2025 change from 2025-04-03, 2025-04-04 to none: it is empty,"
         " and is made anew"
     )
-    with sqlite3.connect(register.file) as file:
-        file.execute("INSERT INTO school VALUES ('A')")
-    file.close()
+    register.file.write_text(document(1, days), encoding="utf-8")
     with pytest.raises(
         Refused,
         match="cannot be changed any more, since it has 1 school: .*"
@@ -375,9 +370,11 @@ def test_in_the_folder_of_the_desk_root_makes_no_folder(
 ) -> None:
     made, make = [], tempfile.mkdtemp
 
-    def mkdtemp(*more: typing.Any) -> str:
-        made.append(as_desk[0])
-        path: str = make(*more)
+    def mkdtemp(suffix: typing.Any, prefix: str, folder: typing.Any) -> str:
+        # (the copy that the program opens is in a folder for temporary files)
+        if folder == register.folder:
+            made.append(as_desk[0])
+        path: str = make(suffix, prefix, folder)
         return path
 
     monkeypatch.setattr(tempfile, "mkdtemp", mkdtemp)

@@ -94,7 +94,7 @@ def test_a_register_that_others_can_read(register: registers.Register) -> None:
     register.file.chmod(0o600)
     assert status.file_of(register) == (
         True,
-        f"secondary 2025, file version 2, {register.file.stat().st_size:,} bytes",
+        f"secondary 2025, {register.file.stat().st_size:,} bytes",
     )
     register.file.chmod(0o640)
     assert status.file_of(register)[0] is False
