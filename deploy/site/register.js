@@ -31,7 +31,8 @@ export const matches = (text) => matchesOf(register, text);
 // Reads who is signed in, at which register, and the authority's name: once
 export async function readSite() {
   const [signedIn, named] = await Promise.all([ask("/who"), ask("/authority")]);
-  if (signedIn.status === 200) [name, who] = signedIn.body.split("\n");
+  // (a site that an upgrade could not make anew answers with the user alone)
+  if (signedIn.status === 200) [who, name = "NAME"] = signedIn.body.split("\n").reverse();
   authority = named.status === 200 ? named.body.trim() : "";
 }
 

@@ -6,7 +6,7 @@ const nothing = { classList: { toggle: () => {} } };
 globalThis.document = { getElementById: () => nothing };
 globalThis.window = { addEventListener: () => {} };
 
-export const desk = { asked: [], register: season(), isClosed: false, hold: null };
+export const desk = { asked: [], register: season(), isClosed: false, hold: null, site: {} };
 
 // The answer to GET /child/{no}, as docs/FORMATS.md has it
 function shortOf(number) {
@@ -23,7 +23,7 @@ function answerOf(path) {
 
 globalThis.fetch = async (path) => {
   desk.asked.push(path);
-  const found = desk.isClosed ? undefined : JSON.stringify(answerOf(path));
+  const found = desk.isClosed ? undefined : desk.site[path] ?? JSON.stringify(answerOf(path));
   await desk.hold?.();
   return { status: desk.isClosed ? 502 : found ? 200 : 404, text: async () => found ?? "{}" };
 };

@@ -15,6 +15,17 @@ test("a desk that is closed from the beginning is reported, and nothing is read"
   assert.deepEqual([copy.isRead, asked()], [false, ["/register", "/register", "/register"]]);
 });
 
+test("who is signed in, at which register, and the authority's name", async () => {
+  const read = async (who) => {
+    desk.site = { "/who": who, "/authority": "Example County Council\n" };
+    await copy.readSite();
+    return [copy.name, copy.who, copy.authority];
+  };
+  assert.deepEqual(await read("secondary-2025\njane"), ["secondary-2025", "jane", "Example County Council"]);
+  assert.deepEqual(await read("jane"), ["NAME", "jane", "Example County Council"]);
+  assert.deepEqual(asked().sort(), ["/authority", "/authority", "/who", "/who"]);
+});
+
 test("two views at once have one request", async () => {
   await Promise.all([copy.readIfOld(), copy.readIfOld()]);
   assert.deepEqual([asked(), copy.isRead, copy.nameOf(9)], [["/register"], true, "Ida Ivy"]);
