@@ -49,7 +49,7 @@ def document(schools: int = 0, holidays: typing.Sequence[str] = ()) -> str:
         "phase": "secondary",
         "year": 2025,
     }
-    listed = [{**school, "school": f"S{at}"} for at in range(schools)]
+    listed: list[dict[str, object]] = [school | {"school": f"S{at}"} for at in range(schools)]
     return json.dumps({"children": [], "draws": [], "schools": listed, "season": season})
 
 
