@@ -439,10 +439,12 @@ def running(numbers: list[str]) -> list[str]:
 
 @pytest.mark.parametrize("number, is_group", [(signal.SIGTERM, False), (signal.SIGTERM, True), (signal.SIGINT, True), (signal.SIGKILL, False)])
 def test_ended_while_it_writes(tools, season, tmp_path, number, is_group):
-    """Ended at some moment, alone or with its processes as by Ctrl-C: no folder has its name, no process remains, and the register opens."""
+    """Ended at some moment, alone or with its processes as by Ctrl-C: no folder has its name, no process and no copy remains, and the register opens."""
     shutil.copy(season / "after-1.db", tmp_path / "reg.db")
+    (tmp_path / "copies").mkdir()
     words, quiet = [tools / "admissions-letters", "reg.db", "--pdf", "out"], subprocess.DEVNULL
-    command = subprocess.Popen(words, cwd=tmp_path, stdout=quiet, stderr=quiet, start_new_session=True)
+    environment = {**os.environ, "TMPDIR": str(tmp_path / "copies")}
+    command = subprocess.Popen(words, cwd=tmp_path, stdout=quiet, stderr=quiet, start_new_session=True, env=environment)
     assert wait_for(lambda: list(tmp_path.glob("out.part-*/letter-*.pdf")) or command.poll() is not None, bool)
     children = subprocess.run(["pgrep", "-P", str(command.pid)], capture_output=True, text=True, check=False).stdout.split()
     assert command.poll() is None and running(children)
@@ -455,7 +457,8 @@ def test_ended_while_it_writes(tools, season, tmp_path, number, is_group):
     assert command.poll() is not None and not wait_for(lambda: running(children), lambda it: not it)
     # (they were ended, and have not run to their end, at which there is a file for each child)
     assert max(most, len(list(tmp_path.glob("out.part-*/letter-*.pdf")))) < count(tmp_path / "reg.db")
-    assert not (tmp_path / "out").exists() and (list(tmp_path.glob("out.part-*")) == []) == (number != signal.SIGKILL)
+    remains = [list(tmp_path.glob(it)) != [] for it in ("out.part-*", "copies/admissions-*")]
+    assert not (tmp_path / "out").exists() and remains == [number == signal.SIGKILL] * 2
     assert subprocess.run([PROGRAM, "do", tmp_path / "reg.db"], stdin=subprocess.DEVNULL, check=False).returncode == 0
 
 
