@@ -1,4 +1,6 @@
-"""admissions-figures beside the model of the example season, which shares no code with it, and as a page that a screen reader reads."""
+"""admissions-figures beside the model of the example season, which shares no code with it, and as a
+page that a screen reader reads.
+"""
 import collections
 import datetime
 import re
@@ -6,10 +8,13 @@ import shutil
 import sqlite3
 import subprocess
 import sys
+from collections.abc import Callable, Mapping
+from pathlib import Path
+from typing import Any
 
 import model_season
 import pytest
-from conftest import apply, child, do, make, school
+from conftest import Command, Office, apply, child, do, make, school
 from figures_page import Page, beside_model, table
 from files import write
 from served import do_over, served
@@ -19,9 +24,16 @@ from office.run import Refused
 from office.withheld import withheld
 
 
-@pytest.mark.parametrize("name, played, at", [("after-1.db", model_season.after_first, 1), ("reg.db", model_season.after_second, 2)])
-def test_the_example_season(office, season, tmp_path, name, played, at):
-    """Both rounds: each number of the page is that of the model, or withheld, and none from 1 to 4 is printed."""
+@pytest.mark.parametrize(
+    "name, played, at",
+    [("after-1.db", model_season.after_first, 1), ("reg.db", model_season.after_second, 2)],
+)
+def test_the_example_season(
+    office: Office, season: Path, tmp_path: Path, name: str, played: Callable[[], Any], at: int
+) -> None:
+    """Both rounds: each number of the page is that of the model, or withheld, and none from 1 to 4
+    is printed.
+    """
     ran = office("figures", season / name, "out.html")
     assert ran.returncode == 0 and f"round {at}," in ran.stdout, ran
     text = (tmp_path / "out.html").read_text("utf-8")
@@ -31,97 +43,181 @@ def test_the_example_season(office, season, tmp_path, name, played, at):
         assert it not in text
 
 
-def counted(path, number=None):
+def counted(path: Path, number: int | None = None) -> figure_counts.Figures:
     """The counts of a register's round, by the data that it has now."""
     return figure_counts.count(rounds.of_register(model.read(str(path)), number))
 
 
-def test_counts_are_those_of_the_model(season):
+def test_counts_are_those_of_the_model(season: Path) -> None:
     """The counts before any is withheld: all of them, by class and by preference."""
-    for name, played in (("after-1.db", model_season.after_first), ("reg.db", model_season.after_second)):
+    for name, played in (
+        ("after-1.db", model_season.after_first),
+        ("reg.db", model_season.after_second),
+    ):
         found, wanted = counted(season / name), model_season.figures(played())
-        assert (found.children, found.offers, found.kept, found.met) == (wanted["children"], wanted["offers"], wanted["kept"], wanted["met"])
+        assert (found.children, found.offers, found.kept, found.met) == (
+            wanted["children"],
+            wanted["offers"],
+            wanted["kept"],
+            wanted["met"],
+        )
         for code, it in wanted["schools"].items():
             one = found.schools[code]
-            assert (one.plans, one.kept, one.last, one.turned_away) == (it["plans"], it["kept"], it["last"], it["turned_away"])
+            assert (one.plans, one.kept, one.last, one.turned_away) == (
+                it["plans"],
+                it["kept"],
+                it["last"],
+                it["turned_away"],
+            )
             assert one.applications == it["applied"] and one.offers == it["classes"]
     earlier = counted(season / "reg.db", 1)
     assert earlier.round == 1 and earlier.children == 598
 
 
-def test_the_page_is_whole_and_escaped(office, season, tmp_path):
-    """Nothing is loaded from elsewhere, no script runs, and names of schools are as they are: Welsh, right to left, with a script."""
+def test_the_page_is_whole_and_escaped(office: Office, season: Path, tmp_path: Path) -> None:
+    """Nothing is loaded from elsewhere, no script runs, and names of schools are as they are:
+    Welsh, right to left, with a script.
+    """
     shutil.copy(season / "after-1.db", tmp_path / "named.db")
     conn = sqlite3.connect(tmp_path / "named.db")
-    for code, name in (("ASHS", 'Ysgol Tŷ "Ash" <script>alert(1)</script>'), ("BIRS", "مدرسة الزيتون"), ("CEDS", "=SUM(A1:A9) & 'Son'")):
+    for code, name in (
+        ("ASHS", 'Ysgol Tŷ "Ash" <script>alert(1)</script>'),
+        ("BIRS", "مدرسة الزيتون"),
+        ("CEDS", "=SUM(A1:A9) & 'Son'"),
+    ):
         conn.execute("UPDATE school SET name = ? WHERE code = ?", (name, code))
     conn.commit()
     conn.close()
     assert office("figures", "named.db", "out.html").returncode == 0
     text = (tmp_path / "out.html").read_text("utf-8")
     page = Page(text)
-    assert "<script" not in text and not re.search(r'(src|href)="(?!#)', text) and "url(http" not in text and "@import" not in text
+    assert (
+        "<script" not in text
+        and not re.search(r'(src|href)="(?!#)', text)
+        and "url(http" not in text
+        and "@import" not in text
+    )
     names = [it[0] for it in table(page, "Places, applications")]
-    assert {'Ysgol Tŷ "Ash" <script>alert(1)</script>', "مدرسة الزيتون", "=SUM(A1:A9) & 'Son'"} <= set(names)
-    assert len(page.titles) == 3 == page.tags["svg"] == page.tags["desc"] == page.tags["figcaption"] and page.tags["caption"] == page.tags["table"] == 3
+    assert {
+        'Ysgol Tŷ "Ash" <script>alert(1)</script>',
+        "مدرسة الزيتون",
+        "=SUM(A1:A9) & 'Son'",
+    } <= set(names)
+    assert (
+        len(page.titles) == 3 == page.tags["svg"] == page.tags["desc"] == page.tags["figcaption"]
+        and page.tags["caption"] == page.tags["table"] == 3
+    )
     ids = re.findall(r'\bid="([^"]*)"', text)
     assert len(ids) == len(set(ids))
     assert '<html lang="en-GB">' in text and page.tags["h1"] == page.tags["main"] == 1
 
 
-def one_school(tmp_path):
-    """Oak has 6 places; 12 children want it and live 100, 200, .. metres away, the first 7 with flag 7. After round 1 children 1 to 6 have it."""
-    town = [school("OAK", pan=6, criteria=["flag:7"]), *(child(it, east=100 * it, flags=[7] if it < 8 else []) for it in range(1, 13)), *(apply(it, ["OAK"]) for it in range(1, 13))]
+def one_school(tmp_path: Path) -> None:
+    """Oak has 6 places; 12 children want it and live 100, 200, .. metres away, the first 7 with
+    flag 7. After round 1 children 1 to 6 have it.
+    """
+    town = [
+        school("OAK", pan=6, criteria=["flag:7"]),
+        *(child(it, east=100 * it, flags=[7] if it < 8 else []) for it in range(1, 13)),
+        *(apply(it, ["OAK"]) for it in range(1, 13)),
+    ]
     make(tmp_path / "reg.db", town)
     shutil.copy(tmp_path / "reg.db", tmp_path / "before.db")
-    do(tmp_path / "reg.db", [{"cmd": "round", "draw": 1, "day": "2025-03-03", "lots": list(range(12))}])
+    do(
+        tmp_path / "reg.db",
+        [{"cmd": "round", "draw": 1, "day": "2025-03-03", "lots": list(range(12))}],
+    )
 
 
-def test_later_by_the_copy(office, tmp_path):
-    """An admission number is raised, and a child amended and given a plan, after the round: with the copy from before it the page is as it was. Flags in words."""
+def test_later_by_the_copy(office: Office, tmp_path: Path) -> None:
+    """An admission number is raised, and a child amended and given a plan, after the round: with
+    the copy from before it the page is as it was. Flags in words.
+    """
     one_school(tmp_path)
     (tmp_path / "flags.csv").write_text("7,social or medical need\n", "utf-8")
     assert office("figures", "reg.db", "first.html", "--flags", "flags.csv").returncode == 0
-    do(tmp_path / "reg.db", [{"cmd": "raise_pan", "school": "OAK", "pan": 9}, {**child(3), "cmd": "amend"}, {"cmd": "name_plan", "child": 12, "school": "OAK"}])
+    do(
+        tmp_path / "reg.db",
+        [
+            {"cmd": "raise_pan", "school": "OAK", "pan": 9},
+            {**child(3), "cmd": "amend"},
+            {"cmd": "name_plan", "child": 12, "school": "OAK"},
+        ],
+    )
     ran = office("figures", "reg.db", "copy.html", "--copy", "before.db", "--flags", "flags.csv")
     first, copied = ((tmp_path / f"{it}.html").read_text("utf-8") for it in ("first", "copy"))
-    assert ran.returncode == 0 and copied == first and "with a verified priority: social or medical need" in first, ran
+    assert (
+        ran.returncode == 0
+        and copied == first
+        and "with a verified priority: social or medical need" in first
+    ), ran
     ran = office("figures", "reg.db", "no.html", "--copy", "before.db", "--round", "2")
-    assert ran.returncode == 1 and "is not from right before round 2" in ran.stderr and not (tmp_path / "no.html").exists()
+    assert (
+        ran.returncode == 1
+        and "is not from right before round 2" in ran.stderr
+        and not (tmp_path / "no.html").exists()
+    )
 
 
-def test_a_plan_since_is_never_counted_wrongly(tmp_path):
-    """A register shows no class and no distance of a child whose application a plan ended. So the counts of the round before it are refused, for whoever calls, and
-    with the copy from before the round they are as they were: by hand, children 1 to 6 have Oak with flag 7, child 6 last, and child 7 is turned away first."""
+def test_a_plan_since_is_never_counted_wrongly(tmp_path: Path) -> None:
+    """A register shows no class and no distance of a child whose application a plan ended. So the
+    counts of the round before it are refused, for whoever calls, and with the copy from before the
+    round they are as they were: by hand, children 1 to 6 have Oak with flag 7, child 6 last, and
+    child 7 is turned away first.
+    """
     one_school(tmp_path)
     first = counted(tmp_path / "reg.db")
-    assert (first.met, first.schools["OAK"].offers, first.schools["OAK"].plans) == ({1: 6, "none": 6}, {1: 6}, 0)
+    assert (first.met, first.schools["OAK"].offers, first.schools["OAK"].plans) == (
+        {1: 6, "none": 6},
+        {1: 6},
+        0,
+    )
     assert (first.schools["OAK"].last, first.schools["OAK"].first_away) == ((1, 600), (1, 700))
     for number in (12, 6):
         do(tmp_path / "reg.db", [{"cmd": "name_plan", "child": number, "school": "OAK"}])
-        said = f"reg.db has a plan that ended the application of child {number} after round 1: the copy from right before the round is needed"
+        said = (
+            f"reg.db has a plan that ended the application of child {number} after round 1: the"
+            " copy from right before the round is needed"
+        )
         with pytest.raises(Refused, match=said):
             counted(tmp_path / "reg.db")
-        seen = rounds.of_copy(model.read(str(tmp_path / "before.db")), model.read(str(tmp_path / "reg.db")))
+        seen = rounds.of_copy(
+            model.read(str(tmp_path / "before.db")), model.read(str(tmp_path / "reg.db"))
+        )
         assert figure_counts.count(seen) == first
 
 
-def test_by_the_address_of_a_register(office, tmp_path):
-    """The page of a register that is served is that of its file: of the year, of last year, and beside the copy."""
+def test_by_the_address_of_a_register(office: Office, tmp_path: Path) -> None:
+    """The page of a register that is served is that of its file: of the year, of last year, and
+    beside the copy.
+    """
     one_school(tmp_path)
     shutil.copy(tmp_path / "reg.db", tmp_path / "last.db")
     move(tmp_path / "last.db", -1)
     assert office("figures", "reg.db", "first.html", "--before", "last.db").returncode == 0
     with served(tmp_path / "reg.db") as (now, _), served(tmp_path / "last.db") as (last, _):
-        ran = office("figures", now, "served.html", "--before", last, "--user", "jane", stdin="secret\n" * 2)
+        ran = office(
+            "figures", now, "served.html", "--before", last, "--user", "jane", stdin="secret\n" * 2
+        )
         assert ran.returncode == 0, ran
         ran = office("figures", now, "no.html", "--before", now)
-        assert ran.returncode == 1 and f"{now} is of secondary entry in 2025, and cannot be compared with secondary entry in 2025" in ran.stderr, ran
+        said = "is of secondary entry in 2025, and cannot be compared with secondary entry in 2025"
+        assert ran.returncode == 1 and f"{now} {said}" in ran.stderr, ran
         do_over(now, [DECLINE])
         ran = office("figures", now, "no.html")
-        assert ran.returncode == 1 and f"{now} {SINCE}: name the copy from right before round 1 by --copy\n" in ran.stderr, ran
-        assert office("figures", now, "copy.html", "--copy", "before.db", "--before", last).returncode == 0
-    assert (tmp_path / "served.html").read_bytes() == (tmp_path / "copy.html").read_bytes() == (tmp_path / "first.html").read_bytes()
+        assert (
+            ran.returncode == 1
+            and f"{now} {SINCE}: name the copy from right before round 1 by --copy\n" in ran.stderr
+        ), ran
+        assert (
+            office("figures", now, "copy.html", "--copy", "before.db", "--before", last).returncode
+            == 0
+        )
+    assert (
+        (tmp_path / "served.html").read_bytes()
+        == (tmp_path / "copy.html").read_bytes()
+        == (tmp_path / "first.html").read_bytes()
+    )
     assert not (tmp_path / "no.html").exists()
     assert office("figures", "last.db", "no.html", "--user", "jane").returncode == 2
 
@@ -129,30 +225,64 @@ def test_by_the_address_of_a_register(office, tmp_path):
 ACCEPT, DECLINE = ({"cmd": it, "child": 2, "school": "OAK"} for it in ("accept", "decline"))
 SINCE = "has answers, reminders, withdrawals or plans of after round 1"
 CHANGES = (
-    ([ACCEPT], SINCE), ([DECLINE], SINCE), ([{"cmd": "remind", "child": 2, "school": "OAK", "day": "2025-03-17"}], SINCE), ([{"cmd": "name_plan", "child": 12, "school": "OAK"}], SINCE),
-    ([{"cmd": "raise_pan", "school": "OAK", "pan": 9}], "has data of OAK or of its children that were changed after round 1"),
+    ([ACCEPT], SINCE),
+    ([DECLINE], SINCE),
+    ([{"cmd": "remind", "child": 2, "school": "OAK", "day": "2025-03-17"}], SINCE),
+    ([{"cmd": "name_plan", "child": 12, "school": "OAK"}], SINCE),
+    (
+        [{"cmd": "raise_pan", "school": "OAK", "pan": 9}],
+        "has data of OAK or of its children that were changed after round 1",
+    ),
     # (child 3 loses its flag, and now ranks after child 7, which was turned away)
-    ([{**child(3, east=300), "cmd": "amend"}], "has data of OAK or of its children that were changed after round 1"),
-    ([DECLINE, {"cmd": "fill", "draw": 2, "school": "OAK", "day": "2025-04-07", "lots": list(range(6))}], "had 1 draw after round 1"),
+    (
+        [{**child(3, east=300), "cmd": "amend"}],
+        "has data of OAK or of its children that were changed after round 1",
+    ),
+    (
+        [
+            DECLINE,
+            {
+                "cmd": "fill",
+                "draw": 2,
+                "school": "OAK",
+                "day": "2025-04-07",
+                "lots": list(range(6)),
+            },
+        ],
+        "had 1 draw after round 1",
+    ),
 )
 
 
 @pytest.mark.parametrize("commands, said", CHANGES)
-def test_what_was_changed_since_needs_the_copy(office, tmp_path, commands, said):
-    """Each change alone: without the copy no page is written, neither of this year nor beside it, and the line names the option; with it the page is as it was."""
+def test_what_was_changed_since_needs_the_copy(
+    office: Office, tmp_path: Path, commands: list[Command], said: str
+) -> None:
+    """Each change alone: without the copy no page is written, neither of this year nor beside it,
+    and the line names the option; with it the page is as it was.
+    """
     one_school(tmp_path)
     assert office("figures", "reg.db", "first.html").returncode == 0
     do(tmp_path / "reg.db", commands)
-    for words, option in (([], "--copy"), (["--round", "1"], "--copy")):
-        ran = office("figures", "reg.db", "no.html", *words)
-        assert ran.returncode == 1 and f"reg.db {said}: name the copy from right before round 1 by {option}\n" in ran.stderr and not (tmp_path / "no.html").exists(), ran
+    advice = "name the copy from right before round 1 by --copy"
+    for words in ("", "--round 1"):
+        ran = office("figures", "reg.db", "no.html", *words.split())
+        assert ran.returncode == 1 and f"reg.db {said}: {advice}\n" in ran.stderr, ran
+        assert not (tmp_path / "no.html").exists()
     assert office("figures", "reg.db", "copy.html", "--copy", "before.db").returncode == 0
     assert (tmp_path / "copy.html").read_bytes() == (tmp_path / "first.html").read_bytes()
 
 
-def move(path, years, *changes):
-    """Makes a register that of another year, in which all of its days are 365 days later for each, and makes these changes."""
-    days = {"application": ["day"], "imported": ["day"], "draw": ["day"], "place": ["day", "reminded"]}
+def move(path: Path, years: int, *changes: str) -> None:
+    """Makes a register that of another year, in which all of its days are 365 days later for each,
+    and makes these changes.
+    """
+    days = {
+        "application": ["day"],
+        "imported": ["day"],
+        "draw": ["day"],
+        "place": ["day", "reminded"],
+    }
     conn = sqlite3.connect(path)
     conn.execute("UPDATE meta SET year = year + ?", (years,))
     for one, column in ((one, it) for one, columns in days.items() for it in columns):
@@ -163,114 +293,248 @@ def move(path, years, *changes):
     conn.close()
 
 
-def test_last_year_needs_the_copy_too(office, season, tmp_path):
-    """Last year's register from the end of its season: it is refused by itself, and compared with its copy from before the round."""
+def test_last_year_needs_the_copy_too(office: Office, season: Path, tmp_path: Path) -> None:
+    """Last year's register from the end of its season: it is refused by itself, and compared with
+    its copy from before the round.
+    """
     shutil.copy(season / "after-1.db", tmp_path / "now.db")
     move(tmp_path / "now.db", 1)
     ran = office("figures", "now.db", "no.html", "--before", season / "reg.db")
-    assert ran.returncode == 1 and "name the copy from right before round 1 by --before-copy\n" in ran.stderr and not (tmp_path / "no.html").exists(), ran
-    assert office("figures", "now.db", "out.html", "--before", season / "reg.db", "--before-copy", season / "before-1.db").returncode == 0
-    assert office("figures", "now.db", "same.html", "--before", season / "after-1.db").returncode == 0
+    assert (
+        ran.returncode == 1
+        and "name the copy from right before round 1 by --before-copy\n" in ran.stderr
+        and not (tmp_path / "no.html").exists()
+    ), ran
+    assert (
+        office(
+            "figures",
+            "now.db",
+            "out.html",
+            "--before",
+            season / "reg.db",
+            "--before-copy",
+            season / "before-1.db",
+        ).returncode
+        == 0
+    )
+    assert (
+        office("figures", "now.db", "same.html", "--before", season / "after-1.db").returncode == 0
+    )
     assert (tmp_path / "out.html").read_bytes() == (tmp_path / "same.html").read_bytes()
     ran = office("figures", "now.db", "no.html", "--before-copy", season / "before-1.db")
     assert ran.returncode == 2 and "--before-copy needs --before" in ran.stderr
 
 
-def test_the_first_page_of_a_print(office, season, tmp_path):
-    """The chart of the preferences is on the first page, beside its table; on a narrow screen a chart keeps a width at which it can be read."""
+def test_the_first_page_of_a_print(office: Office, season: Path, tmp_path: Path) -> None:
+    """The chart of the preferences is on the first page, beside its table; on a narrow screen a
+    chart keeps a width at which it can be read.
+    """
     assert office("figures", season / "after-1.db", "out.html").returncode == 0
     code = "import sys, weasyprint; weasyprint.HTML(sys.argv[1]).write_pdf(sys.argv[2])"
-    subprocess.run([sys.executable, "-c", code, tmp_path / "out.html", tmp_path / "out.pdf"], check=True, capture_output=True)
-    first = subprocess.run(["pdftotext", "-l", "1", tmp_path / "out.pdf", "-"], check=True, capture_output=True, text=True).stdout
+    subprocess.run(
+        [sys.executable, "-c", code, tmp_path / "out.html", tmp_path / "out.pdf"],
+        check=True,
+        capture_output=True,
+    )
+    first = subprocess.run(
+        ["pdftotext", "-l", "1", tmp_path / "out.pdf", "-"],
+        check=True,
+        capture_output=True,
+        text=True,
+    ).stdout
     assert "percent of the children" in first and "Children by the preference" in first
-    assert "@media screen { figure { overflow-x: auto; } figure svg { min-width: 40rem; } }" in (tmp_path / "out.html").read_text("utf-8")
+    assert "@media screen { figure { overflow-x: auto; } figure svg { min-width: 40rem; } }" in (
+        tmp_path / "out.html"
+    ).read_text("utf-8")
 
 
-def test_the_tables_fit_a_small_screen(office, season, tmp_path):
-    """A window of 1,100 pixels has 1,053 for tables, beside its scroll bar and the margins. With each word on a line of its own the widest table needs 1,010 at
-    most, so that it fits also where a browser's letters are somewhat wider. (On a page of 390 pixels a table is as narrow as its words allow.)"""
+def test_the_tables_fit_a_small_screen(office: Office, season: Path, tmp_path: Path) -> None:
+    """A window of 1,100 pixels has 1,053 for tables, beside its scroll bar and the margins. With
+    each word on a line of its own the widest table needs 1,010 at most, so that it fits also where
+    a browser's letters are somewhat wider. (On a page of 390 pixels a table is as narrow as its
+    words allow.)
+    """
     assert office("figures", season / "reg.db", "out.html").returncode == 0
     code = """
 import sys, weasyprint
 from weasyprint.formatting_structure.boxes import TableBox
 small = weasyprint.CSS(string="@page { size: 390px 9000px; margin: 0 } figure { display: none }")
 screen = weasyprint.HTML(sys.argv[1], media_type="screen").render(stylesheets=[small])
-print(*{round(it.width) for page in screen.pages for it in page._page_box.descendants() if isinstance(it, TableBox)})
+boxes = [it for page in screen.pages for it in page._page_box.descendants()]
+print(*{round(it.width) for it in boxes if isinstance(it, TableBox)})
 """
-    ran = subprocess.run([sys.executable, "-c", code, tmp_path / "out.html"], check=True, capture_output=True, text=True)
+    ran = subprocess.run(
+        [sys.executable, "-c", code, tmp_path / "out.html"],
+        check=True,
+        capture_output=True,
+        text=True,
+    )
     widths = list(map(int, ran.stdout.split()))
     assert len(widths) == 3 and 900 < max(widths) <= 1010, widths
 
 
-def test_last_year(office, season, tmp_path):
-    """Last year is another register: earlier, of the same phase, with another number of a school that turned nobody away."""
+def test_last_year(office: Office, season: Path, tmp_path: Path) -> None:
+    """Last year is another register: earlier, of the same phase, with another number of a school
+    that turned nobody away.
+    """
     shutil.copy(season / "after-1.db", tmp_path / "last.db")
     move(tmp_path / "last.db", -1, "UPDATE school SET pan = 400 WHERE code = 'GLEA'")
     ran = office("figures", season / "after-1.db", "out.html", "--before", "last.db")
     assert ran.returncode == 0, ran
-    rows = table(Page((tmp_path / "out.html").read_text("utf-8")), "Each school in round 1 of 2025 and of 2024")
-    assert next(it[1:3] for it in rows if it[0].endswith("(GLEA)")) == ["27", "400"] and len(rows) == 22
+    rows = table(
+        Page((tmp_path / "out.html").read_text("utf-8")),
+        "Each school in round 1 of 2025 and of 2024",
+    )
+    assert (
+        next(it[1:3] for it in rows if it[0].endswith("(GLEA)")) == ["27", "400"]
+        and len(rows) == 22
+    )
     ran = office("figures", season / "after-1.db", "other.html", "--before", season / "after-1.db")
-    assert ran.returncode == 1 and "cannot be compared" in ran.stderr and not (tmp_path / "other.html").exists()
+    assert (
+        ran.returncode == 1
+        and "cannot be compared" in ran.stderr
+        and not (tmp_path / "other.html").exists()
+    )
 
 
-def test_what_is_refused(office, season, tmp_path):
-    """A page that is there, no round, a round that is none, so few children that nothing can be published; and no traceback."""
-    make(tmp_path / "few.db", [school("OAK"), *(it for at in range(1, 5) for it in (child(at), apply(at, ["OAK"])))])
+def test_what_is_refused(office: Office, season: Path, tmp_path: Path) -> None:
+    """A page that is there, no round, a round that is none, so few children that nothing can be
+    published; and no traceback.
+    """
+    make(
+        tmp_path / "few.db",
+        [school("OAK"), *(it for at in range(1, 5) for it in (child(at), apply(at, ["OAK"])))],
+    )
     (tmp_path / "there.html").write_text("mine", "utf-8")
-    wrong = [([season / "after-1.db", "there.html"], "is there already"), (["few.db", "new.html"], "had no round yet")]
-    for words, text in (*wrong, ([season / "after-1.db", "new.html", "--round", "2"], "no round 2")):
-        ran = office("figures", *words)
+    after = season / "after-1.db"
+    for words, text in (
+        (f"{after} there.html", "is there already"),
+        ("few.db new.html", "had no round yet"),
+        (f"{after} new.html --round 2", "no round 2"),
+    ):
+        ran = office("figures", *words.split())
         assert ran.returncode == 1 and text in ran.stderr and ran.stderr.count("\n") == 1, ran
-    do(tmp_path / "few.db", [{"cmd": "round", "draw": 1, "day": "2025-03-03", "lots": [1, 2, 3, 4]}])
+    do(
+        tmp_path / "few.db",
+        [{"cmd": "round", "draw": 1, "day": "2025-03-03", "lots": [1, 2, 3, 4]}],
+    )
     ran = office("figures", "few.db", "new.html")
     assert ran.returncode == 1 and "fewer than 5 children are not published" in ran.stderr
-    assert (tmp_path / "there.html").read_text("utf-8") == "mine" and not (tmp_path / "new.html").exists() and office("figures", "few.db").returncode == 2
+    assert (
+        (tmp_path / "there.html").read_text("utf-8") == "mine"
+        and not (tmp_path / "new.html").exists()
+        and office("figures", "few.db").returncode == 2
+    )
 
 
-def test_homes_are_counted_in_squares():
+def test_homes_are_counted_in_squares() -> None:
     """Squares with fewer than five homes are left out; by hand."""
     homes = [(10, 10)] * 5 + [(999, 10)] * 4 + [(1000, 10)] * 6 + [(1500, 999)]
     assert charts.homes_by_cell(homes, 1000, 5) == {(0, 0): 9, (1000, 0): 7}
     assert charts.homes_by_cell(homes, 500, 5) == {(0, 0): 5, (1000, 0): 6}
 
 
-def test_what_follows_is_not_withheld():
-    """By hand. Late: 150 took part, 17 have no place and 123 kept theirs, so 10 were offered one; Elm's 5 offers follow from its criteria, and so Oak's 5 too.
-    Oak's 2 plans then cannot be told where its kept places are withheld, with those of Elm. In the first round Elm's 18 follow from its criteria: 0, 18 and 0."""
+def test_what_follows_is_not_withheld() -> None:
+    """By hand. Late: 150 took part, 17 have no place and 123 kept theirs, so 10 were offered one;
+    Elm's 5 offers follow from its criteria, and so Oak's 5 too. Oak's 2 plans then cannot be told
+    where its kept places are withheld, with those of Elm. In the first round Elm's 18 follow from
+    its criteria: 0, 18 and 0.
+    """
     schools = {"OAK": (67, [0, 5, 0], 60, 2), "ELM": (80, [0, 5, 0], 63, 0)}
     late = figures(3, 150, {1: 123, 2: 10, figure_counts.NONE: 17}, schools)
-    assert withheld(*figure_counts.published(late)) == {("plans", "OAK"), ("kept", "OAK"), ("kept", "ELM")}
+    assert withheld(*figure_counts.published(late)) == {
+        ("plans", "OAK"),
+        ("kept", "OAK"),
+        ("kept", "ELM"),
+    }
     schools = {"OAK": (20, [0, 18, 0], 0, 2), "ELM": (30, [0, 18, 0], 0, 0)}
     first = figures(1, 39, {1: 30, 2: 6, figure_counts.NONE: 3}, schools)
     hidden = withheld(*figure_counts.published(first))
-    assert {("plans", "OAK"), ("offers", "OAK"), ("class", "OAK", 1), ("offers",), ("met", figure_counts.NONE)} <= hidden, hidden
+    assert {
+        ("plans", "OAK"),
+        ("offers", "OAK"),
+        ("class", "OAK", 1),
+        ("offers",),
+        ("met", figure_counts.NONE),
+    } <= hidden, hidden
     assert not {("offers", "ELM"), ("class", "ELM", 1)} & hidden, hidden
     # (nobody kept a place in a first round, and whoever reads the page knows that)
     assert not any(it[0] == "kept" for it in hidden)
 
 
-def figures(number, children, met, schools):
-    """Figures of schools, as (admission number, offers by class, kept, plans). Each is the first preference of about as many children, and of no other."""
-    town, left = {}, children
+def figures(
+    number: int,
+    children: int,
+    met: Mapping[int | str, int],
+    schools: Mapping[str, tuple[int, list[int], int, int]],
+) -> figure_counts.Figures:
+    """Figures of schools, as (admission number, offers by class, kept, plans). Each is the first
+    preference of about as many children, and of no other.
+    """
+    town: dict[str, figure_counts.School] = {}
+    left = children
     for code, (pan, offers, kept, plans) in schools.items():
         first = left if code == list(schools)[-1] else children // 2
         left -= first
-        one = figure_counts.School(code, code, pan, tuple("sibling" for _ in offers[2:]), 0, 0, collections.Counter({1: first}), plans, kept)
+        one = figure_counts.School(
+            code,
+            code,
+            pan,
+            tuple("sibling" for _ in offers[2:]),
+            0,
+            0,
+            collections.Counter({1: first}),
+            plans,
+            kept,
+        )
         one.offers.update({at: it for at, it in enumerate(offers) if it})
         town[code] = one
-    total = lambda what: sum(what(it) for it in town.values())
-    return figure_counts.Figures(2025, "secondary", number, datetime.date(2025, 3, 3), children, collections.Counter(met), total(lambda it: it.kept), total(lambda it: it.offers.total()), town, [])
+    return figure_counts.Figures(
+        2025,
+        "secondary",
+        number,
+        datetime.date(2025, 3, 3),
+        children,
+        collections.Counter(met),
+        sum(it.kept for it in town.values()),
+        sum(it.offers.total() for it in town.values()),
+        town,
+        [],
+    )
 
 
-def test_a_full_school_does_not_show_its_plans(tmp_path):
-    """Oak has 20 places, 2 by plans, and is full: 18 offers would show the 2, so they are withheld as well."""
+def test_a_full_school_does_not_show_its_plans(tmp_path: Path) -> None:
+    """Oak has 20 places, 2 by plans, and is full: 18 offers would show the 2, so they are withheld
+    as well.
+    """
     oak = {"school": "OAK", "name": "Oak", "pan": 20, "east": 0, "north": 0, "criteria": []}
-    children = {it: {"child": it, "name": f"C{it}", "east": it, "north": 0, "looked_after": False, "flags": [], "siblings": []} for it in range(1, 31)}
+    children = {
+        it: {
+            "child": it,
+            "name": f"C{it}",
+            "east": it,
+            "north": 0,
+            "looked_after": False,
+            "flags": [],
+            "siblings": [],
+        }
+        for it in range(1, 31)
+    }
     lists = {it: ["OAK"] for it in range(3, 31)}
     has = {it: "OAK" if it <= 20 else None for it in lists}
     lots = {("OAK", it): it for it in lists}
-    places = {1: ("OAK", "plan"), 2: ("OAK", "plan"), **{it: ("OAK", "offered") for it in range(3, 21)}}
-    write(tmp_path / "a.db", {"OAK": oak}, children, lists, places=places, draws=[("2025-03-03", has, lots, {it for it in has if has[it]})])
+    places = {
+        1: ("OAK", "plan"),
+        2: ("OAK", "plan"),
+        **{it: ("OAK", "offered") for it in range(3, 21)},
+    }
+    write(
+        tmp_path / "a.db",
+        {"OAK": oak},
+        children,
+        lists,
+        places=places,
+        draws=[("2025-03-03", has, lots, {it for it in has if has[it]})],
+    )
     found = counted(tmp_path / "a.db")
     assert found.schools["OAK"].plans == 2 and {("plans", "OAK"), ("offers", "OAK")} <= found.hidden
