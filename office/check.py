@@ -38,11 +38,11 @@ from register_files import Refused
 
 from . import across, fields, header, inputs, model, sheet, texts
 from .model import PLAN, Register
+from .rules import LIMITS
 from .run import Progress
 
 ERROR, FIXED, LOOK = "error", "fixed", "look at"
 ORDER = (ERROR, LOOK, FIXED)
-MOST_ROWS = 2000
 # so many groups of rows are named on a line
 MOST_SPANS = 4
 # so many rows are named that import refuses: for each of them it is tried once more
@@ -369,10 +369,11 @@ class Check:
                      f"is it the same child as {other.where}, {name}, number {number}?", LOOK)
         for row, why, is_error in across.odd_days(self.rows, self.register):
             self.add(row.number, "day", row.given["day"], why, ERROR if is_error else LOOK)
-        if len(self.rows) > MOST_ROWS:
-            row = self.rows[MOST_ROWS]
+        most = LIMITS["rows"].most
+        if len(self.rows) > most:
+            row = self.rows[most]
             self.add(row.number, "child", row.given.get("child", ""),
-                     f"at most {MOST_ROWS:,} rows in one file; it has {len(self.rows):,}")
+                     f"at most {most:,} rows in one file; it has {len(self.rows):,}")
 
     def against(self, reg: Register) -> None:
         """What is wrong beside the register."""
@@ -381,10 +382,11 @@ class Check:
         self.known = Known(reg, list(self.readable(reg)))
         self.known.find(self.add)
         new = sum(it.child not in reg.children for it in self.rows)
-        if new and len(reg.children) + new > MOST_ROWS:
+        most = LIMITS["children"].most
+        if new and len(reg.children) + new > most:
             last, has = self.rows[-1], f"it has {len(reg.children):,}, and {new:,} are new"
             self.add(last.number, "child", last.given.get("child", ""),
-                     f"at most {MOST_ROWS:,} children in a register: {has}")
+                     f"at most {most:,} children in a register: {has}")
 
     def readable(self, reg: Register) -> Iterator[Row]:
         """The rows of children that the register has, of those in which nothing is wrong so far:

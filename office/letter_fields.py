@@ -9,11 +9,12 @@ from register_files import Refused
 from . import criteria, days
 from .model import OFFERED, PLAN, WAITS, Application, Place, Preference, Register, School
 from .register_lists import ANSWER_DAYS
+from .rules import LIMITS
 
 Cell = str | int | datetime.date | None
 # of a child without a place
 NONE = "none"
-MOST_WAITS = 10
+MOST_WAITS = LIMITS["preferences"].most
 # why a child does not wait at a school above its place
 DECLINED, LEFT = "declined", "you left its list"
 TURNED_DOWN = "declined, or not answered in time"

@@ -44,7 +44,7 @@ from register_files import Refused
 
 from . import days, lot_sheets, model, next_draw, texts
 from .model import Pair, Reader
-from .rules import LIMITS
+from .rules import LIMITS, is_code
 from .run import put
 
 MOST_DRAW = LIMITS["draws"].most
@@ -99,7 +99,7 @@ def see_command(given: argparse.Namespace) -> None:
         given.fail(f"N is from 1 to {MOST_DRAW}")
     if not days.read(given.day):
         given.fail("the day is a date YYYY-MM-DD")
-    if given.school is not None and not texts.is_code(given.school):
+    if given.school is not None and not is_code(given.school):
         given.fail("CODE is a school's code")
 
 

@@ -6,7 +6,7 @@ from typing import Any
 
 from register_files import Refused
 
-from . import commands, fields, inputs, kinds, sheet, texts
+from . import commands, fields, inputs, kinds, rules, sheet, texts
 from .sheet import Row
 
 # where so many rows, or more, have so small a part that is nearly right, the whole file is another
@@ -63,9 +63,9 @@ def command_of(
         wrong.append(f"{texts.shown(what)}: expected accept, decline, leave or plan")
     if number.expected:
         wrong.append(f"{texts.shown(child)}: expected {number.expected}")
-    if not texts.is_code(code):
-        wrong.append(f"{texts.shown(school)}: expected the code of a school (1 to 8 of A-Z and"
-                     " 0-9)")
+    if not rules.is_code(code):
+        wrong.append(f"{texts.shown(school)}: expected the code of a school"
+                     f" ({rules.CODE_IN_WORDS})")
     if wrong:
         return {}, [f"row {row.number}, {it}" for it in wrong]
     command = {"cmd": found, "child": int(number.text), "school": code}
@@ -77,7 +77,7 @@ def is_near(row: Row, columns: Columns, kind: str | None) -> bool:
     what, child, school = (fields.trimmed(cell(row, it)) for it in columns)
     if not kind and what.lower() in ANSWERS:
         return True
-    return not fields.child(child, None).expected and texts.is_code(school.upper())
+    return not fields.child(child, None).expected and rules.is_code(school.upper())
 
 
 def see_replies(

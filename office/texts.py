@@ -9,8 +9,6 @@ LONGEST = 60
 # ends of lines, control characters, and those that turn the direction of the text around them
 UNSHOWN = re.compile("[\x00-\x1f\x7f-\x9f\u2028\u2029\u200e\u200f\u202a-\u202e\u2066-\u2069\ufeff]")
 CONTROL = re.compile("[\x00-\x1f\x7f-\x9f]")
-MOST_NAME_BYTES = 80
-CODE = re.compile(r"[A-Z0-9]{1,8}")
 # with these a cell begins that a spreadsheet runs, also in their wide forms
 RUN = tuple("=+-@\t\r\n\uff1d\uff0b\uff0d\uff20")
 
@@ -30,11 +28,6 @@ def cut(text: str) -> str:
     """The same without quotes."""
     text = visible(text)
     return text if len(text) <= LONGEST else text[:LONGEST] + ".."
-
-
-def is_code(text: str) -> bool:
-    """Whether a text is a school's code: 1 to 8 of A-Z and 0-9."""
-    return bool(CODE.fullmatch(text))
 
 
 def for_spreadsheet(text: str) -> str:
