@@ -2,12 +2,12 @@
 import { Shown } from "./desk.js";
 import { KEPT, draftOf, keepFor } from "./drafts.js";
 import { at, dayField, dayInput, element, field, report, say } from "./elements.js";
-import { isCode, isDay, isWithin, limits, shown as limit, span } from "./limits.js";
+import { isCode, isWithin, limits, shown as limit, span } from "./limits.js";
 import { details, plain } from "./matching.js";
-import { child, isRead, nextNumber, register, school, update } from "./register.js";
+import { child, nextNumber, notThere, register, school, update } from "./register.js";
 import { again, go } from "./router.js";
 import { isSure, send } from "./sending.js";
-import { day, isolated, readDay, today } from "./words.js";
+import { day, isDay, isolated, readDay, today } from "./words.js";
 
 // The fields of a child that this page can edit. Others of a later version are shown, and sent as they are
 const KNOWN = ["child", "name", "east", "north", "looked_after", "flags", "siblings", "present"];
@@ -147,7 +147,7 @@ const shown = (value) => (Array.isArray(value) ? value.join(" ") || "none" : val
 // #child/17/amend: every present value is in the form, and is sent again
 export function amendView(of) {
   const known = child(of);
-  if (!known) throw new Shown("The index does not have this child, so its present data is not known and it cannot be corrected here.");
+  if (!known) throw notThere();
   const before = known.data;
   const submit = async (after, forget) => {
     const changes = Object.keys(after).filter((key) => !isSame(before[key], after[key]));
@@ -205,7 +205,6 @@ const late = (it) => (register.season && it.day > register.season.closing_day
 
 // An application of a child that has none
 export function applyForm(of, act) {
-  if (!isRead) return null;
   const submit = async (application, forget) => {
     const question = `Record for child ${of}: ${inWords(application)}?${late(application)} An application cannot be changed.`;
     if (!await isSure(question, "Yes, record it", inOrder(application))) return;
@@ -217,7 +216,6 @@ export function applyForm(of, act) {
 
 // #add: a new child, and its application
 export function addView() {
-  if (!isRead) throw new Shown("The register could not be read, so a new child cannot be compared with the others. Try again.");
   const next = nextNumber();
   const blank = { name: "", east: "", north: "", looked_after: false, flags: [], siblings: [], present: "" };
   const read = (wrong) => {
@@ -254,7 +252,6 @@ async function add(data, application, forget) {
 
 // A plan that names a school
 export function planForm({ number: of, name }, act) {
-  if (!isRead) return null;
   const select = schoolSelect("plan", "", "choose a school");
   const read = (wrong) => {
     if (!select.value) wrong.add("plan", "Choose the school that the plan names.");

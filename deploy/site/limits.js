@@ -6,7 +6,6 @@ export const { limits } = rules;
 
 const CODE = new RegExp(`^[${limits.code.characters}]{${limits.code.least},${limits.code.most}}$`);
 export const isCode = (text) => typeof text === "string" && CODE.test(text);
-export const isDay = (text) => typeof text === "string" && /^\d{4}-\d{2}-\d{2}$/.test(text) && limits.day.least <= text && text <= limits.day.most;
 export const isWithin = ({ least, most }, value) => Number.isInteger(value) && least <= value && value <= most;
 
 // A limit as people read it

@@ -1,7 +1,7 @@
 // Refusals and errors in words, with the values of the command that was sent.
-import { isCode, isDay, isWithin, limits, shown } from "./limits.js";
+import { isCode, isWithin, limits, shown } from "./limits.js";
 import { words } from "./rules.js";
-import { day } from "./words.js";
+import { day, isDay } from "./words.js";
 
 // A text with the limits that it names, and with these values, or general words for them
 const filled = (text, values) => text.replace(/\{(\w+)(?:\.(least|most))?\}/g,

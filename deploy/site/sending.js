@@ -3,6 +3,7 @@
 import { changeOf, followed, isSame } from "./changes.js";
 import { ask, describe, outcome, Shown } from "./desk.js";
 import { at, element, say } from "./elements.js";
+import { limits, span } from "./limits.js";
 import { child, outdate, parsed, readNow, register, school, storedInTask } from "./register.js";
 import { day, daysBetween, isDay, today } from "./words.js";
 
@@ -174,7 +175,7 @@ export function strangeness(on) {
 export async function isDaySure(on, what) {
   if (!isDay(on)) {
     say(`Nothing was sent: ${on ? `the year of the day is ${Number(on.split("-")[0])}`
-      : "there is no day that can be read"}. The register takes days from 1 January 1990 to 31 December 2110.`, true);
+      : "there is no day that can be read"}. The register takes days from ${span(limits.day)}.`, true);
     return false;
   }
   const reasons = strangeness(on);

@@ -1,5 +1,6 @@
 // @ts-check
 // Days, counts and the register's own terms in plain English.
+import { rules } from "./rules.js";
 
 // (made once: a list of 2,000 children has as many days)
 /** @type {Intl.DateTimeFormatOptions} */
@@ -12,10 +13,8 @@ export const DAY_LENGTH = 86400000;
 // A day of the register, 2025-03-03, as people read it: 3 March 2025. One that is none, as 12025-03-03, as it is
 export const day = (text) => formatted(DAYS, text);
 
-// The days that the register accepts
-export const FIRST_DAY = "1990-01-01";
-export const LAST_DAY = "2110-12-31";
-export const isDay = (text) => /^\d{4}-\d{2}-\d{2}$/.test(text) && text >= FIRST_DAY && text <= LAST_DAY;
+// Whether a text is a day that the register accepts
+export const isDay = (text) => /^\d{4}-\d{2}-\d{2}$/.test(text) && rules.limits.day.least <= text && text <= rules.limits.day.most;
 
 const MONTHS = ["january", "february", "march", "april", "may", "june", "july", "august", "september", "october", "november",
   "december"];
