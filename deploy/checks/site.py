@@ -249,9 +249,9 @@ def tries(world, see):
 
 
 def unknown(world, see):
-    """The time of an answer to a name that is there, with a password whose check takes a tenth of a second, and to one that is not. Whoever else uses the
+    """The time of an answer to a name that is there, with a password whose check takes some tenths of a second, and to one that is not. Whoever else uses the
     processors can only make an answer later: so the quickest ones are compared, and more are asked for until those are near each other."""
-    hashed = world.run("perl", "-e", 'print crypt("right", "\\$6\\$rounds=100000\\$tortoise")').stdout
+    hashed = world.run("perl", "-e", 'print crypt("right", "\\$6\\$rounds=300000\\$tortoise")').stdout
     with open(world.settings / "passwords", "a", encoding="ascii") as file:
         file.write(f"tortoise:{hashed}\n")
 
