@@ -191,7 +191,7 @@ def test_the_program_dies(office, reg, tmp_path):
     (tmp_path / "a.jsonl").write_text(text(child(it) for it in range(11, 20)))
     environment = {**os.environ, "ADMISSIONS": str(fake)}
     ran = subprocess.run([ROOT / "office" / "command", "a.jsonl"], executable=None, cwd=tmp_path, capture_output=True, text=True, check=False, env=environment)
-    assert ran.returncode == 1 and "call it by one of the names" in ran.stderr
+    assert ran.returncode == 1 and "call it as" in ran.stderr
     os.symlink(ROOT / "office" / "command", tmp_path / "admissions-send")
     ran = subprocess.run([tmp_path / "admissions-send", "a.jsonl"], cwd=tmp_path, capture_output=True, text=True, check=False, env=environment, timeout=300)
     assert ran.returncode == 1 and "line 4: no answer; it may be done: look at the child, list or report first\nlines 5 to 9: not tried\n" in ran.stdout
