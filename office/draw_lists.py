@@ -41,10 +41,11 @@ def came_of(school: str | None, is_fresh: bool) -> str:
 
 
 def with_lots(register: Register) -> Iterator[tuple[Draw, dict[Pair, int]]]:
-    """The draws with their lots. Of a file each is a run of the program, so progress is shown."""
+    """The draws with their lots, with progress while these are read."""
     progress = Progress("draws", len(register.draws))
-    for draw in register.draws:
-        yield draw, register.lots(draw.number)
+    lots_of_all = register.lots_of([it.number for it in register.draws])
+    for draw, drawn in zip(register.draws, lots_of_all, strict=True):
+        yield draw, drawn
         progress.at(draw.number)
     progress.end()
 

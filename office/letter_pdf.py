@@ -28,7 +28,7 @@ from register_files import Refused
 
 from . import days, inputs, sheet, texts
 from .letter_fields import Letter
-from .printed import ends_with
+from .served_copy import ends_with
 
 if TYPE_CHECKING:
     from jinja2 import Template

@@ -4,6 +4,7 @@ Classes, distances, positions, vacancies and the days of the season are the prog
 out, and nothing here does. A register is read from a file, of which the program opens a copy, or
 from a server, by the address at which it is served.
 """
+import contextlib
 import dataclasses
 import datetime
 import functools
@@ -12,13 +13,14 @@ import os
 import re
 import subprocess
 import tempfile
-from collections.abc import Callable, Iterable, Iterator
+from collections.abc import Callable, Iterable, Iterator, Sequence
 from typing import Any, Protocol
 
 import register_files as files
 from register_files import InUse, Refused
 
-from . import inputs, senders
+from . import inputs, senders, served_copy
+from .served_copy import Request
 
 PRIMARY, SECONDARY = "primary", "secondary"
 OFFERED, ACCEPTED, PLAN = "offered", "accepted", "plan"
@@ -121,8 +123,11 @@ class Source(Protocol):
 
     name: str
 
-    def shown(self, draw: int | None = None) -> bytes:
-        """The document of the register, or that of a draw."""
+    def shown(self) -> bytes:
+        """The document of the register."""
+
+    def draws(self, numbers: Sequence[int]) -> Iterator[bytes]:
+        """The documents of draws, in this order."""
 
     def copy_to(self, path: str) -> None:
         """Writes the register to a new file, or refuses."""
@@ -153,14 +158,18 @@ class Register:
         default_factory=dict, repr=False, compare=False)
 
     def lots(self, draw: int) -> dict[Pair, int]:
-        """The lots of a draw: read when they are first wanted."""
-        if draw not in self.outcomes:
-            return {}
-        if draw not in self._lots:
-            found = parsed(self.name, self.source.shown(draw))
-            with checked(self.name):
-                self._lots[draw] = {(it["school"], it["child"]): it["lot"] for it in found["lots"]}
-        return self._lots[draw]
+        """The lots of a draw, if there is such a draw."""
+        return next(self.lots_of([draw])) if draw in self.outcomes else {}
+
+    def lots_of(self, draws: Sequence[int]) -> Iterator[dict[Pair, int]]:
+        """The lots of draws, in this order: read when they are first wanted."""
+        unread = [it for it in draws if it not in self._lots]
+        documents = zip(unread, self.source.draws(unread))
+        for draw in draws:
+            while draw not in self._lots:
+                number, text = next(documents)
+                self._lots[number] = lots_in(self.name, text)
+            yield self._lots[draw]
 
     @property
     def rounds(self) -> list[Draw]:
@@ -227,9 +236,26 @@ class File:
             raise Refused(f"{name} cannot be copied to {where}, where the program opens it:"
                           f" {error.strerror}") from error
 
-    def shown(self, draw: int | None = None) -> bytes:
-        """The document of the register, or that of a draw."""
-        ran = self.ran("show", self.copy, *(["--draw", str(draw)] if draw else []))
+    def shown(self) -> bytes:
+        """The document of the register."""
+        return self.document()
+
+    def draws(self, numbers: Sequence[int]) -> Iterator[bytes]:
+        """The documents of draws, in this order. One is shown by a run of the program; several are
+        read from one that serves a copy, or shown by a run each where it cannot serve one so.
+        """
+        wanted = [Request(f"/draw/{it}", f"draw {it} of {self.name} is not shown")
+                  for it in numbers]
+        if len(wanted) > 1:
+            with contextlib.suppress(served_copy.NoNetwork), self.another() as copy:
+                yield from served_copy.of_copy(self.program, copy, wanted)
+                return
+        for it in numbers:
+            yield self.document("--draw", str(it))
+
+    def document(self, *words: str) -> bytes:
+        """What the program shows of the copy."""
+        ran = self.ran("show", self.copy, *words)
         if ran.returncode:
             said = printed(ran).replace(self.copy, self.name)
             raise Refused(f"{self.name} is no register, or it is damaged: {said}")
@@ -240,13 +266,20 @@ class File:
         with open(self.copy, "rb") as file:
             files.copy_to(file.fileno(), path)
 
+    @contextlib.contextmanager
+    def another(self) -> Iterator[str]:
+        """A second copy, which is removed at the end."""
+        with tempfile.TemporaryDirectory(dir=self.room.name) as room:
+            copy = os.path.join(room, "copy.db")
+            self.copy_to(copy)
+            yield copy
+
     def imports(self, rows: bytes) -> dict[str, Any]:
         """The answer of the program to an import of rows, or the error of its form with the row of
         it. It imports them into a copy of its own, of which nothing remains.
         """
-        with tempfile.TemporaryDirectory(dir=self.room.name) as room:
-            copy, given = os.path.join(room, "copy.db"), os.path.join(room, "rows.csv")
-            self.copy_to(copy)
+        with self.another() as copy:
+            given = copy + ".csv"
             with open(given, "xb") as file:
                 file.write(rows)
             ran = self.ran("import", copy, given)
@@ -278,9 +311,13 @@ class Server:
     def __init__(self, sender: senders.Http) -> None:
         self.name, self.sender = sender.url, sender
 
-    def shown(self, draw: int | None = None) -> bytes:
-        """The document of the register, or that of a draw."""
-        return self.sender.read(f"/draw/{draw}" if draw else "/register")
+    def shown(self) -> bytes:
+        """The document of the register."""
+        return self.sender.read("/register")
+
+    def draws(self, numbers: Sequence[int]) -> Iterator[bytes]:
+        """The documents of draws, in this order."""
+        return (self.sender.read(f"/draw/{it}") for it in numbers)
 
     def copy_to(self, path: str) -> None:
         """Refuses: a server gives no file."""
@@ -389,6 +426,13 @@ def parsed(name: str, text: bytes) -> dict[str, Any]:
         if not isinstance(found, dict):
             raise TypeError(type(found))
         return found
+
+
+def lots_in(name: str, text: bytes) -> dict[Pair, int]:
+    """The lots of the document of a draw."""
+    found = parsed(name, text)
+    with checked(name):
+        return {(it["school"], it["child"]): it["lot"] for it in found["lots"]}
 
 
 def of_source(source: Source) -> Register:

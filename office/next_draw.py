@@ -40,8 +40,9 @@ def see_not_drawn(register: Register, pairs: set[Pair]) -> None:
     """Refuses pairs of a draw that the register has already, with whose lots nothing is to be
     done.
     """
-    there = (it.number for it in reversed(register.draws) if may_be_of(register, it, pairs))
-    found = next((it for it in there if set(register.lots(it)) == pairs), None)
+    there = [it.number for it in reversed(register.draws) if may_be_of(register, it, pairs)]
+    lots = zip(there, register.lots_of(there))
+    found = next((number for number, drawn in lots if set(drawn) == pairs), None)
     if found:
         raise Refused(f"these are pairs of draw {found}, which {register.name} has already, with"
                       f" its lots. The next draw is {len(register.draws) + 1}: print its pairs by"

@@ -18,6 +18,7 @@ import pikepdf
 import pytest
 import served
 from conftest import PROGRAM, ROOT, apply, child, do, make, school
+from programs import NO_RIGHT, RUN_FOR_EACH, SERVED, noted, noting, way_in, words_before
 from test_send import count, wait_for
 
 # a picture of one point
@@ -486,42 +487,9 @@ print("looks", looks, flush=True)
 """
 
 
-# a network of its own, and what a system without any refuses
-NETWORKS = (["unshare", "--net"], ["unshare", "--user", "--map-root-user", "--net"])
-NO_NETWORKS = ["unshare", "--user", "--map-root-user", "bash", "-c",
-    'for it in user net; do echo 0 > /proc/sys/user/max_"$it"_namespaces || exit; done; exec "$@"', "bash"]
-# what takes from root the right to make a network, so that it must be in a user namespace of its own, as of any other user
-NO_RIGHT = ["setpriv", "--bounding-set", "-sys_admin"] if os.geteuid() == 0 else []
-SERVED, RUN_FOR_EACH = "one program in a network of its own", "a run of the program for each letter"
-
-
-def can(words):
-    """Whether these words can come before a command here."""
-    return subprocess.run([*words, "true"], capture_output=True, check=False).returncode == 0
-
-
-def way_in(words, has_network=True):
-    """How the letters must be printed by a command with these words before it."""
-    return SERVED if has_network and any(can([*words, *it]) for it in NETWORKS) else RUN_FOR_EACH
-
-
-def before(has_network):
-    """Words before a command, so that it can have no network of its own, as in a container. Root loses its right where no user namespace can be made."""
-    return [] if has_network else NO_NETWORKS if can(NO_NETWORKS) else NO_RIGHT
-
-
-def noting(folder, line=""):
-    """A program in the place of the real one that notes its subcommands in a file beside it. `line` is what else it does."""
-    folder.mkdir(exist_ok=True)
-    (folder / "subcommands").touch(0o666)
-    (folder / "admissions").write_text(f'#!/bin/sh\nprintf "%s\\n" "$1" >> "{folder}/subcommands"\n{line}\nexec "{PROGRAM}" "$@"\n')
-    (folder / "admissions").chmod(0o755)
-    return {**os.environ, "ADMISSIONS": str(folder / "admissions")}
-
-
 def way_of(folder):
     """How the letters were printed."""
-    return {frozenset(["serve"]): SERVED, frozenset(["letter"]): RUN_FOR_EACH}[frozenset((folder / "subcommands").read_text().split()) & {"serve", "letter"}]
+    return {frozenset(["serve"]): SERVED, frozenset(["letter"]): RUN_FOR_EACH}[frozenset(noted(folder)) & {"serve", "letter"}]
 
 
 @pytest.mark.parametrize("has_network", [True, False])
@@ -535,7 +503,7 @@ def test_no_port_is_open(tools, tmp_path, has_network, record_property):
     nobody = ["setpriv", "--reuid", "65534", "--regid", "65534", "--clear-groups"] if os.geteuid() == 0 else []
     with subprocess.Popen([*nobody, "/usr/bin/python3", "-c", ATTACKER], stdin=subprocess.PIPE, stdout=subprocess.PIPE, text=True, cwd="/") as attacker:
         assert attacker.stdout and attacker.stdout.readline() == "ready\n"
-        words = [*before(has_network), str(tools / "admissions-letters"), "reg.db", "out"]
+        words = [*words_before(has_network), str(tools / "admissions-letters"), "reg.db", "out"]
         ran = subprocess.run(words, cwd=tmp_path, env=environment, capture_output=True, text=True, check=False)
         said, _ = attacker.communicate("\n")
     assert ran.returncode == 0 and ran.stdout == f"{count} letters are in out\n", ran
@@ -589,7 +557,7 @@ def test_a_register_that_changes_meanwhile(tools, tmp_path, has_network, target,
     town(tmp_path)
     # (this byte of a database says which SQLite wrote it last, and nothing else)
     environment = noting(tmp_path / "program", f'case $1 in letter | serve) printf X | dd of="{target}" bs=1 seek=99 conv=notrunc status=none;; esac')
-    command = [*before(has_network), str(tools / "admissions-letters"), "reg.db", *words]
+    command = [*words_before(has_network), str(tools / "admissions-letters"), "reg.db", *words]
     ran = subprocess.run(command, cwd=tmp_path, capture_output=True, text=True, env=environment, check=False)
     assert ran.returncode == 1 and "was changed while its letters were printed: nothing was written" in ran.stderr, ran
     assert sorted(it.name for it in tmp_path.iterdir()) == ["before.db", "program", "reg.db", "reg.db-wal"]

@@ -9,12 +9,14 @@ import json
 import resource
 import shutil
 import sqlite3
+import subprocess
 
 import openpyxl
 import pytest
 import served
-from conftest import HEADER, ROOT, apply, child, do, make, school
+from conftest import HEADER, PROGRAM, ROOT, apply, child, do, make, school
 from files import write
+from programs import RUN_FOR_EACH, SERVED, noted, noting, way_in, words_before
 from seasons import MODEL, NAMES, Town, file_of
 
 from office import model, worklists
@@ -230,6 +232,50 @@ def test_draws_beside_the_model(query, tmp_path):
     assert kinds <= set(seen) and min(seen[it] for it in kinds) > 1, seen
     for name in ("preferences", "last-offered", "equal-at-limit"):
         assert query(reg, name) == rows_in(register, name)
+
+
+def drawn(path, count):
+    """A register of so many rounds, and what each list of its draws has where the lots of each draw
+    were read by themselves.
+    """
+    town = Town(3)
+    for at in range(count):
+        town.round(f"2025-03-{3 + at:02}")
+        town.answers()
+    register = model.read(str(file_of(town.season, path)))
+    assert [bool(register.lots(it.number)) for it in register.draws] == [True] * count
+    return {it: rows_in(register, it) for it in ("draws", "last-offered", "equal-at-limit")}
+
+
+@pytest.mark.parametrize("has_network", [True, False])
+def test_more_draws_are_no_more_runs(tools, tmp_path, has_network, record_property):
+    """The draws of a file are read from one program that serves a copy, however many they are; where
+    it can serve to nobody else, each by a run. What is printed is the same.
+    """
+    way, folder = way_in([], has_network), tmp_path / "program"
+    for count in (2, 6):
+        wanted = drawn(tmp_path / "reg.db", count)
+        expected = ["show", *(["serve"] if way == SERVED else ["show"] * count)]
+        for words in (*([it] for it in wanted), ["--workbook", f"{count}.xlsx"]):
+            command = [*words_before(has_network), tools / "admissions-query", "reg.db", *words]
+            ran = subprocess.run(command, cwd=tmp_path, env=noting(folder), capture_output=True,
+                                 text=True, check=False)
+            assert (ran.returncode, ran.stderr) == (0, "") and noted(folder) == expected, ran
+            assert rows_of(ran)[1:] == wanted.get(words[0], []), words
+            (folder / "subcommands").unlink()
+    record_property("draws", way)
+
+
+def test_a_program_that_does_not_show_each_draw(office, tmp_path):
+    """It ends after its first answer, or fails for that draw: the reason alone is printed."""
+    drawn(tmp_path / "reg.db", 3)
+    line = (f'case "$*" in serve*) exec "{PROGRAM}" serve "$2" "$3" --count 1;;'
+            ' *"--draw 2") exit 1;; esac')
+    noting(tmp_path / "program", line)
+    ran = office("query", "reg.db", "draws", program=tmp_path / "program" / "admissions")
+    said = {SERVED: "draw 2 of reg.db is not shown: ", RUN_FOR_EACH: "reg.db is no register, or"}
+    assert ran.returncode == 1 and not ran.stdout and ran.stderr.count("\n") == 1, ran
+    assert ran.stderr.startswith(f"admissions-query: {said[way_in([])]}"), ran
 
 
 def test_whom_each_draw_moved(query, tmp_path):
