@@ -153,9 +153,12 @@ def of_file(name: str) -> Iterator[tuple[Register, Printer]]:
     if not os.path.isfile(file):
         raise Refused(f"{name} is no file")
     if failure := files.merge_log(program, file):
+        # (of a file that is in use the program does not say what to do)
+        with contextlib.suppress(OSError), model.held(name, file):
+            pass
         raise Refused(f"{name} does not open: {failure}")
     files.warn("letters", name, os.stat(file))
-    with files.held(name, file) as fd, files.room_beside(name, file) as room:
+    with model.held(name, file) as fd, files.room_beside(name, file) as room:
         copy = os.path.join(room, "copy.db")
         files.copy_to(fd, copy)
         yield model.read(name), functools.partial(printed.letters, program, copy)

@@ -336,18 +336,29 @@ def read(name: str, user: str | None = None, tool: str | None = None) -> Registe
         raise Refused(USER_NEEDS, 2)
     path = os.path.realpath(name)
     try:
-        with files.held(name, path) as fd:
+        with held(name, path) as fd:
             see_closed(name, path, fd)
             if tool:
                 files.warn(tool, name, os.fstat(fd))
             source = File(name, fd)
-    except InUse as error:
-        advice = (f"name the address at which it is served, or end the program that has it open,"
-                  f" and then admissions do {name} < /dev/null")
-        raise InUse(f"{name} is in use: {advice}") from error
     except OSError as error:
         raise Refused(f"{name} cannot be read: {error.strerror}") from error
     return of_source(source)
+
+
+@contextlib.contextmanager
+def held(name: str, path: str) -> Iterator[int]:
+    """A descriptor of a register's file, which no program opens until this block ends. Where one
+    has it open, the refusal says what to do.
+    """
+    with contextlib.ExitStack() as stack:
+        try:
+            fd = stack.enter_context(files.held(name, path))
+        except InUse as error:
+            advice = (f"name the address at which it is served, or end the program that has it"
+                      f" open, and then admissions do {name} < /dev/null")
+            raise InUse(f"{name} is in use: {advice}") from error
+        yield fd
 
 
 Reader = Callable[[str], Register]

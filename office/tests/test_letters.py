@@ -332,6 +332,11 @@ print(json.dumps(it))
         assert ran.returncode == 1 and said in ran.stderr and not (tmp_path / "out").exists(), ran
 
 
+# what each command that reads registers says of a file that a program has open
+IN_USE = ("reg.db is in use: name the address at which it is served, or end the program that has it"
+          " open, and then admissions do reg.db < /dev/null")
+
+
 def test_letters_of_a_served_register(office, tmp_path):
     """Texts, CSV and PDF of the address, also of a site with a password, are those of the file; and so are those of a worklist. Without the password there are none."""
     reg = town(tmp_path)
@@ -341,7 +346,8 @@ def test_letters_of_a_served_register(office, tmp_path):
     assert len(texts) == 7
     with served.served(reg) as (address, _), served.site(address) as site:
         ran = office("letters", "reg.db", "out")
-        assert ran.returncode == 1 and "it is in use" in ran.stderr and not (tmp_path / "out").exists(), ran
+        assert (ran.returncode, ran.stdout, ran.stderr) == (1, "", f"admissions-letters: {IN_USE}\n") and not (tmp_path / "out").exists(), ran
+        assert office("query", "reg.db", "season").stderr == f"admissions-query: {IN_USE}\n"
         for name, words, typed in (("desk", [address], None), ("site", [site, "--user", "jane"], "secret\n")):
             ran = office("letters", *words, name, "--csv", f"{name}.csv", "--pdf", f"{name}-pdf", "--before", "before.db", stdin=typed)
             assert ran.returncode == 0 and ran.stdout == f"7 letters are in {name}\n7 letters are in {name}-pdf\n7 letters are in {name}.csv\n", ran
