@@ -18,6 +18,7 @@ import multiprocessing.connection
 import os
 import re
 import sys
+import tempfile
 import time
 import urllib.parse
 from collections.abc import Callable, Iterator, Mapping, Sequence
@@ -288,9 +289,14 @@ def batch_file(room: str, number: int) -> str:
     return os.path.join(room, f"batch-{number:05}")
 
 
-def work(batches: Sequence[Batch], folder: str, room: str, is_double: bool, parent: int) -> None:
-    """What a process does: writes its batches. What goes wrong is written to a file too."""
+def work(
+    batches: Sequence[Batch], folder: str, room: str, scratch: str, is_double: bool, parent: int
+) -> None:
+    """What a process does: writes its batches. What goes wrong is written to a file too. The files
+    that a library makes for itself are in the scratch folder: a process that is ended leaves them.
+    """
     ends_with(parent)()
+    tempfile.tempdir = scratch
     try:
         for it in batches:
             write_batch(it, folder, room, is_double)
@@ -331,6 +337,21 @@ def done_by(processes: Sequence[ForkProcess], room: str, count: int) -> None:
         raise Refused("a process that writes the letters was ended")
 
 
+def write_batches(batches: list[Batch], folder: str, room: str, is_double: bool) -> None:
+    """Writes the files of batches, by a process for each processor."""
+    context = multiprocessing.get_context("fork")
+    count = max(1, min(len(os.sched_getaffinity(0)), len(batches)))
+    with tempfile.TemporaryDirectory(dir=room, ignore_cleanup_errors=True) as scratch:
+        given = (folder, room, scratch, is_double, os.getpid())
+        processes = [
+            context.Process(target=work, args=(batches[at::count], *given), daemon=True)
+            for at in range(count)
+        ]
+        for process in processes:
+            process.start()
+        done_by(processes, room, sum(len(it.children) for it in batches))
+
+
 def write_letters(
     letters: list[Letter],
     template_name: str,
@@ -352,19 +373,7 @@ def write_letters(
             address = [line for line in addresses.get(it.child, []) if line]
             pages.append(html_of(template, template_name, it, address, day))
         batches.append(Batch(at, [it.child for it in some], pages))
-    context = multiprocessing.get_context("fork")
-    count = max(1, min(len(os.sched_getaffinity(0)), len(batches)))
-    processes = [
-        context.Process(
-            target=work,
-            args=(batches[at::count], folder, room, is_double, os.getpid()),
-            daemon=True,
-        )
-        for at in range(count)
-    ]
-    for process in processes:
-        process.start()
-    done_by(processes, room, len(letters))
+    write_batches(batches, folder, room, is_double)
     write_whole([batch_file(room, it.number) for it in batches], os.path.join(room, PRINTER))
 
 
