@@ -51,8 +51,8 @@ def flags_of(name: str | None) -> dict[int, str]:
 
 
 def is_flag(text: str) -> bool:
-    """Whether a text is the number of a flag, in one or two digits."""
-    is_number = text.isascii() and text.isdigit() and len(text) < 3
+    """Whether a text is the number of a flag, in no more digits than the greatest has."""
+    is_number = text.isascii() and text.isdigit() and len(text) <= len(str(LIMITS["flag"].most))
     return is_number and LIMITS["flag"].has(int(text))
 
 

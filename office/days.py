@@ -7,6 +7,8 @@ from .rules import RULES
 FIRST, LAST = (
     datetime.date.fromisoformat(RULES["limits"]["day"][it]) for it in ("least", "most")
 )
+# an offer may be reminded of after so long, and withdrawn so long after the reminder
+NOTICE = datetime.timedelta(days=RULES["limits"]["notice"]["least"])
 # before the closing date; primary applications are made from 1 September on, and it closes on
 # 15 January
 EARLIEST_DAYS, EARLIEST = 136, "more than four months"

@@ -8,7 +8,6 @@ from register_files import Refused
 
 from . import criteria, days
 from .model import OFFERED, PLAN, WAITS, Application, Place, Preference, Register, School
-from .register_lists import ANSWER_DAYS
 from .rules import LIMITS
 
 Cell = str | int | datetime.date | None
@@ -132,7 +131,8 @@ class Letter:
         if not self.reminded:
             return [f"{named}, offered {self.offered}"]
         return [f"{named}, offered {self.offered}, reminded {self.reminded}",
-                f"The offer may be withdrawn 14 days after {self.reminded} if it is not answered."]
+                f"The offer may be withdrawn {days.NOTICE.days} days after {self.reminded} if it is"
+                " not answered."]
 
     def proved(self) -> str:
         """The text that the program must print for this child."""
@@ -185,10 +185,10 @@ class Writer:
 
     def may_have_lapsed(self, offered: datetime.date, reminded: datetime.date | None = None,
                         ) -> bool:
-        """Whether an offer can have been withdrawn by the date of the letter: 14 days after the
-        reminder, which is sent 14 days after the offer or later.
+        """Whether an offer can have been withdrawn by the date of the letter: the days of notice
+        after the reminder, which is sent as many days after the offer or later.
         """
-        return self.day - (reminded or offered + ANSWER_DAYS) >= ANSWER_DAYS
+        return self.day - (reminded or offered + days.NOTICE) >= days.NOTICE
 
     def letter(self, number: int) -> Letter:
         """The letter of a child."""
@@ -207,7 +207,7 @@ class Writer:
             school=school.code if school else None, school_name=school.name if school else None,
             preference=len(above) + 1 if found else None, offered=place.day if place else None,
             reminded=place.reminded if place else None,
-            answer_by=started + ANSWER_DAYS if started else None, criterion=criterion,
+            answer_by=started + days.NOTICE if started else None, criterion=criterion,
             criterion_code=code, metres=found.metres if found else None,
             criteria=self.criteria_of(school), ended_school=ended.school, ended_name=ended.name,
             ended_because=ended.because, listed=above, closing=register.days[0],

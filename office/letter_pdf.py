@@ -27,7 +27,7 @@ from typing import TYPE_CHECKING, Any, NamedTuple
 
 from register_files import Refused
 
-from . import days, inputs, sheet, texts
+from . import days, inputs, rules, sheet, texts
 from .letter_fields import Letter
 from .served_copy import ends_with
 
@@ -147,12 +147,13 @@ def by_child(name: str) -> Iterator[tuple[int, int | None, list[str]]]:
         raise Refused(f"{name} has no column `child`")
     at = header.index("child")
     for row in rows:
-        number = row.cells[at].strip() if at < len(row.cells) else ""
-        if row is not rows[0] and not re.fullmatch("[1-9][0-9]{0,6}", number, re.ASCII):
-            said = f"column child: {number or 'nothing'} is no child's number"
+        text = row.cells[at].strip() if at < len(row.cells) else ""
+        number = rules.number_in(text, rules.LIMITS["child"])
+        if row is not rows[0] and number is None:
+            said = f"column child: {text or 'nothing'} is no child's number"
             raise Refused(f"{name}, row {row.number}, {said}")
         others = [it.strip() for place, it in enumerate(row.cells) if place != at]
-        yield row.number, None if row is rows[0] else int(number), others
+        yield row.number, number, others
 
 
 def type_of(name: str, data: bytes) -> str | None:

@@ -9,7 +9,7 @@ from collections.abc import Collection, Mapping, Sequence
 import register_files as files
 from register_files import Refused
 
-from . import book, inputs, kinds, sheet, texts
+from . import book, inputs, kinds, rules, sheet, texts
 from .model import Child, Pair
 from .rules import LIMITS
 
@@ -64,10 +64,11 @@ def pairs_of(name: str, school: str | None) -> list[Pair]:
     found: list[Pair] = []
     for at, line in enumerate(decoded(name, bytes_of(name)).splitlines(), 1):
         where = f"line {at} of {named(name)}"
-        if not re.fullmatch(r"[A-Z0-9]{1,8} [1-9][0-9]{0,6}", line):
+        code, _, digits = line.partition(" ")
+        number = rules.number_in(digits, LIMITS["child"])
+        if number is None or not rules.is_code(code):
             raise Refused(f"{where} is no pair: a code, a blank and a child's number")
-        code, number = line.split(" ")
-        pair = (code, int(number))
+        pair = (code, number)
         if found and pair <= found[-1]:
             raise Refused(f"{where} does not come after the line before it: print the pairs again")
         if school not in (None, code):
@@ -162,7 +163,9 @@ def wrong_lot(lot: str) -> str:
     """What is wrong with a lot by itself, or "" """
     if not re.fullmatch(r"[0-9]+", lot):
         return "that is no number"
-    return f"above {MOST_LOT}" if len(lot.lstrip("0")) > 10 or int(lot) > MOST_LOT else ""
+    # (the length first: no long text is made a number)
+    is_above = len(lot.lstrip("0")) > len(str(MOST_LOT)) or int(lot) > MOST_LOT
+    return f"above {MOST_LOT}" if is_above else ""
 
 
 class Filled:

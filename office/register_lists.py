@@ -8,15 +8,13 @@ import json
 
 from register_files import Refused
 
-from . import persons, texts
+from . import days, persons, texts
 from .model import (
     ACCEPTED, BEFORE, BELOW, HELD, LEFT, OFFERED, PLAN, WAITS, Application, Place, Register,
 )
 
 Cell = str | int | None
 Rows = list[list[Cell]]
-# an offer may be reminded of after so long, and withdrawn so long after the reminder
-ANSWER_DAYS = datetime.timedelta(days=14)
 # what became of a school of a child's list where the child has no place
 CAME = {LEFT: "left", WAITS: "waiting", BEFORE: "wanted", BELOW: "below its place"}
 # the schools of a list that are counted by their preference; the others are counted together
@@ -135,9 +133,9 @@ def remind_due(register: Register, today: datetime.date) -> Rows:
     """Who is due for a reminder."""
     header: list[Cell] = ["child", "school", "offered", "due", "name"]
     due = [(day, child, it) for day, child, it in offers(register) if not it.reminded]
-    rows: Rows = [[child, it.school, text_of(day), text_of(day + ANSWER_DAYS),
+    rows: Rows = [[child, it.school, text_of(day), text_of(day + days.NOTICE),
                    register.children[child].name]
-                  for day, child, it in due if day + ANSWER_DAYS <= today]
+                  for day, child, it in due if day + days.NOTICE <= today]
     return [header, *rows]
 
 
@@ -146,9 +144,9 @@ def lapse_due(register: Register, today: datetime.date) -> Rows:
     header: list[Cell] = ["child", "school", "reminded", "due", "name"]
     due = sorted((it.reminded, child, it.school) for _, child, it in offers(register)
                  if it.reminded)
-    rows: Rows = [[child, code, text_of(reminded), text_of(reminded + ANSWER_DAYS),
+    rows: Rows = [[child, code, text_of(reminded), text_of(reminded + days.NOTICE),
                    register.children[child].name]
-                  for reminded, child, code in due if reminded + ANSWER_DAYS <= today]
+                  for reminded, child, code in due if reminded + days.NOTICE <= today]
     return [header, *rows]
 
 

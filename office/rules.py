@@ -92,6 +92,14 @@ def is_code(value: object) -> bool:
     return isinstance(value, str) and bool(CODE.fullmatch(value))
 
 
+def number_in(text: str, limit: Limit) -> int | None:
+    """The number of a text in digits, without zeros before them, or None if it is outside of a
+    limit."""
+    # (the length first: no long text is made a number)
+    is_number = len(text) <= len(str(limit.most)) and re.fullmatch("0|[1-9][0-9]*", text)
+    return int(text) if is_number and limit.has(int(text)) else None
+
+
 def value_in_words(name: str, *values: object) -> str:
     """The words for a value of a text: for several, those of a list."""
     _, one, *several = WORDS["values"][name]

@@ -36,7 +36,6 @@ import argparse
 import dataclasses
 import datetime
 import os
-import re
 import tempfile
 from collections.abc import Iterable, Iterator, Sequence
 
@@ -231,12 +230,13 @@ def page(trial: Trial, words: list[str], is_drawn: bool) -> str:
 
 def pan_change(text: str) -> Change:
     """OAK=70."""
-    found = re.fullmatch(r"([^=]+)=([1-9][0-9]{0,2})", text, re.ASCII)
+    code, _, digits = text.partition("=")
     limit = rules.LIMITS["pan"]
-    if not found or not limit.has(int(found[2])):
+    number = rules.number_in(digits, limit)
+    if not code or number is None:
         raise argparse.ArgumentTypeError(f"{text} is no school with an admission number from"
                                          f" {limit.least} to {limit.most}, as OAK=70")
-    return found[1], int(found[2])
+    return code, number
 
 
 def criteria_change(text: str) -> Change:

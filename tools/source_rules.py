@@ -63,6 +63,10 @@ LIMITS = (
     ),
     ("adm_csv/Rows.import_row_at", "if nat_lt <rows.most> k then Err TooManyRows else …"),
     (
+        "adm_http/Heads.by_length",
+        "… by_length purpose (Some n) = if nat_lt <body.most> n then Reject 413 else Run purpose n",
+    ),
+    (
         "adm_types/Seasons.IsSeason",
         "… (<year.least> ≤ season.year) × (season.year ≤ <year.most>) …"
         " length season.holidays ≤ <holidays.most> …",

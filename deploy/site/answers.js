@@ -5,6 +5,7 @@
 import { MAY_BE_DONE, Shown } from "./desk.js";
 import { KEPT, keepList, keptList } from "./drafts.js";
 import { button, childLink, element, field, isFinding, say, schoolLink } from "./elements.js";
+import { limits, numberIn } from "./limits.js";
 import { childNow, isRead, matches, nameOf, readNow } from "./register.js";
 import { isSure, send } from "./sending.js";
 import { column, table } from "./tables.js";
@@ -44,7 +45,8 @@ function setOpen(entry) {
 
 // The child that a number or a name means, if it is one alone
 async function meant(text) {
-  if (/^[1-9][0-9]{0,6}$/.test(text)) return Number(text);
+  const number = numberIn(limits.child, text);
+  if (number !== null) return number;
   if (!isRead) await readNow();
   const { children } = matches(text);
   if (children.length !== 1) throw new Shown(`${plural(children.length, "child matches", "children match")} “${isolated(text)}”: enter the number.`);

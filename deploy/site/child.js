@@ -3,7 +3,7 @@ import { Shown, read } from "./desk.js";
 import { button, dayField, dayInput, element, facts, link, progress, report, schoolLink } from "./elements.js";
 import { amendView, applyForm, planForm, reportUnsent } from "./forms.js";
 import { linesOf, withDays } from "./letters.js";
-import { isWithin, limits, span } from "./limits.js";
+import { limits, numberIn, span } from "./limits.js";
 import { child, childNow, register, school } from "./register.js";
 import { again } from "./router.js";
 import { isDaySure, isSure, send } from "./sending.js";
@@ -11,8 +11,9 @@ import { column, table } from "./tables.js";
 import { IS_FINAL, count, day, deadline, fateInWords, isolated, placeInWords, plural, priority, readDay, today } from "./words.js";
 
 const numberOf = (text) => {
-  if (!/^[1-9][0-9]*$/.test(text || "") || !isWithin(limits.child, Number(text))) throw new Shown(`A child has a number from ${span(limits.child)}.`);
-  return Number(text);
+  const number = numberIn(limits.child, text);
+  if (number === null) throw new Shown(`A child has a number from ${span(limits.child)}.`);
+  return number;
 };
 
 // #child/17, #child/17/amend, #child/17/letter

@@ -3,6 +3,7 @@
 import { isCompared } from "./changes.js";
 import { FAULTS, Shown } from "./desk.js";
 import { at, button, childLink, download, element, field, progress, say } from "./elements.js";
+import { limits } from "./limits.js";
 import { folded } from "./matching.js";
 import { child, nameOf, parsed, readNow, school, who } from "./register.js";
 import { again } from "./router.js";
@@ -23,7 +24,7 @@ function problem(command, text) {
   if (!command) return FAULTS.NotJson;
   if (IN_TERMINAL.includes(command.cmd)) return "rounds and fills are run in the terminal";
   if (!COMMANDS.includes(command.cmd)) return FAULTS.UnknownCommand;
-  if (new TextEncoder().encode(text).length > 1048576) return "it is too long";
+  if (new TextEncoder().encode(text).length > limits.body.most) return "it is too long";
   return "";
 }
 

@@ -1,5 +1,6 @@
 // Finds children by name or number, and schools by name or code: as one types, and as a view of all that match.
 import { at, childLink, element, isFinding, link } from "./elements.js";
+import { isCode, limits, numberIn } from "./limits.js";
 import { details } from "./matching.js";
 import { isRead, matches, register } from "./register.js";
 import { go } from "./router.js";
@@ -17,8 +18,10 @@ const schoolEntry = (it) => element("li", {}, link(`#school/${it.school}`, `${it
 function target(text) {
   const trimmed = text.trim();
   const { schools, children } = matches(trimmed);
-  if (/^[1-9][0-9]{0,6}$/.test(trimmed) && (!isRead || children.some((it) => String(it.number) === trimmed))) return `#child/${trimmed}`;
-  if (/^[A-Z0-9]{1,8}$/.test(trimmed.toUpperCase()) && (!isRead || register.schools.has(trimmed.toUpperCase()))) return `#school/${trimmed.toUpperCase()}`;
+  const number = numberIn(limits.child, trimmed);
+  const code = trimmed.toUpperCase();
+  if (number !== null && (!isRead || children.some((it) => it.number === number))) return `#child/${number}`;
+  if (isCode(code) && (!isRead || register.schools.has(code))) return `#school/${code}`;
   if (schools.length + children.length === 1) return children.length ? `#child/${children[0].number}` : `#school/${schools[0].school}`;
   return `#find/${encodeURIComponent(trimmed)}`;
 }

@@ -2,7 +2,7 @@
 import { Shown } from "./desk.js";
 import { KEPT, draftOf, keepFor } from "./drafts.js";
 import { at, dayField, dayInput, element, field, report, say } from "./elements.js";
-import { isCode, isWithin, limits, shown as limit, span } from "./limits.js";
+import { isCode, isWithin, limits, numberIn, shown as limit, span } from "./limits.js";
 import { details, plain } from "./matching.js";
 import { child, nextNumber, notThere, register, school, update } from "./register.js";
 import { again, go } from "./router.js";
@@ -13,7 +13,6 @@ import { day, isDay, isolated, readDay, today } from "./words.js";
 const KNOWN = ["child", "name", "east", "north", "looked_after", "flags", "siblings", "present"];
 const CODE = `${span(limits.code)} letters and digits`;
 const codes = (text) => text.toUpperCase().split(/[\s,;]+/).filter(Boolean);
-const number = (text) => (/^(0|[1-9][0-9]*)$/.test(text.trim()) ? Number(text) : null);
 
 const textInput = (id, value, more = {}) => element("input", { id, value, autocomplete: "off", ...more });
 
@@ -48,8 +47,8 @@ class Wrong extends Map {
 }
 
 function numberAt(id, within, what, wrong) {
-  const value = number(at(id).value);
-  if (!isWithin(within, value)) wrong.add(id, `${what} must be a whole number from ${span(within)}.`);
+  const value = numberIn(within, at(id).value.trim());
+  if (value === null) wrong.add(id, `${what} must be a whole number from ${span(within)}.`);
   return value;
 }
 
@@ -74,8 +73,8 @@ function nameAt(id, wrong) {
 }
 
 function flagsAt(id, wrong) {
-  const flags = at(id).value.split(/[\s,;]+/).filter(Boolean).map(number);
-  if (!flags.every((flag) => isWithin(limits.flag, flag))) wrong.add(id, `Flags must be numbers from ${span(limits.flag)}.`);
+  const flags = at(id).value.split(/[\s,;]+/).filter(Boolean).map((text) => numberIn(limits.flag, text));
+  if (flags.includes(null)) wrong.add(id, `Flags must be numbers from ${span(limits.flag)}.`);
   return [...new Set(flags)].sort((one, other) => one - other);
 }
 

@@ -15,6 +15,6 @@ export function withDays(line) {
     .replace(/^(Place: .*, offered )(\d{4}-\d\d-\d\d)$/, (_, before, offered) => before + day(offered))
     .replace(/^(Place: .*, offered )(\d{4}-\d\d-\d\d)(, reminded )(\d{4}-\d\d-\d\d)$/, (_, before, offered, between, reminded) => before + day(offered)
       + between + day(reminded))
-    .replace(/^(The offer may be withdrawn 14 days after )(\d{4}-\d\d-\d\d)( if it is not answered\.)$/, (_, before, reminded, after) => before
+    .replace(/^(The offer may be withdrawn \d+ days after )(\d{4}-\d\d-\d\d)( if it is not answered\.)$/, (_, before, reminded, after) => before
       + day(reminded) + after);
 }

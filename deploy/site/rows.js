@@ -1,12 +1,9 @@
 // @ts-check
 // The rows of each list that the page shows, from the register as it was read.
 import { movedBy } from "./view.js";
-import { daysAfter } from "./words.js";
+import { NOTICE, daysAfter } from "./words.js";
 
 /** @typedef {import("./view.js").Register} Register */
-
-// After so many days without an answer a reminder is due, and after so many more a withdrawal
-export const WAIT = 14;
 
 /** @param {Register} register */
 const childrenOf = ({ children }) => [...children.values()];
@@ -15,11 +12,11 @@ const childrenOf = ({ children }) => [...children.values()];
 const offered = (register) => childrenOf(register).filter((it) => it.place?.kind === "offered");
 
 /**
- * Whether so many days have passed since a day.
+ * Whether the days of notice have passed since a day.
  * @param {string | null} from
  * @param {string} today
  */
-const isDue = (from, today) => from !== null && daysAfter(from, WAIT) <= today;
+const isDue = (from, today) => from !== null && daysAfter(from, NOTICE) <= today;
 
 /** @type {Record<string, (register: Register, today: string) => any[]>} */
 export const ROWS = {

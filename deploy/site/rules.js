@@ -103,6 +103,7 @@ export const rules = {
   "ExtraField": 5
  },
  "limits": {
+  "body": {"least": 0, "most": 1048576},
   "child": {"least": 1, "most": 9999999},
   "children": {"least": 0, "most": 2000},
   "code": {"least": 1, "most": 8, "characters": "A-Z0-9"},

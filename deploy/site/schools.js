@@ -2,6 +2,7 @@
 import { Shown } from "./desk.js";
 import { childLink, element, facts, link, schoolLink } from "./elements.js";
 import { raiseForm } from "./forms.js";
+import { isCode, limits, numberIn, shown as limit, span } from "./limits.js";
 import { asOf, notThere, register, rounds, school } from "./register.js";
 import { intakeOf, reportOf, waitingAt } from "./rows.js";
 import { column, table } from "./tables.js";
@@ -12,7 +13,7 @@ const NAME = column("Name", (it) => it.name, { cell: (it) => bdi(it.name) });
 const CHILD = column("Child", (it) => it.child, { isFigure: true, cell: (it) => childLink(it.child) });
 
 function schoolOf(code) {
-  if (!/^[A-Z0-9]{1,8}$/.test(code)) throw new Shown("A school has a code of 1 to 8 capital letters and digits.");
+  if (!isCode(code)) throw new Shown(`A school has a code of ${span(limits.code)} capital letters and digits.`);
   if (!school(code)) throw notThere();
   return school(code);
 }
@@ -60,8 +61,9 @@ export function intakeView([code = ""]) {
 
 // #round/2
 export function roundView([text = ""]) {
-  if (!/^(0|[1-9][0-9]{0,4})$/.test(text)) throw new Shown("A round has a number from 1.");
-  const round = rounds().find((it) => it.round === Number(text));
+  const number = numberIn(limits.draws, text);
+  if (number === null) throw new Shown(`A round has a number from 1 to ${limit(limits.draws.most)}.`);
+  const round = rounds().find((it) => it.round === number);
   if (!round) throw notThere();
   const { rows, offers, kept, unplaced } = reportOf(register, round);
   const offered = `${plural(offers, "child was", "children were")} offered a new place`;

@@ -1,6 +1,8 @@
 // @ts-check
 // Answers in a sheet that was saved as CSV: rows such as decline,23,ELM,Bo Bell, or with a row of titles above them, as
 // admissions-send takes them. Commas, semicolons or tabs are between the fields.
+import { isCode, limits, numberIn } from "./limits.js";
+
 const REPLIES = { accept: "accept", decline: "decline", leave: "leave_list", leave_list: "leave_list", plan: "name_plan", name_plan: "name_plan" };
 const REPLY_TITLES = ["reply", "answer", "cmd", "command", "what"];
 const SEPARATORS = [",", ";", "\t"];
@@ -41,8 +43,9 @@ export function answerOf(fields, places = IN_ORDER) {
   const cmd = REPLIES[cell("reply").toLowerCase()];
   const school = cell("school").toUpperCase();
   if (!cmd) return { problem: "its answer is none of accept, decline, leave and plan" };
-  const [, child] = /^0*([1-9][0-9]{0,6})(?:\.0*)?$/.exec(cell("child")) || [];
-  if (!child) return { problem: "it has no number of a child" };
-  if (!/^[A-Z0-9]{1,8}$/.test(school)) return { problem: "it has no code of a school" };
-  return { command: { cmd, child: Number(child), school }, name: cell("name") };
+  const [, digits = ""] = /^0*([1-9][0-9]*)(?:\.0*)?$/.exec(cell("child")) || [];
+  const child = numberIn(limits.child, digits);
+  if (child === null) return { problem: "it has no number of a child" };
+  if (!isCode(school)) return { problem: "it has no code of a school" };
+  return { command: { cmd, child, school }, name: cell("name") };
 }

@@ -9,6 +9,8 @@ const DAYS = new Intl.DateTimeFormat("en-GB", FORM);
 const WEEKDAYS = new Intl.DateTimeFormat("en-GB", { ...FORM, weekday: "long" });
 const NUMBERS = new Intl.NumberFormat("en-GB");
 export const DAY_LENGTH = 86400000;
+// After so many days without an answer a reminder is due, and after so many more a withdrawal
+export const NOTICE = rules.limits.notice.least;
 
 // A day of the register, 2025-03-03, as people read it: 3 March 2025. One that is none, as 12025-03-03, as it is
 export const day = (text) => formatted(DAYS, text);
@@ -111,6 +113,6 @@ export function fateInWords({ state, position, of }, place) {
 // Until when a family should answer: the rules of the register
 export function deadline(place) {
   if (!place || place.kind !== "offered") return "";
-  if (place.reminded) return `The offer may be withdrawn from ${day(daysAfter(place.reminded, 14))} if it is not answered.`;
-  return `A reminder is due from ${day(daysAfter(place.offered, 14))}.`;
+  if (place.reminded) return `The offer may be withdrawn from ${day(daysAfter(place.reminded, NOTICE))} if it is not answered.`;
+  return `A reminder is due from ${day(daysAfter(place.offered, NOTICE))}.`;
 }

@@ -1,4 +1,5 @@
 """rules.json and words.json: the program keeps each limit, and each text can be printed."""
+import http.client
 import json
 import re
 import subprocess
@@ -8,6 +9,7 @@ from typing import Any
 
 import pytest
 from conftest import HEADER, PROGRAM, apply, child, make, school
+from served import served
 
 from office import commands, fields, rules
 
@@ -31,7 +33,7 @@ VALUES: dict[str, tuple[Made, str]] = {
     "within": (lambda it: school("X", criteria=[f"within:{it}"]), "OutOfRange"),
 }
 # the others, each of which has a test of its own below
-OTHERS = {"children", "draws", "holidays", "lots", "number", "rows", "schools", "year"}
+OTHERS = {"body", "children", "draws", "holidays", "lots", "number", "rows", "schools", "year"}
 
 
 def answer(path: Path, command: Any) -> Any:
@@ -93,6 +95,28 @@ def test_the_days_and_the_notice(tmp_path: Path) -> None:
         (day["most"], "AlreadyReminded"),
     ):
         assert answer(tmp_path / "reg.db", {**remind, "day": given}).get("name") == name, given
+
+
+def test_a_body(tmp_path: Path) -> None:
+    """One of the greatest length is read, and is no command here; a longer one is too large."""
+    make(tmp_path / "reg.db", [])
+    most = LIMITS["body"].most
+    with served(tmp_path / "reg.db") as (address, _):
+        for length, status in ((most, 400), (most + 1, 413)):
+            desk = http.client.HTTPConnection(address.removeprefix("http://"))
+            desk.request("POST", "/command", b" " * length)
+            assert desk.getresponse().status == status
+            desk.close()
+
+
+def test_a_number_in_digits() -> None:
+    """One within a limit, and nothing else: no zeros before it, no other digits, however many."""
+    child, flag = LIMITS["child"], LIMITS["flag"]
+    for value in (child.least, child.most):
+        assert rules.number_in(str(value), child) == value
+    assert [rules.number_in(it, flag) for it in ("0", "15", "16")] == [0, 15, None]
+    for text in ("", "0", "07", "7.0", "-7", "+7", " 7", "7\n", "٧", "10000000", "9" * 9_999):
+        assert rules.number_in(text, child) is None, text
 
 
 def test_the_year_the_holidays_and_the_phases(tmp_path: Path) -> None:

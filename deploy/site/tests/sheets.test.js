@@ -19,3 +19,10 @@ test("a row is a command and a name, or what is wrong with it", () => {
     { command: { cmd: "leave_list", child: 12, school: "B" }, name: "Ann" }, { problem: "its answer is none of accept, decline, leave and plan" },
     { problem: "it has no number of a child" }, { problem: "it has no code of a school" }]);
 });
+
+test("a number and a code are within the limits of the register", () => {
+  const child = (text) => answerOf(["accept", text, "B"]);
+  assert.deepEqual(["9999999", "9999999.0"].map((it) => child(it).command.child), [9999999, 9999999]);
+  assert.deepEqual(["10000000", "0", "0.0"].map((it) => child(it).problem), Array(3).fill("it has no number of a child"));
+  assert.deepEqual(["OAK00007", "OAK000007"].map((it) => answerOf(["accept", "12", it]).problem), [undefined, "it has no code of a school"]);
+});
