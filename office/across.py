@@ -110,7 +110,7 @@ def odd_days(rows: Iterable[One], register: Register | None) -> Iterator[tuple[O
         for row, day in given:
             if day > end:
                 yield row, f"a day up to {end}, when the lists close", True
-            elif day > closing:
+            elif not register.is_in_time(day):
                 yield row, (f"after the closing date, {closing}: it takes no part in the first"
                             " round"), False
             elif (closing - day).days > days.EARLIEST_DAYS:

@@ -63,7 +63,9 @@ class Ended:
 
 @dataclasses.dataclass(frozen=True)
 class Letter:
-    """All of one letter. `state` is offered, accepted, plan or none; days are dates."""
+    """All of one letter. `state` is offered, accepted, plan or none; days are dates; an application
+    that `is_late` took no part in the first round.
+    """
 
     child: int
     name: str
@@ -86,17 +88,11 @@ class Letter:
     ended_because: str | None
     listed: tuple[Listed, ...]
     closing: datetime.date
-
-    @property
-    def is_late(self) -> bool:
-        """Whether the application came after the closing date, and so took no part in the first
-        round.
-        """
-        return self.applied is not None and self.applied > self.closing
+    is_late: bool
 
     @property
     def late(self) -> str | None:
-        """The same in a cell."""
+        """Whether the application took no part in the first round, in a cell."""
         return "yes" if self.is_late else None
 
     @property
@@ -211,6 +207,7 @@ class Writer:
             criterion_code=code, metres=found.metres if found else None,
             criteria=self.criteria_of(school), ended_school=ended.school, ended_name=ended.name,
             ended_because=ended.because, listed=above, closing=register.days[0],
+            is_late=application is not None and not register.is_in_time(application.day),
         )
 
     def above(self, number: int, application: Application | None, place: Place | None,

@@ -176,12 +176,16 @@ class Register:
         """The rounds that were held."""
         return [it for it in self.draws if it.round]
 
+    def is_in_time(self, day: datetime.date) -> bool:
+        """Whether an application of this day takes part in the first round."""
+        # (takes_part of adm_commands/Round: the document does not say it)
+        return day <= self.days[0]
+
     @functools.cached_property
     def taking_part(self) -> dict[int, Application]:
         """The applications that take part in the next draw."""
-        closing, _, _ = self.days
         found = self.applications.items()
-        return {child: it for child, it in found if self.draws or it.day <= closing}
+        return {child: it for child, it in found if self.draws or self.is_in_time(it.day)}
 
     @functools.cached_property
     def own(self) -> dict[int, str]:

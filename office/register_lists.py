@@ -164,11 +164,10 @@ def interest(register: Register) -> Rows:
     """How many list each school, as which preference, and how many need a lot there next."""
     header: list[Cell] = ["school", "name", "pan", "plans", "children", "first", "second", "third",
                           "later", "late", "lots"]
-    closing, _, _ = register.days
     found: dict[str, list[tuple[int, bool]]] = {code: [] for code in register.schools}
     for application in register.applications.values():
         for at, code in enumerate(application.preferences, 1):
-            found[code].append((at, application.day > closing))
+            found[code].append((at, not register.is_in_time(application.day)))
     lots = collections.Counter(code for code, _ in register.pairs)
     rows: Rows = []
     for code, it in register.schools.items():
@@ -195,7 +194,7 @@ def season(register: Register) -> Rows:
     """The days of the season, and what the register has so far."""
     closing, offer, end = register.days
     last = register.draws[-1] if register.draws else None
-    late = sum(it.day > closing for it in register.applications.values())
+    late = sum(not register.is_in_time(it.day) for it in register.applications.values())
     earliest = max(offer, last.day) if last else offer
     return [
         ["what", "value"], ["phase", register.phase], ["year of entry", register.year],

@@ -62,7 +62,7 @@ def season_risk(line: Line, day: datetime.date, register: Register, is_first: bo
     if (closing - day).days > days.EARLIEST_DAYS:
         return (f"{days.EARLIEST} before the closing date, {closing}: with a wrong year a late"
                 " application is in time")
-    if day > closing and not register.draws:
+    if not register.is_in_time(day) and not register.draws:
         return f"after the closing date, {closing}: the child takes no part in the first round"
     return ""
 

@@ -8,6 +8,7 @@ import { child, childNow, register, school } from "./register.js";
 import { again } from "./router.js";
 import { isDaySure, isSure, send } from "./sending.js";
 import { column, table } from "./tables.js";
+import { isInTime } from "./view.js";
 import { IS_FINAL, count, day, deadline, fateInWords, isolated, placeInWords, plural, priority, readDay, today } from "./words.js";
 
 const numberOf = (text) => {
@@ -120,7 +121,7 @@ function waiting(shown) {
 function application(shown) {
   const { data, applied, number, preferences } = shown;
   const about = facts([
-    ["Applied", applied ? `${day(applied)}${applied > register.season.closing_day ? ", after the closing day" : ""}` : "no application"],
+    ["Applied", applied ? `${day(applied)}${isInTime(register, applied) ? "" : ", after the closing day"}` : "no application"],
     ["Home", `${data.east} east, ${data.north} north`],
     ["Looked after", data.looked_after ? "yes" : "no"],
     ["Flags", data.flags.join(", ") || "none"],

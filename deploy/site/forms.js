@@ -7,6 +7,7 @@ import { details, plain } from "./matching.js";
 import { child, nextNumber, notThere, register, school, update } from "./register.js";
 import { again, go } from "./router.js";
 import { isSure, send } from "./sending.js";
+import { isInTime } from "./view.js";
 import { day, isDay, isolated, readDay, today } from "./words.js";
 
 // The fields of a child that this page can edit. Others of a later version are shown, and sent as they are
@@ -199,8 +200,8 @@ function readApplication(wrong) {
 // The schools of an application in their order, as its confirmation lists them
 const inOrder = (it) => it.preferences.map((code) => `${code} ${isolated(school(code).name)}`);
 const inWords = (it) => `applied ${day(it.day)} for ${it.preferences.join(", ")}`;
-const late = (it) => (register.season && it.day > register.season.closing_day
-  ? ` The day is after the closing day, ${day(register.season.closing_day)}: it takes no part in the first round.` : "");
+const late = (it) => (isInTime(register, it.day) ? ""
+  : ` The day is after the closing day, ${day(register.season.closing_day)}: it takes no part in the first round.`);
 
 // An application of a child that has none
 export function applyForm(of, act) {

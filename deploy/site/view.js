@@ -74,6 +74,13 @@ export function agrees(child, answer) {
   return JSON.stringify([place, codes(child.waits)]) === JSON.stringify([now, codes(answer.waiting)]);
 }
 
+/**
+ * Whether an application of this day takes part in the first round (takes_part of adm_commands/Round: the document does not say it).
+ * @param {Register} register
+ * @param {string} on
+ */
+export const isInTime = ({ season }, on) => !season || on <= season.closing_day;
+
 /** @param {Register} register */
 export const roundsOf = ({ draws }) => [...draws.values()].filter((draw) => draw.round !== null);
 

@@ -1,6 +1,6 @@
 import assert from "node:assert/strict";
 import test from "node:test";
-import { after, agrees, empty, movedBy, readView, roundsOf } from "../view.js";
+import { after, agrees, empty, isInTime, movedBy, readView, roundsOf } from "../view.js";
 import { changed, season } from "./season.js";
 
 const register = readView(season());
@@ -36,6 +36,10 @@ test("the schools that a child declined or left are those of the register", () =
 
 test("the days of the season", () => {
   assert.deepEqual(register.season, { phase: "secondary", year: 2025, closing_day: "2024-10-31", offer_day: "2025-03-03", last_day: "2025-12-31" });
+});
+
+test("an application by the closing day takes part in the first round, and a later one does not", () => {
+  assert.deepEqual(["2024-10-30", "2024-10-31", "2024-11-01"].map((on) => isInTime(register, on)), [true, true, false]);
 });
 
 test("rounds are draws without fills", () => {
