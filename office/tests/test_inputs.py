@@ -232,47 +232,80 @@ def test_a_command_that_reads_a_file_of_no_command(office: Office, tmp_path: Pat
 
 # each command with each register that it takes; URL is the address of one
 ADDRESSED = (
-    "check good.csv --register URL", "figures URL out.html", "figures reg.db out.html --copy URL", "figures reg.db out.html --copy before.db --before URL",
-    "figures reg.db out.html --copy before.db --before reg.db --before-copy URL", "lots pairs lots.csv --number 1 --day 2025-03-03 --register URL",
-    "lots pairs --sheet out.csv --register URL", "send good.jsonl --register URL", "send good.jsonl --url URL", "trial URL reg.db --pan BIRS=99",
-    "trial before.db URL --pan BIRS=99", "why URL reg.db --child 1", "why before.db URL --child 1",
+    "check good.csv --register URL",
+    "figures URL out.html",
+    "figures reg.db out.html --copy URL",
+    "figures reg.db out.html --copy before.db --before URL",
+    "figures reg.db out.html --copy before.db --before reg.db --before-copy URL",
+    "lots pairs lots.csv --number 1 --day 2025-03-03 --register URL",
+    "lots pairs --sheet out.csv --register URL",
+    "send good.jsonl --register URL",
+    "send good.jsonl --url URL",
+    "trial URL reg.db --pan BIRS=99",
+    "trial before.db URL --pan BIRS=99",
+    "why URL reg.db --child 1",
+    "why before.db URL --child 1",
 )
 OTHER_DOCUMENT = "the program shows another document than this command reads"
+EMPTY = b'{"children":[],"draws":[],"schools":[{}],"season":{}}'
+
+
+class Other(socketserver.TCPServer):
+    """Something that answers every request in the same way."""
+
+    status: int
+    body: bytes
+
+
+class Answers(http.server.BaseHTTPRequestHandler):
+    """Its answers."""
+
+    server: Other
+
+    def do_GET(self) -> None:  # pylint: disable=invalid-name
+        """Answers."""
+        self.send_response(self.server.status)
+        self.end_headers()
+        self.wfile.write(self.server.body)
+
+    def log_message(self, *_: object) -> None:
+        """Prints nothing."""
 
 
 @pytest.mark.parametrize("status, body, said", [
-    (None, b"", "cannot be read: no connection: "), (404, b"<html>", "/register cannot be read: the server answered with status 404"),
-    (200, b"<html>\n", OTHER_DOCUMENT), (200, b"[]", OTHER_DOCUMENT), (200, b'{"children":[],"draws":[],"schools":[{}],"season":{}}', OTHER_DOCUMENT),
+    (None, b"", "cannot be read: no connection: "),
+    (404, b"<html>", "/register cannot be read: the server answered with status 404"),
+    (200, b"<html>\n", OTHER_DOCUMENT),
+    (200, b"[]", OTHER_DOCUMENT),
+    (200, EMPTY, OTHER_DOCUMENT),
 ])
-def test_an_address_where_no_register_is_served(office, season, tmp_path, status, body, said):
-    """Nobody answers, or something else does: it is named by its address, on one line, and nothing is written."""
-
-    class Other(http.server.BaseHTTPRequestHandler):
-        """Answers every request so."""
-
-        def do_GET(self):
-            """Answers."""
-            self.send_response(status)
-            self.end_headers()
-            self.wfile.write(body)
-
-        def log_message(self, *_):
-            """Prints nothing."""
-
+def test_an_address_where_no_register_is_served(
+    office: Office, season: Path, tmp_path: Path, status: int | None, body: bytes, said: str
+) -> None:
+    """Nobody answers, or something else does: it is named by its address, on one line, and nothing
+    is written.
+    """
     shutil.copy(season / "after-1.db", tmp_path / "reg.db")
     shutil.copy(season / "before-1.db", tmp_path / "before.db")
-    for name, text in (("good.csv", APPLICATIONS), ("pairs", "OAK 1\n"), ("lots.csv", "OAK,1,1\n"), ("good.jsonl", "{}\n")):
+    for name, text in (
+        ("good.csv", APPLICATIONS),
+        ("pairs", "OAK 1\n"),
+        ("lots.csv", "OAK,1,1\n"),
+        ("good.jsonl", "{}\n"),
+    ):
         (tmp_path / name).write_text(text, "utf-8")
     had = sorted(os.listdir(tmp_path))
-    with socketserver.TCPServer(("127.0.0.1", 0), Other) as server:
+    with Other(("127.0.0.1", 0), Answers) as server:
+        server.status, server.body = status or 0, body
         thread = threading.Thread(target=server.serve_forever, daemon=True)
         thread.start()
-        port = server.server_address[1] if status else 1
+        url = f"http://127.0.0.1:{server.server_address[1] if status else 1}"
         for words in ADDRESSED if status in (None, 404) else ADDRESSED[::4]:
-            url = f"http://127.0.0.1:{port}"
             ran = office(*words.replace("URL", url).split(" "), stdin="")
-            assert ran.returncode == 1 and f"{url}" in ran.stderr and said in ran.stderr and ran.stderr.count("\n") == 1 and not ran.stdout, (words, ran)
-            assert "Traceback" not in ran.stderr and "error in this command" not in ran.stderr, (words, ran)
+            assert ran.returncode == 1 and url in ran.stderr and said in ran.stderr, (words, ran)
+            assert ran.stderr.count("\n") == 1 and not ran.stdout, (words, ran)
+            assert "Traceback" not in ran.stderr, (words, ran)
+            assert "error in this command" not in ran.stderr, (words, ran)
         server.shutdown()
         thread.join()
     assert [it for it in sorted(os.listdir(tmp_path)) if not it.endswith("-wal")] == had
