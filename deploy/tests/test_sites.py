@@ -1,12 +1,9 @@
 """The sites that admissions-setup makes, by the version of nginx and with or without IPv6."""
 import re
-import sys
 
 import pytest
 from conftest import ROOT
-
-sys.path.append(str(ROOT / "deploy"))
-from machine import sites  # noqa: E402
+from machine import sites
 
 MODEL = (ROOT / "deploy/nginx/admissions.conf").read_text(encoding="utf-8")
 MORE = (ROOT / "deploy/nginx/machine.conf").read_text(encoding="utf-8")
