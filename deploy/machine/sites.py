@@ -1,18 +1,24 @@
-"""The sites of nginx: one of each register, made of the site that the office may change, and the
-machine's own part, made once.
+"""The sites of nginx: one of each register, and what all of them share, made by the template that
+the office may change.
 """
+from __future__ import annotations
+
 import dataclasses
 import hashlib
 import pathlib
 import re
 import socket
 from collections.abc import Iterable, Mapping
+from typing import TYPE_CHECKING
 
 from register_files import Refused
 
 from . import files
 from .registers import NAME, SETTINGS, Register
 from .programs import call, is_booted, tool
+
+if TYPE_CHECKING:
+    from jinja2 import Environment
 
 NGINX = pathlib.Path("/etc/nginx")
 AVAILABLE, ENABLED = NGINX / "sites-available", NGINX / "sites-enabled"
@@ -25,7 +31,8 @@ CONNECTIONS, OPEN_FILES = 8192, 16384
 # From this version on HTTP/2 is a directive of its own, and an option of `listen` is warned of
 HTTP2_DIRECTIVE = (1, 25, 1)
 READ = pathlib.Path("/run/admissions-sites-read")
-FIRST, LAST = "# The machine's own part, which is there once:\n", "# The end of that part\n"
+# What the template must use. That of an earlier version has none of it
+VARIABLES = {"part", "host", "name", "suffix", "settings", "logs", "socket"}
 LABEL = "[a-z0-9]([a-z0-9-]{0,61}[a-z0-9])?"
 HOST = re.compile(rf"(?=.{{1,253}}\Z){LABEL}(\.{LABEL})+")
 FOLDERS = pathlib.Path("/etc/tmpfiles.d")
@@ -49,16 +56,6 @@ class Machine:
     nginx: tuple[int, ...]
     has_ipv6: bool
 
-    def adapted(self, text: str) -> str:
-        """A text of the model, which is that of a new nginx on a machine with IPv6, for this one.
-        """
-        if not self.has_ipv6:
-            text = re.sub(r"(?m)^ *listen \[::\]:.*\n", "", text)
-        if self.nginx < HTTP2_DIRECTIVE and "http2 on;" in text:
-            text = re.sub(r"(?m)^ *http2 on;\n", "", text)
-            text = re.sub(r"(?m)^( *listen [^;]*443 ssl);", r"\1 http2;", text)
-        return text
-
 
 def this_machine() -> Machine:
     """The version of nginx here, and whether a socket of IPv6 can be made."""
@@ -73,45 +70,97 @@ def this_machine() -> Machine:
     return Machine(tuple(map(int, version.groups())), True)
 
 
-def parts(model: str) -> tuple[str, str]:
-    """The machine's part of the model, and all else of it."""
-    if model.count(FIRST) != 1 or model.count(LAST) != 1 or model.index(FIRST) > model.index(LAST):
-        raise Refused(f"{MODEL} does not have its two lines around the machine's own part")
-    before, _, rest = model.partition(FIRST)
-    own, _, after = rest.partition(LAST)
-    return own, before + after
+def environment() -> Environment:
+    """How a template of nginx's files is read. In these `{#` may begin a block and a remark, so it
+    begins no comment of the template.
+    """
+    import jinja2
+
+    return jinja2.Environment(
+        undefined=jinja2.StrictUndefined,
+        comment_start_string="{%#",
+        comment_end_string="#%}",
+        trim_blocks=True,
+        lstrip_blocks=True,
+        keep_trailing_newline=True,
+    )
 
 
-def replaced(text: str, old: str, new: str) -> str:
-    """The text with all that matches replaced, which must occur."""
-    out, count = re.subn(old, new, text)
-    if not count:
-        raise Refused(f"{MODEL} does not have what is replaced for each register: {old}")
-    return out
+def by_template(template: str, machine: Machine, **values: str) -> str:
+    """A text by a template, for this machine."""
+    text: str = environment().from_string(template).render(
+        ipv6=machine.has_ipv6, http2_directive=machine.nginx >= HTTP2_DIRECTIVE, **values
+    )
+    return text
+
+
+def by_model(model: str, machine: Machine, **values: str) -> str:
+    """A part of the template that the office may change. An error in it is named, and so is the
+    template of an earlier version, which an upgrade leaves where the office has changed it.
+    """
+    import jinja2
+    import jinja2.meta
+
+    try:
+        unused = VARIABLES - jinja2.meta.find_undeclared_variables(environment().parse(model))
+        if unused:
+            raise unusable(f"it does not use {', '.join(sorted(unused))}")
+        return by_template(model, machine, **values)
+    except jinja2.TemplateSyntaxError as error:
+        raise Refused(f"{MODEL}, line {error.lineno}: {error.message}") from error
+    except (jinja2.TemplateError, ArithmeticError, LookupError, TypeError, ValueError) as error:
+        raise Refused(f"{MODEL}: {error}") from error
+
+
+def unusable(why: str) -> Refused:
+    """The refusal of a template that is not that of this version with changes."""
+    return Refused(
+        f"{MODEL} is not a template of this version: {why}. No site was changed. Put what you"
+        f" changed into a copy of {share() / 'admissions.conf'}, move that to {MODEL}, and type"
+        " admissions-setup --sites"
+    )
 
 
 def site_text(model: str, name: str, host: str, machine: Machine) -> str:
-    """The site of one register: its host, folders and socket, and names that no other site has."""
-    suffix = name.replace("-", "_")
-    text = parts(model)[1]
-    for old, new in (
-        (r"admissions\.example\b", host),
-        (r"\bregister-name\b", name),
-        ("/etc/admissions/", f"/etc/admissions/{name}/"),
-        (r"/run/admissions/desk\.sock", f"/run/admissions/{name}.sock"),
-        ("/var/log/admissions/", f"/var/log/admissions/{name}/"),
-        (r"\$(role|may|is_foreign|is_other_type)\b", rf"$\1_{suffix}"),
-        (r"log_format admissions ", f"log_format admissions_{suffix} "),
-        (r"asked\.log admissions if", f"asked.log admissions_{suffix} if"),
-        (r"(upstream|zone|http:/)([ /])desk\b", rf"\1\2desk_{suffix}"),
-    ):
-        text = replaced(text, old, new)
-    return MADE + machine.adapted(text)
+    """The site of one register: its host, files and socket, and names that no other site has."""
+    register, suffix = Register(name), name.replace("-", "_")
+    text = by_model(
+        model,
+        machine,
+        part="site",
+        host=host,
+        name=name,
+        suffix=suffix,
+        settings=str(register.settings),
+        logs=str(register.logs),
+        socket=str(register.socket),
+    )
+    if wrong := not_own(text, register, host, suffix):
+        raise unusable(f"in the site of {name} these are missing, or not its own: {wrong}")
+    return MADE + text
+
+
+def not_own(text: str, register: Register, host: str, suffix: str) -> str:
+    """What a site does not have, or has of another one, as after a change of the template: nginx
+    would take it, and give the rights of another register, or log elsewhere.
+    """
+    text = re.sub(r"(?m)^\s*#.*", "", text)
+    own = [register.settings / it for it in ("roles", "passwords", "site.crt", "site.key")]
+    own += [register.logs / it for it in ("asked.log", "errors.log")] + [register.socket]
+    wrong = [it for it in (f"server_name {host}", f"https://{host}") if it not in text]
+    for path in own:
+        found = set(re.findall(rf"/\S*/{re.escape(path.name)}(?=[\s;])", text))
+        if found != {str(path)}:
+            wrong.append(str(path))
+    for variable in re.findall(r"(?m)^\s*map\s.*\$(\w+)\s*\{", text):
+        if not variable.endswith(f"_{suffix}"):
+            wrong.append(f"${variable}")
+    return ", ".join(wrong)
 
 
 def machine_text(model: str, more: str, machine: Machine) -> str:
-    """The machine's own part, after what is before any of it."""
-    return MADE + machine.adapted(more + parts(model)[0])
+    """What all sites share, after what is before any of it."""
+    return MADE + by_template(more, machine) + by_model(model, machine, part="machine")
 
 
 def limits_text(main: str) -> str:

@@ -1,10 +1,11 @@
-"""What a package says of itself: the result of the gate, the program, and the versions and licences
-of the kit's crates."""
+"""What a package says of itself: the result of the gate, the program, the versions and licences of
+the kit's crates, and what it depends on."""
 import argparse
 import hashlib
 import json
 import pathlib
 import subprocess
+import sys
 import types
 
 import pytest
@@ -181,3 +182,17 @@ def test_another_version_or_licence_is_refused(
     rows(row)
     with pytest.raises(package.Refused, match=f"^debian/ported.tsv has {row[0]}"):
         package.compare_with_kit(kit)
+
+
+def test_the_package_depends_on_what_makes_sites() -> None:
+    """An upgrade makes them, also on a machine without the packages that are only recommended."""
+    tool = loaded(ROOT / "debian/recommends")
+    files = sorted((ROOT / "deploy/machine").glob("*.py"))
+    imported = {name for path in files for name in tool.modules(path)}
+    needed = {
+        tool.PACKAGES[it] for it in imported - set(sys.stdlib_module_names) - tool.OWN
+    }
+    lines = (ROOT / "debian/control").read_text(encoding="utf-8").splitlines()
+    fields = dict(line.split(": ", 1) for line in lines if not line.startswith(" ") and line)
+    assert needed == {"python3-jinja2"}
+    assert needed <= set(fields["Depends"].split(", "))

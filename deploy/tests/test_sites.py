@@ -1,13 +1,35 @@
-"""The sites that admissions-setup makes, by the version of nginx and with or without IPv6."""
+"""The sites that admissions-setup makes, by the version of nginx and with or without IPv6, and by a
+template that an office has changed."""
+import pathlib
 import re
 
 import pytest
 from conftest import ROOT
-from machine import sites
+from machine import registers, sites
+from register_files import Refused
 
 MODEL = (ROOT / "deploy/nginx/admissions.conf").read_text(encoding="utf-8")
 MORE = (ROOT / "deploy/nginx/machine.conf").read_text(encoding="utf-8")
 OLD, LAST_OLD, FIRST_NEW, NEW = (1, 22, 1), (1, 25, 0), (1, 25, 1), (1, 26, 3)
+HERE = sites.Machine(NEW, True)
+# A template of an earlier version was a site, whose names admissions-setup replaced
+EARLIER = """map $remote_user $role {
+    include /etc/admissions/roles;
+}
+# The machine's own part, which is there once:
+limit_conn_zone $binary_remote_addr zone=admissions_address:4m;
+# The end of that part
+server {
+    listen 443 ssl;
+    server_name admissions.example;
+}
+"""
+# What nginx knows by one name for all sites, and what a site has of the machine
+OWN = re.compile(
+    r"(?m)^ *(?:map .*(\$\w+) \{|log_format (\w+) |upstream (\w+) |zone (\w+) "
+    r"|server (unix:\S+) |server_name (\S+);|(?:access|error)_log +(/\S+) |include (\S+);"
+    r"|ssl_certificate(?:_key)? +(\S+);|auth_basic_user_file (\S+);)"
+)
 
 
 def listens(machine: sites.Machine) -> tuple[list[list[str]], bool]:
@@ -44,11 +66,164 @@ def test_what_a_site_listens_at(
     assert (found, has_directive) == ([own, shared if machines else shared[::2]], is_directive)
 
 
+def names_in(text: str) -> set[str]:
+    """What a site has of its own."""
+    return {name for found in OWN.findall(text) for name in found if name}
+
+
+def test_two_sites_share_no_name_and_no_file() -> None:
+    one = sites.site_text(MODEL, "primary-2026", "primary.example", HERE)
+    other = sites.site_text(MODEL, "x", "admissions.example", HERE)
+    assert (len(names_in(one)), len(names_in(other)), names_in(one) & names_in(other)) == (
+        14,
+        14,
+        set(),
+    )
+    for old, new in (
+        ("primary-2026", "x"),
+        ("primary_2026", "x"),
+        ("primary.example", "admissions.example"),
+    ):
+        assert old in one
+        one = one.replace(old, new)
+    assert one == other
+
+
+@pytest.mark.parametrize(
+    "old, new, named",
+    [
+        ("{{ settings }}/roles", "/etc/admissions/roles", "/etc/admissions/x-1/roles"),
+        (
+            "{{ settings }}/passwords",
+            "/etc/admissions/y/passwords",
+            "/etc/admissions/x-1/passwords",
+        ),
+        ("{{ settings }}/site.crt", "/etc/admissions/site.crt", "/etc/admissions/x-1/site.crt"),
+        ("{{ settings }}/site.key", "/etc/admissions/site.key", "/etc/admissions/x-1/site.key"),
+        (
+            "{{ logs }}/asked.log admissions_refused",
+            "/var/log/admissions/asked.log admissions_refused",
+            "/var/log/admissions/x-1/asked.log",
+        ),
+        ("{{ logs }}/errors.log", "/var/log/errors.log", "/var/log/admissions/x-1/errors.log"),
+        ("server_name {{ host }}", "server_name admissions.example", "server_name x.example"),
+        ("POST https://{{ host }}", "POST https://admissions.example", "https://x.example"),
+        ("$role_{{ suffix }}", "$role", "$role"),
+        ("$is_foreign_{{ suffix }}", "$is_foreign", "$is_foreign"),
+        ("upstream desk_", "map $host $night { }\nupstream desk_", "$night"),
+    ],
+)
+def test_a_site_without_what_is_its_own_is_refused(old: str, new: str, named: str) -> None:
+    """As where names of an earlier template were put into this one: nginx would take most of it."""
+    assert old in MODEL
+    with pytest.raises(Refused) as found:
+        sites.site_text(MODEL.replace(old, new), "x-1", "x.example", HERE)
+    assert (
+        "is not a template of this version: in the site of x-1 these are missing, or not its own:"
+        f" {named}. No site was changed. Put what you changed into a copy of"
+    ) in str(found.value)
+
+
+def test_a_remark_may_name_what_is_not_the_sites_own() -> None:
+    remark = "    # was: ssl_certificate /etc/admissions/site.crt;\n"
+    text = sites.site_text(
+        MODEL.replace("    server_name ", f"{remark}    server_name "), "x-1", "x.example", HERE
+    )
+    assert remark in text
+
+
+@pytest.mark.parametrize("socket", ["/run/admissions/desk.sock", "127.0.0.1:8080"])
+def test_a_template_must_use_what_is_each_registers_own(socket: str) -> None:
+    with pytest.raises(Refused, match="of this version: it does not use socket. No site was "):
+        sites.site_text(MODEL.replace("{{ socket }}", socket), "x-1", "x.example", HERE)
+
+
+@pytest.mark.parametrize(
+    "old, new, said",
+    [
+        ("{% elif part", "{% or part", ", line {line}: Encountered unknown tag 'or'"),
+        ("server_name {{ host }}", "server_name {{ hots }}", ": 'hots' is undefined"),
+        ("server_name {{ host }}", "server_name {{ host + 1 }}", ": can only concatenate str"),
+        ("server_name {{ host }}", "server_name {{ host | idn }}", ": No filter named 'idn'"),
+    ],
+)
+def test_an_error_in_the_template_is_named(old: str, new: str, said: str) -> None:
+    line = MODEL[: MODEL.index(old)].count("\n") + 1
+    with pytest.raises(Refused) as found:
+        sites.site_text(MODEL.replace(old, new), "x-1", "x.example", HERE)
+    assert str(found.value).startswith(f"{sites.MODEL}{said.format(line=line)}")
+
+
+def test_a_remark_behind_a_brace_is_no_comment_of_the_template() -> None:
+    text = MODEL.replace("    location = /may {\n", "    location = /may {# who may\n    #}\n")
+    site = sites.site_text(text, "x-1", "x.example", HERE)
+    assert "    location = /may {# who may\n    #}\n        internal;\n" in site
+
+
+@pytest.fixture(name="nginx")
+def nginx_fixture(
+    register: registers.Register,
+    write_as_me: None,
+    tmp_path: pathlib.Path,
+    monkeypatch: pytest.MonkeyPatch,
+) -> pathlib.Path:
+    """A folder with what nginx has of a machine with one register, before its site is made. Nothing
+    is called."""
+    root = tmp_path / "nginx"
+    for name in ("sites-available", "sites-enabled", "conf.d", "modules-enabled", "tmpfiles.d"):
+        (root / name).mkdir(parents=True)
+    for constant, name in (
+        ("AVAILABLE", "sites-available"),
+        ("ENABLED", "sites-enabled"),
+        ("MODEL", "sites-available/admissions"),
+        ("MACHINE", "conf.d/admissions.conf"),
+        ("MAIN", "nginx.conf"),
+        ("LIMITS", "modules-enabled/90-admissions.conf"),
+        ("FOLDERS", "tmpfiles.d"),
+    ):
+        monkeypatch.setattr(sites, constant, root / name)
+    monkeypatch.setattr(sites, "this_machine", lambda: HERE)
+    monkeypatch.setattr(sites, "tool", lambda name, package: name)
+    monkeypatch.setattr(sites, "call", lambda *_: None)
+    monkeypatch.setattr(sites, "is_booted", lambda: False)
+    (root / "nginx.conf").write_text("events {\n\tworker_connections 768;\n}\n")
+    return root
+
+
+def files_of(root: pathlib.Path) -> dict[str, bytes]:
+    return {str(it.relative_to(root)): it.read_bytes() for it in root.rglob("*") if it.is_file()}
+
+
+@pytest.mark.parametrize("is_made", [False, True])
+@pytest.mark.parametrize("has_register", [False, True])
+def test_with_a_template_of_an_earlier_version_nothing_is_changed(
+    is_made: bool, has_register: bool, nginx: pathlib.Path, register: registers.Register
+) -> None:
+    """Neither where sites are made already, nor where no register is there."""
+    if not has_register:
+        (register.settings / "site-name").unlink()
+    if is_made:
+        sites.MODEL.write_text(MODEL, encoding="utf-8")
+        assert f"made {sites.MACHINE}" in sites.make_all()
+        assert (nginx / "sites-enabled/admissions-secondary-2025").exists() == has_register
+    sites.MODEL.write_text(EARLIER, encoding="utf-8")
+    before = files_of(nginx)
+    with pytest.raises(Refused) as found:
+        sites.make_all()
+    assert str(found.value) == (
+        f"{nginx}/sites-available/admissions is not a template of this version: it does not use"
+        " host, logs, name, part, settings, socket, suffix. No site was changed. Put what you"
+        f" changed into a copy of {ROOT}/deploy/nginx/admissions.conf, move that to"
+        f" {nginx}/sites-available/admissions, and type admissions-setup --sites"
+    )
+    assert files_of(nginx) == before
+
+
 def test_the_machines_own_part_needs_no_site() -> None:
     """Each variable of it is its own or nginx's, so nginx starts where the last register is
     retired.
     """
-    text = re.sub(r"(?m)^ *#.*", "", sites.machine_text(MODEL, MORE, sites.Machine(NEW, True)))
+    text = re.sub(r"(?m)^ *#.*", "", sites.machine_text(MODEL, MORE, HERE))
     own = set(re.findall(r"(?m)^map .*\$(\w+) \{$|\bset \$(\w+) |\(\?<(\w+)>", text))
     others = set(re.findall(r"\$(\w+)", text)) - {name for it in own for name in it}
     assert sorted(others) == [
@@ -75,7 +250,7 @@ def test_what_nginx_opens_as_root_is_in_folders_of_root() -> None:
     owners = {"/var/log/admissions/x": "root", **dict(made)}
     opened = re.findall(
         r"(?m)^ *(?:access|error)_log +(/\S+)/[^/ ]+ ",
-        sites.site_text(MODEL, "x", "x.example", sites.Machine(NEW, True)),
+        sites.site_text(MODEL, "x", "x.example", HERE),
     )
     assert (len(opened), {owners[it] for it in opened}, len(made), set(owners.values())) == (
         3,
