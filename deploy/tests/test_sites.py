@@ -32,11 +32,13 @@ OWN = re.compile(
 )
 
 
-def listens(machine: sites.Machine) -> tuple[list[list[str]], bool]:
-    """The addresses of a site and of the machine's own part, and whether HTTP/2 is a directive."""
+def listens(machine: sites.Machine) -> tuple[list[list[str]], list[int]]:
+    """The addresses of a site and of the machine's own part, and how often HTTP/2 is a directive in
+    each."""
     site = sites.site_text(MODEL, "x-1", "x.example", machine)
     texts = site, sites.machine_text(MODEL, MORE, machine)
-    return [re.findall(r"(?m)^ *listen (.*);", it) for it in texts], "http2 on;" in site
+    addresses = [re.findall(r"(?m)^ *listen (.*);", it) for it in texts]
+    return addresses, [it.count("http2 on;") for it in texts]
 
 
 @pytest.mark.parametrize(
@@ -55,15 +57,17 @@ def test_what_a_site_listens_at(
     machines: bool,
     is_directive: bool,
 ) -> None:
-    """HTTP/2 is named once, as the version takes it, and IPv6 only where there is some."""
-    found, has_directive = listens(sites.Machine(version, has_ipv6))
+    """HTTP/2 is named as the version takes it: as a directive also in the server that answers for
+    another host. IPv6 is named only where there is some."""
+    found, directives = listens(sites.Machine(version, has_ipv6))
     shared = [
         "80 default_server",
         "[::]:80 default_server",
         "443 ssl default_server",
         "[::]:443 ssl default_server",
     ]
-    assert (found, has_directive) == ([own, shared if machines else shared[::2]], is_directive)
+    wanted = [own, shared if machines else shared[::2]]
+    assert (found, directives) == (wanted, [is_directive, is_directive])
 
 
 def names_in(text: str) -> set[str]:
@@ -238,6 +242,20 @@ def test_the_machines_own_part_needs_no_site() -> None:
         "time_iso8601",
         "upstream_addr",
     ]
+
+
+def test_each_answer_has_the_headers_of_the_list() -> None:
+    """Also that to a request for another host, which is not of a site. Retry-After has no value but
+    for what may be repeated.
+    """
+    lines = (ROOT / "deploy/checks/headers").read_text(encoding="utf-8").splitlines()
+    wanted = dict(line.split(": ", 1) for line in lines if not line.startswith("#"))
+    assert wanted.pop("Server") == "nginx"
+    texts = sites.site_text(MODEL, "x", "x.example", HERE), sites.machine_text(MODEL, MORE, HERE)
+    found = [
+        dict(re.findall(r'(?m)^ *add_header (\S+) "?([^"\n]+?)"? always;$', it)) for it in texts
+    ]
+    assert found == [wanted | {"Retry-After": "$retry_after"}] * 2
 
 
 def test_what_nginx_opens_as_root_is_in_folders_of_root() -> None:
