@@ -104,21 +104,17 @@ def by_model(model: str, machine: Machine, **values: str) -> str:
     try:
         unused = VARIABLES - jinja2.meta.find_undeclared_variables(environment().parse(model))
         if unused:
-            raise unusable(f"it does not use {', '.join(sorted(unused))}")
+            raise Refused(
+                f"{MODEL} is not a template of this version: it does not use"
+                f" {', '.join(sorted(unused))}. No site was changed. Put what you changed into a"
+                f" copy of {share() / 'admissions.conf'}, move that to {MODEL}, and type"
+                " admissions-setup --sites"
+            )
         return by_template(model, machine, **values)
     except jinja2.TemplateSyntaxError as error:
         raise Refused(f"{MODEL}, line {error.lineno}: {error.message}") from error
     except (jinja2.TemplateError, ArithmeticError, LookupError, TypeError, ValueError) as error:
         raise Refused(f"{MODEL}: {error}") from error
-
-
-def unusable(why: str) -> Refused:
-    """The refusal of a template that is not that of this version with changes."""
-    return Refused(
-        f"{MODEL} is not a template of this version: {why}. No site was changed. Put what you"
-        f" changed into a copy of {share() / 'admissions.conf'}, move that to {MODEL}, and type"
-        " admissions-setup --sites"
-    )
 
 
 def site_text(model: str, name: str, host: str, machine: Machine) -> str:
@@ -136,20 +132,27 @@ def site_text(model: str, name: str, host: str, machine: Machine) -> str:
         socket=str(register.socket),
     )
     if wrong := not_own(text, register, host, suffix):
-        raise unusable(f"in the site of {name} these are missing, or not its own: {wrong}")
+        raise Refused(
+            f"{MODEL} makes a site of {name} that lacks what is its own, or shares it with others:"
+            f" {wrong}. No site was changed. Compare it with {share() / 'admissions.conf'}, the"
+            " template of the package"
+        )
     return MADE + text
 
 
 def not_own(text: str, register: Register, host: str, suffix: str) -> str:
-    """What a site does not have, or has of another one, as after a change of the template: nginx
+    """What a site lacks of its own, or shares with others, after a change of the template: nginx
     would take it, and give the rights of another register, or log elsewhere.
     """
-    text = re.sub(r"(?m)^\s*#.*", "", text)
+    # (a remark may name what it was before)
+    text = re.sub(r"(?m)(?<![^\s;{}])#.*", "", text)
     own = [register.settings / it for it in ("roles", "passwords", "site.crt", "site.key")]
     own += [register.logs / it for it in ("asked.log", "errors.log")] + [register.socket]
-    wrong = [it for it in (f"server_name {host}", f"https://{host}") if it not in text]
+    names = " ".join(re.findall(r"(?m)^\s*server_name\s([^;]*);", text)).split()
+    wrong = [] if host in names else [f"server_name {host}"]
+    wrong += [] if f"https://{host}" in text else [f"https://{host}"]
     for path in own:
-        found = set(re.findall(rf"/\S*/{re.escape(path.name)}(?=[\s;])", text))
+        found = set(re.findall(rf"/\S*/{re.escape(path.name)}(?=[\s;\"'])", text))
         if found != {str(path)}:
             wrong.append(str(path))
     for variable in re.findall(r"(?m)^\s*map\s.*\$(\w+)\s*\{", text):

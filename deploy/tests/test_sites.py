@@ -122,18 +122,34 @@ def test_a_site_without_what_is_its_own_is_refused(old: str, new: str, named: st
     assert old in MODEL
     with pytest.raises(Refused) as found:
         sites.site_text(MODEL.replace(old, new), "x-1", "x.example", HERE)
-    assert (
-        "is not a template of this version: in the site of x-1 these are missing, or not its own:"
-        f" {named}. No site was changed. Put what you changed into a copy of"
-    ) in str(found.value)
-
-
-def test_a_remark_may_name_what_is_not_the_sites_own() -> None:
-    remark = "    # was: ssl_certificate /etc/admissions/site.crt;\n"
-    text = sites.site_text(
-        MODEL.replace("    server_name ", f"{remark}    server_name "), "x-1", "x.example", HERE
+    assert str(found.value) == (
+        f"{sites.MODEL} makes a site of x-1 that lacks what is its own, or shares it with others:"
+        f" {named}. No site was changed. Compare it with {ROOT}/deploy/nginx/admissions.conf, the"
+        " template of the package"
     )
-    assert remark in text
+
+
+@pytest.mark.parametrize(
+    "old, new",
+    [
+        ("    server_name ", "    # was: /etc/admissions/site.crt;\n    server_name "),
+        ("{{ settings }}/site.crt;", "{{ settings }}/site.crt; # and not /etc/admissions/site.crt"),
+        ("{{ settings }}/passwords", '"{{ settings }}/passwords"'),
+        ("server_name {{ host }}", "server_name  www.{{ host }}\n        {{ host }}"),
+        ("upstream desk_", "map $host $night_{{ suffix }} { }\nupstream desk_"),
+    ],
+)
+def test_other_changes_of_a_site_are_taken(old: str, new: str) -> None:
+    """A remark may name what is not the site's own, and a path may be between quotes."""
+    assert old in MODEL
+    text = sites.site_text(MODEL.replace(old, new), "x-1", "x.example", HERE)
+    for field, value in (
+        ("{{ settings }}", "/etc/admissions/x-1"),
+        ("{{ host }}", "x.example"),
+        ("{{ suffix }}", "x_1"),
+    ):
+        new = new.replace(field, value)
+    assert new in text
 
 
 @pytest.mark.parametrize("socket", ["/run/admissions/desk.sock", "127.0.0.1:8080"])
