@@ -16,7 +16,7 @@
 #   make costs    the CPU seconds of each crate's proof in the build here, beside a unit of this hour, and the longest chain of crates
 #   make bench    the aims for the costs, beside the measured costs, as one page, which it writes to bench/RESULTS.md; some minutes once the program is built
 #   make bench-more  the costs of commands in more tables, beside a baseline in the same run
-#   make deploy-check  the deployment (site, desk in its own network, page), on this machine alone; needs nginx, openssl, curl, chromium, sqlite3 and poppler-utils; not in test
+#   make deploy-check  the deployment (site, desk in its own network, page), on this machine alone; needs nginx, openssl, curl, chromium, sqlite3, poppler-utils and python3-pytest; not in test
 #   make install  the proved program that is at bin/admissions (it builds nothing), the office's tools, their manual pages and completions, and the office's
 #                 pages; PREFIX=/usr/local by default, below DESTDIR; deploy/install adds what serves registers (docs/DEPLOYMENT.md)
 #   make package  a Debian package of that program, at out/package, with its manifest, SBOM and SHA-256; builds it twice, which must give equal bytes; needs

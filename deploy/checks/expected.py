@@ -25,7 +25,9 @@ def lines_of(text: str) -> list[str]:
 
 
 HEADERS = dict(
-    line.lower().split(": ", 1) for line in lines_of((HERE / "headers").read_text(encoding="utf-8")))
+    line.lower().split(": ", 1)
+    for line in lines_of((HERE / "headers").read_text(encoding="utf-8"))
+)
 
 
 def headers_differ(fields: dict[str, str]) -> list[str]:

@@ -1,6 +1,9 @@
-"""What the checks run on: a desk in a network of its own, the door to it, and the site before it, all under one folder; and beside it another register."""
+"""What the checks run on: a desk in a network of its own, the door to it, and the site before it,
+all under one folder; and beside it another register."""
 
 import base64
+import contextlib
+import json
 import os
 import pathlib
 import re
@@ -10,13 +13,18 @@ import socket
 import ssl
 import subprocess
 import time
+from collections.abc import Callable, Iterable, Iterator
+from typing import Any, TypeVar
+
+from checks.commands import Command, application, child, lines_of, round_of, school
 
 HERE = pathlib.Path(__file__).resolve().parent.parent
 HAS_IPV6 = pathlib.Path("/proc/net/if_inet6").exists()
 NAME = "admissions.example"
 AUTHORITY = "Cyngor Sir Tŷ \"Ddewi\" Council"
 PEOPLE = {"jane": "office;", "alpha": "school-A;", "smith": None}
-# Has the site of a register, the machine's own part, or a main file of nginx made by the installed admissions-setup: its folder, then what is called and its arguments
+# Has the site of a register, the machine's own part, or a main file of nginx made by the installed
+# admissions-setup: its folder, then what is called and its arguments
 MAKE_SITE = """
 import pathlib, sys
 sys.path.insert(0, sys.argv[1])
@@ -29,42 +37,50 @@ if sys.argv[3:] == ["main"]:
 elif sys.argv[3:]:
     print(sites.site_text(model, *sys.argv[3:], here))
 else:
-    print(sites.machine_text(model, (sites.share() / "machine.conf").read_text(encoding="utf-8"), here))
+    machine = (sites.share() / "machine.conf").read_text(encoding="utf-8")
+    print(sites.machine_text(model, machine, here))
 """
+MARKUP_OF_CHILD = "<script>document.title='hit'</script>"
+MARKUP_OF_SCHOOL = "<img src=x onerror=\"document.title='hit'\">"
+REGISTER = [
+    school("A", "Alpha", 2, 0),
+    school("B", "Beta", 1, 0, 1000),
+    school("C", MARKUP_OF_SCHOOL, 1, 5000),
+    school("D", "Delta, position 9 of 9, class 0, 1 metres", 1, 9000),
+    child(1, "Ada Abel", 100),
+    child(2, "Ben Bell", 200),
+    child(3, "Cyd Cole", 2000, 1000),
+    child(4, MARKUP_OF_CHILD, 5000),
+    child(5, "Eve Eden", 300),
+    child(6, "Fay Ford", 300),
+    child(11, "Gus Gale, accepted", 9000),
+    child(12, "Hal Hill", 9001),
+    {"cmd": "name_plan", "child": 5, "school": "A"},
+    application(1, "A"),
+    application(2, "A", "B"),
+    application(3, "B"),
+    application(4, "C"),
+    application(11, "D"),
+    application(12, "D"),
+    round_of(1, "2025-03-03", [10, 20, 10, 20, 10, 10, 20]),
+]
+Process = subprocess.Popen[bytes]
+Ran = subprocess.CompletedProcess[str]
+T = TypeVar("T")
 
-REGISTER = r"""
-{"cmd":"add_school","school":"A","name":"Alpha","pan":2,"east":0,"north":0,"criteria":[]}
-{"cmd":"add_school","school":"B","name":"Beta","pan":1,"east":1000,"north":0,"criteria":[]}
-{"cmd":"add_school","school":"C","name":"<img src=x onerror=\"document.title='hit'\">","pan":1,"east":0,"north":5000,"criteria":[]}
-{"cmd":"add_school","school":"D","name":"Delta, position 9 of 9, class 0, 1 metres","pan":1,"east":0,"north":9000,"criteria":[]}
-{"cmd":"add_child","child":1,"name":"Ada Abel","east":0,"north":100,"looked_after":false,"flags":[],"siblings":[]}
-{"cmd":"add_child","child":2,"name":"Ben Bell","east":0,"north":200,"looked_after":false,"flags":[],"siblings":[]}
-{"cmd":"add_child","child":3,"name":"Cyd Cole","east":1000,"north":2000,"looked_after":false,"flags":[],"siblings":[]}
-{"cmd":"add_child","child":4,"name":"<script>document.title='hit'</script>","east":0,"north":5000,"looked_after":false,"flags":[],"siblings":[]}
-{"cmd":"add_child","child":5,"name":"Eve Eden","east":0,"north":300,"looked_after":false,"flags":[],"siblings":[]}
-{"cmd":"add_child","child":6,"name":"Fay Ford","east":0,"north":300,"looked_after":false,"flags":[],"siblings":[]}
-{"cmd":"add_child","child":11,"name":"Gus Gale, accepted","east":0,"north":9000,"looked_after":false,"flags":[],"siblings":[]}
-{"cmd":"add_child","child":12,"name":"Hal Hill","east":0,"north":9001,"looked_after":false,"flags":[],"siblings":[]}
-{"cmd":"name_plan","child":5,"school":"A"}
-{"cmd":"apply","child":1,"day":"2024-10-31","preferences":["A"]}
-{"cmd":"apply","child":2,"day":"2024-10-31","preferences":["A","B"]}
-{"cmd":"apply","child":3,"day":"2024-10-31","preferences":["B"]}
-{"cmd":"apply","child":4,"day":"2024-10-31","preferences":["C"]}
-{"cmd":"apply","child":11,"day":"2024-10-31","preferences":["D"]}
-{"cmd":"apply","child":12,"day":"2024-10-31","preferences":["D"]}
-{"cmd":"round","draw":1,"day":"2025-03-03","lots":[10,20,10,20,10,10,20]}
-"""
 
-
-def free_port():
-    """A port of 127.0.0.1 that nothing has at this moment: a caller that finds it taken tries another one."""
+def free_port() -> int:
+    """A port of 127.0.0.1 that nothing has at this moment: a caller that finds it taken tries
+    another one."""
     with socket.socket() as it:
         it.bind(("127.0.0.1", 0))
-        return it.getsockname()[1]
+        port: int = it.getsockname()[1]
+        return port
 
 
-def until(what, name, seconds=120):
-    """Waits until `what()` is true, and returns it. The limit in seconds is for slow machines: the event is what ends the wait."""
+def until(what: Callable[[], T], name: str, seconds: float = 120) -> T:
+    """Waits until `what()` is true, and returns it. The limit in seconds is for slow machines: the
+    event is what ends the wait."""
     end = time.monotonic() + seconds
     while time.monotonic() < end:
         if value := what():
@@ -82,56 +98,86 @@ def group(pattern: str, text: str) -> str:
 
 
 class Installation:
-    """The files that are tested, in a folder of their own: those of the repository as make and deploy/install install them, with a program; or without one
-    those of the package that is installed on this machine, as dpkg lists them."""
+    """The files that are tested, in a folder of their own: those of the repository as make and
+    deploy/install install them, with a program; or without one those of the package that is
+    installed on this machine, as dpkg lists them."""
 
-    def __init__(self, program, root):
+    def __init__(self, program: pathlib.Path | None, root: pathlib.Path) -> None:
         self.program, self.root = program, root
         self.usr = "/usr/local" if program else "/usr"
         self.prefix = pathlib.Path(f"{root}{self.usr}")
 
-    def make(self):
+    def make(self) -> None:
+        """Installs them there."""
         if not self.program:
-            listed = subprocess.run(["dpkg", "-L", "admissions"], text=True, capture_output=True, check=True).stdout.splitlines()
-            for path in map(pathlib.Path, listed):
-                if path.is_file():
-                    (self.root / path.parent.relative_to("/")).mkdir(parents=True, exist_ok=True)
-                    shutil.copy2(path, self.root / path.relative_to("/"), follow_symlinks=False)
+            self.copy_package()
             return
-        for step in (("make", "--silent", "-C", HERE.parent, "install", f"PROGRAM={self.program}"), (HERE / "install",)):
-            made = subprocess.run([str(it) for it in step], env={**os.environ, "DESTDIR": str(self.root), "PREFIX": self.usr}, text=True, capture_output=True, check=False)
+        make = ("make", "--silent", "-C", HERE.parent, "install", f"PROGRAM={self.program}")
+        environment = {**os.environ, "DESTDIR": str(self.root), "PREFIX": self.usr}
+        for step in (make, (HERE / "install",)):
+            made = subprocess.run([str(it) for it in step], env=environment, text=True,
+                                  capture_output=True, check=False)
             if made.returncode != 0:
                 raise RuntimeError(made.stdout + made.stderr)
 
-    def site(self, *named):
-        """The site of a register by its name and host, the machine's own part, or its main file (`main`)."""
+    def copy_package(self) -> None:
+        """Copies the files of the package."""
+        listed = subprocess.run(["dpkg", "-L", "admissions"], text=True, capture_output=True,
+                                check=True).stdout.splitlines()
+        for path in map(pathlib.Path, listed):
+            if path.is_file():
+                copy = self.root / path.relative_to("/")
+                copy.parent.mkdir(parents=True, exist_ok=True)
+                shutil.copy2(path, copy, follow_symlinks=False)
+
+    def site(self, *named: str) -> str:
+        """The site of a register by its name and host, the machine's own part, or its main file
+        (`main`)."""
         model = self.root / "etc/nginx/sites-available/admissions"
-        made = subprocess.run(["/usr/bin/python3", "-B", "-c", MAKE_SITE, self.prefix / "share/admissions", model, *named], text=True, capture_output=True, check=False)
+        package = self.prefix / "share/admissions"
+        made = subprocess.run(["/usr/bin/python3", "-B", "-c", MAKE_SITE, package, model, *named],
+                              text=True, capture_output=True, check=False)
         if made.returncode:
             raise RuntimeError(made.stderr)
         return made.stdout
 
 
 class World:
-    """The room of a register, and the processes in it, each ended by its own id at the end. `beside` are the worlds of other registers, whose sites are
-    before the same nginx."""
+    """The room of a register, and the processes in it, each ended by its own id at the end.
+    `beside` are the worlds of other registers, whose sites are before the same nginx."""
 
-    def __init__(self, installation, room, name="secondary-2025", host=NAME, lines=REGISTER, people=None):
-        self.installation, self.room, self.processes, self.beside = installation, room, [], []
-        self.name, self.host, self.lines, self.people = name, host, lines, people or PEOPLE
-        self.root, self.prefix, self.file, self.settings = installation.root, installation.prefix, room / "reg.db", room / "settings"
-        self.site_port, self.desk_port = 0, free_port()  # the desk's port is in a network of its own
+    certificate: pathlib.Path
+    holder: Process
+    desk: Process
+    door: Process
+    site: Process
+    tested: Ran
+
+    def __init__(self, installation: Installation, room: pathlib.Path,
+                 name: str = "secondary-2025", host: str = NAME,
+                 commands: Iterable[Command] = tuple(REGISTER),
+                 people: dict[str, str | None] | None = None) -> None:
+        self.installation, self.room = installation, room
+        self.processes: list[Process] = []
+        self.beside: list[World] = []
+        self.name, self.host, self.commands = name, host, commands
+        self.people: dict[str, str | None] = people or dict(PEOPLE)
+        self.root, self.prefix = installation.root, installation.prefix
+        self.file, self.settings = room / "reg.db", room / "settings"
+        self.site_port = self.plain_port = 0
+        self.desk_port = free_port()  # it is in a network of its own
         for folder in ("run", "log", "copies", "temp", "downloads", "settings"):
             (room / folder).mkdir(parents=True)
         self.passwords = {name: os.urandom(9).hex() for name in self.people}
-        self.environment = {**os.environ, "PATH": f"{self.prefix}/bin:/usr/sbin:/sbin:{os.environ['PATH']}", "no_proxy": "*", "HOME": str(room)}
+        path = f"{self.prefix}/bin:/usr/sbin:/sbin:{os.environ['PATH']}"
+        self.environment = {**os.environ, "PATH": path, "no_proxy": "*", "HOME": str(room)}
 
-    def start(self):
+    def start(self) -> None:
         """Starts all but the site, for this register and those beside it, and then the site."""
         self.installation.make()
         (self.root / "etc/admissions/authority").write_text(f"{AUTHORITY}\n")
         for world in (self, *self.beside):
-            world.make_register(world.file, world.lines.lstrip())
+            world.make_register(world.file, world.commands)
             world.make_certificate()
             world.make_people()
             world.hold_network()
@@ -139,18 +185,25 @@ class World:
             world.start_door()
         self.start_site()
 
-    def run(self, *arguments, input="", **more):
-        return subprocess.run([str(it) for it in arguments], input=input, text=True, capture_output=True, env=self.environment, timeout=300, **more)
+    def run(self, *arguments: object, input: str = "") -> Ran:
+        """Runs a command, with the installed programs in its path."""
+        return subprocess.run([str(it) for it in arguments], input=input, text=True,
+                              capture_output=True, env=self.environment, timeout=300, check=False)
 
-    def spawn(self, *arguments, log):
-        with open(self.room / "log" / log, "a") as out:
-            # A write beyond the file size limit shall fail without ending the process: this is how a disk is made to fail
-            process = subprocess.Popen([str(it) for it in arguments], stdin=subprocess.DEVNULL, stdout=out, stderr=out, env=self.environment,
-                                       preexec_fn=lambda: signal.signal(signal.SIGXFSZ, signal.SIG_IGN), restore_signals=False)
+    def spawn(self, *arguments: object, log: str) -> Process:
+        """Starts a process, which ends with the world."""
+        with open(self.room / "log" / log, "a", encoding="utf-8") as out:
+            # A write beyond the file size limit shall fail without ending the process: this is how
+            # a disk is made to fail
+            process = subprocess.Popen(
+                [str(it) for it in arguments], stdin=subprocess.DEVNULL, stdout=out, stderr=out,
+                env=self.environment, restore_signals=False,
+                preexec_fn=lambda: signal.signal(signal.SIGXFSZ, signal.SIG_IGN))
         self.processes.append(process)
         return process
 
-    def end(self, process, by=signal.SIGTERM):
+    def end(self, process: Process, by: signal.Signals = signal.SIGTERM) -> None:
+        """Ends a process, if it has not ended."""
         if process.poll() is None:
             process.send_signal(by)
             try:
@@ -159,109 +212,175 @@ class World:
                 process.kill()
         process.wait()
 
-    def end_all(self):
+    def end_all(self) -> None:
+        """Ends what was started."""
         for world in self.beside:
             world.end_all()
         for process in reversed(self.processes):
             self.end(process)
 
-    def make_register(self, file, lines):
+    def make_register(self, file: pathlib.Path, commands: Iterable[Command]) -> None:
+        """Makes a register, and does commands on it."""
         made = self.run("admissions", "init", file, *self.name.split("-"))
-        done = self.run("admissions", "do", file, input=lines)
-        if made.returncode or done.returncode:
-            raise RuntimeError(f"the register could not be made: {made.stderr}{done.stdout}{done.stderr}")
+        if made.returncode:
+            raise RuntimeError(f"the register could not be made: {made.stderr}")
+        self.do(file, *commands)
 
-    def make_certificate(self):
-        for name in ("site", "other"):
-            at = self.settings / name
-            self.run("openssl", "req", "-x509", "-newkey", "ec", "-pkeyopt", "ec_paramgen_curve:P-256", "-nodes", "-days", "2", "-subj", f"/CN={self.host}",
-                     "-addext", f"subjectAltName=DNS:{self.host}", "-keyout", f"{at}.key", "-out", f"{at}.crt")
+    def do(self, file: pathlib.Path, *commands: Command) -> None:
+        """Does commands on a register that the desk does not have."""
+        done = self.run("admissions", "do", file, input=lines_of(commands))
+        if done.returncode:
+            raise RuntimeError(done.stdout + done.stderr)
+
+    def draw(self, file: pathlib.Path, number: int, day: str) -> None:
+        """Runs a round on such a register. Each child has one lot, its own number: so no order
+        depends on lots."""
+        pairs = self.run("admissions", "pairs", file).stdout.splitlines()
+        self.do(file, round_of(number, day, [int(pair.split()[1]) for pair in pairs]))
+
+    def make_certificate(self) -> None:
+        """A certificate of the site."""
+        at = self.settings / "site"
+        self.run("openssl", "req", "-x509", "-newkey", "ec", "-pkeyopt",
+                 "ec_paramgen_curve:P-256", "-nodes", "-days", "2", "-subj", f"/CN={self.host}",
+                 "-addext", f"subjectAltName=DNS:{self.host}", "-keyout", f"{at}.key", "-out",
+                 f"{at}.crt")
         self.certificate = self.settings / "site.crt"
 
-    def make_people(self):
-        hash_of = ("perl", "-e", 'print crypt($ARGV[0], "\\$6\\$rounds=1000\\$$ARGV[1]")')
-        hashed = {name: self.run(*hash_of, password, os.urandom(8).hex()).stdout for name, password in self.passwords.items()}
-        (self.settings / "passwords").write_text("".join(f"{name}:{text}\n" for name, text in hashed.items()))
-        (self.settings / "roles").write_text("".join(f"{name} {role}\n" for name, role in self.people.items() if role))
+    def make_people(self) -> None:
+        """Who may sign in, and as what."""
+        crypt = ("perl", "-e", 'print crypt($ARGV[0], "\\$6\\$rounds=1000\\$$ARGV[1]")')
+        hashed = {name: self.run(*crypt, password, os.urandom(8).hex()).stdout
+                  for name, password in self.passwords.items()}
+        lines = (f"{name}:{text}\n" for name, text in hashed.items())
+        (self.settings / "passwords").write_text("".join(lines))
+        lines = (f"{name} {role}\n" for name, role in self.people.items() if role)
+        (self.settings / "roles").write_text("".join(lines))
 
-    def hold_network(self):
-        """A network namespace as PrivateNetwork= makes one. In a user namespace of its own, so that no privilege is needed."""
-        self.holder = self.spawn("unshare", "--user", "--map-root-user", "--net", "sh", "-c", "ip link set lo up && exec sleep 100000", log="network")
-        inside = lambda: self.run(*self.inside("ip", "-o", "link", "show", "up")).stdout.count(": lo:")
-        until(inside, "the network namespace")
+    def hold_network(self) -> None:
+        """A network namespace as PrivateNetwork= makes one. In a user namespace of its own, so
+        that no privilege is needed."""
+        self.holder = self.spawn(
+            "unshare", "--user", "--map-root-user", "--net", "sh", "-c",
+            "ip link set lo up && exec sleep 100000", log="network")
+        links = self.inside("ip", "-o", "link", "show", "up")
+        until(lambda: self.run(*links).stdout.count(": lo:"), "the network namespace")
 
-    def inside(self, *arguments):
-        return ("nsenter", "--target", self.holder.pid, "--user", "--net", "--preserve-credentials", *arguments)
+    def inside(self, *arguments: object) -> tuple[object, ...]:
+        """A command that is run in that network."""
+        return ("nsenter", "--target", self.holder.pid, "--user", "--net",
+                "--preserve-credentials", *arguments)
 
-    def start_desk(self):
+    def start_desk(self) -> None:
         """As its unit does: the log is merged before."""
         self.run("admissions", "do", self.file)
         log = self.room / "log/desk"
         log.unlink(missing_ok=True)
-        self.desk = self.spawn(*self.inside("admissions", "serve", self.file, self.desk_port), log="desk")
-        until(lambda: log.read_text().startswith(f"serving on 127.0.0.1:{self.desk_port}\n"), "the desk")
+        serve = ("admissions", "serve", self.file, self.desk_port)
+        self.desk = self.spawn(*self.inside(*serve), log="desk")
+        first = f"serving on 127.0.0.1:{self.desk_port}\n"
+        until(lambda: log.read_text().startswith(first), "the desk")
 
-    def stop_desk(self):
-        """Suspends the desk, as under a load. The process that was started is the desk itself: nsenter becomes what it runs."""
+    def stop_desk(self) -> None:
+        """Suspends the desk, as under a load. The process that was started is the desk itself:
+        nsenter becomes what it runs."""
         self.desk.send_signal(signal.SIGSTOP)
 
-    def continue_desk(self):
+    def continue_desk(self) -> None:
+        """Lets a suspended desk go on."""
         self.desk.send_signal(signal.SIGCONT)
 
-    def at_desk(self):
-        """How many connections to the desk have bytes that it has not read, as the kernel lists them in its network."""
-        rows = [line.split() for line in self.run(*self.inside("cat", "/proc/net/tcp")).stdout.splitlines()[1:]]
-        return sum(row[1].endswith(f":{self.desk_port:04X}") and row[3] == "01" and not row[4].endswith(":00000000") for row in rows)
+    @contextlib.contextmanager
+    def serving(self, file: pathlib.Path) -> Iterator[None]:
+        """Has the desk serve the register of another file, and then its own again."""
+        self.end(self.desk)
+        own, self.file = self.file, file
+        try:
+            self.start_desk()
+            yield
+        finally:
+            self.end(self.desk)
+            self.file = own
+            self.start_desk()
 
-    def start_door(self):
+    def at_desk(self) -> int:
+        """How many connections to the desk have bytes that it has not read, as the kernel lists
+        them in its network."""
+        listed = self.run(*self.inside("cat", "/proc/net/tcp")).stdout.splitlines()[1:]
+        rows = [line.split() for line in listed]
+        port = f":{self.desk_port:04X}"
+        return sum(row[1].endswith(port) and row[3] == "01" and not row[4].endswith(":00000000")
+                   for row in rows)
+
+    def start_door(self) -> None:
         """The door, with as many files as its unit allows."""
         unit = self.prefix / "lib/systemd/system/admissions-door@.service"
         limit = group(r"(?m)^LimitNOFILE=(\d+)$", unit.read_text())
-        self.door = self.spawn(*self.inside("prlimit", f"--nofile={limit}", "systemd-socket-activate", f"--listen={self.room}/run/desk.sock",
-                                            "/lib/systemd/systemd-socket-proxyd", "--connections-max=300", f"127.0.0.1:{self.desk_port}"), log="door")
+        self.door = self.spawn(
+            *self.inside("prlimit", f"--nofile={limit}", "systemd-socket-activate",
+                         f"--listen={self.room}/run/desk.sock",
+                         "/lib/systemd/systemd-socket-proxyd", "--connections-max=300",
+                         f"127.0.0.1:{self.desk_port}"), log="door")
         until((self.room / "run/desk.sock").exists, "the door")
 
-    def start_site(self):
-        """The sites as they are installed, but with the folders of the rooms, and other ports. If another process took a port meanwhile, nginx
-        ends, and others are tried."""
+    def start_site(self) -> None:
+        """The sites as they are installed, but with the folders of the rooms, and other ports. If
+        another process took a port meanwhile, nginx ends, and others are tried."""
+        log, settings = self.room / "log/nginx", self.room / "nginx.conf"
         for _ in range(10):
             self.site_port, self.plain_port = free_port(), free_port()
             for world in self.beside:
                 world.site_port = self.site_port
             self.write_sites()
-            self.tested = self.run("nginx", "-t", "-c", self.room / "nginx.conf", "-e", self.room / "log/nginx")
-            self.site = self.spawn("nginx", "-c", self.room / "nginx.conf", "-e", self.room / "log/nginx", log="nginx")
+            self.tested = self.run("nginx", "-t", "-c", settings, "-e", log)
+            self.site = self.spawn("nginx", "-c", settings, "-e", log, log="nginx")
             until(lambda: self.site.poll() is not None or self.ask("/").status, "the site")
             if self.site.poll() is None:
                 return
-        raise RuntimeError((self.room / "log/nginx").read_text())
+        raise RuntimeError(log.read_text())
 
-    def site_text(self):
+    def site_text(self) -> str:
         """The site as admissions-setup makes it."""
         usr = self.installation.usr
         return replaced(self.installation.site(self.name, self.host), (
-            (f"/etc/admissions/{self.name}", f"{self.settings}"), ("root /etc/admissions;", f"root {self.root}/etc/admissions;"),
+            (f"/etc/admissions/{self.name}", f"{self.settings}"),
+            ("root /etc/admissions;", f"root {self.root}/etc/admissions;"),
             (f"/run/admissions/{self.name}.sock", f"{self.room}/run/desk.sock"),
-            (f"/var/log/admissions/{self.name}", f"{self.room}/log"), (f"{usr}/share", f"{self.root}{usr}/share"), *self.listens(("443", self.site_port))))
+            (f"/var/log/admissions/{self.name}", f"{self.room}/log"),
+            (f"{usr}/share", f"{self.root}{usr}/share"),
+            *self.listens(("443", self.site_port))))
 
-    def listens(self, *ports):
-        """The ports that the site listens at, with those of this room, and of this machine alone."""
+    def listens(self, *ports: tuple[str, int]) -> list[tuple[str, str]]:
+        """The ports that the site listens at, with those of this room, and of this machine
+        alone."""
         pairs = [(f"listen {port}", f"listen 127.0.0.1:{own}") for port, own in ports]
-        return pairs + [(f"listen [::]:{port}", f"listen [::1]:{own}") for port, own in ports if HAS_IPV6]
+        if HAS_IPV6:
+            pairs += [(f"listen [::]:{port}", f"listen [::1]:{own}") for port, own in ports]
+        return pairs
 
-    def write_sites(self):
-        machine = replaced(self.installation.site(), self.listens(("443", self.site_port), ("80", self.plain_port)))
-        (self.room / "site.conf").write_text(machine + "".join(world.site_text() for world in (self, *self.beside)))
-        temp = "".join(f"{kind}_temp_path {self.room}/temp/{kind};\n" for kind in ("client_body", "proxy", "fastcgi", "uwsgi", "scgi"))
+    def write_sites(self) -> None:
+        """Writes the files of nginx."""
+        ports = self.listens(("443", self.site_port), ("80", self.plain_port))
+        sites = [replaced(self.installation.site(), ports)]
+        sites += [world.site_text() for world in (self, *self.beside)]
+        (self.room / "site.conf").write_text("".join(sites))
+        kinds = ("client_body", "proxy", "fastcgi", "uwsgi", "scgi")
+        temp = "".join(f"{kind}_temp_path {self.room}/temp/{kind};\n" for kind in kinds)
         user = "user root;" if os.getuid() == 0 else ""
-        (self.room / "nginx.conf").write_text(f"{user} daemon off; worker_processes 2; pid {self.room}/run/nginx.pid; error_log {self.room}/log/nginx;\n"
-                                              f"{self.installation.site('main')}\nhttp {{ include /etc/nginx/mime.types; {temp} include {self.room}/site.conf; }}\n")
+        (self.room / "nginx.conf").write_text(
+            f"{user} daemon off; worker_processes 2; pid {self.room}/run/nginx.pid;\n"
+            f"error_log {self.room}/log/nginx;\n{self.installation.site('main')}\n"
+            f"http {{ include /etc/nginx/mime.types; {temp} include {self.room}/site.conf; }}\n")
 
-    def ask(self, path, who=None, body=None, origin=True, kind="application/json", password=None, options=()):
-        """What curl gets, with the site's own name mapped to the port of the room, and by default as from a page of the site."""
+    def ask(self, path: str, who: str | None = None, body: str | None = None,
+            origin: str | bool | None = True, kind: str = "application/json",
+            password: str | None = None, options: Iterable[str] = ()) -> "Answer":
+        """What curl gets, with the site's own name mapped to the port of the room, and by default
+        as from a page of the site."""
         origin = f"https://{self.host}" if origin is True else origin
-        arguments = ["curl", "--silent", "--cacert", self.certificate, "--connect-to", f"{self.host}:443:127.0.0.1:{self.site_port}", "--path-as-is",
-                 "--write-out", "\n%{http_code}", "--max-time", "150", "--dump-header", "-"]
+        arguments = ["curl", "--silent", "--cacert", str(self.certificate), "--connect-to",
+                     f"{self.host}:443:127.0.0.1:{self.site_port}", "--path-as-is", "--write-out",
+                     "\n%{http_code}", "--max-time", "150", "--dump-header", "-"]
         if who:
             arguments += ["--user", f"{who}:{password or self.passwords[who]}"]
         if body is not None:
@@ -269,24 +388,52 @@ class World:
             arguments += ["--header", f"Origin: {origin}"] if origin else []
         return Answer(self.run(*arguments, *options, f"https://{self.host}{path}"))
 
-    def connect(self, source="127.0.0.1"):
+    def send(self, who: str = "jane", **command: object) -> None:
+        """Sends a command that must be done, as somebody else of the office does."""
+        answer = self.ask("/command", who, json.dumps(command))
+        if answer.status != 200:
+            raise RuntimeError(answer.body)
+
+    def letter(self, child: int) -> str:
+        """The letter of a child."""
+        return self.ask(f"/child/{child}/letter", "jane").body
+
+    def place(self, child: int) -> str:
+        """The place of a child, as its letter has it."""
+        return group(r"(?m)^Place: (.*)$", self.letter(child))
+
+    def stored(self) -> dict[int, dict[str, Any]]:
+        """The children as the register has them now, by their numbers."""
+        children = json.loads(self.ask("/register", "jane").body)["children"]
+        return {it["child"]: it for it in children}
+
+    def connect(self, source: str = "127.0.0.1") -> ssl.SSLSocket:
         """A bare TLS connection to the site."""
         context = ssl.create_default_context(cafile=str(self.certificate))
         return context.wrap_socket(self.knock(source), server_hostname=self.host)
 
-    def knock(self, source="127.0.0.1"):
+    def knock(self, source: str = "127.0.0.1") -> socket.socket:
         """A connection to the site's port, before TLS, from an address of this machine."""
-        return socket.create_connection(("127.0.0.1", self.site_port), timeout=120, source_address=(source, 0))
+        return socket.create_connection(
+            ("127.0.0.1", self.site_port), timeout=120, source_address=(source, 0))
 
-    def basic(self, who):
+    def basic(self, who: str) -> str:
         """The field of a head that signs somebody in."""
-        return "Authorization: Basic " + base64.b64encode(f"{who}:{self.passwords[who]}".encode()).decode()
+        password = self.passwords[who]
+        return "Authorization: Basic " + base64.b64encode(f"{who}:{password}".encode()).decode()
 
-    def logged(self):
-        return (self.room / "log/asked.log").read_text(encoding="utf-8", errors="surrogateescape")
+    def logged(self) -> str:
+        """The log of requests."""
+        log = self.room / "log/asked.log"
+        return log.read_text(encoding="utf-8", errors="surrogateescape")
+
+    def entries(self) -> list[dict[str, str]]:
+        """The entries of that log. (One ends at a line feed alone: a body may have other signs
+        that splitlines takes for an end.)"""
+        return [json.loads(line) for line in self.logged().split("\n") if line]
 
 
-def replaced(text, pairs):
+def replaced(text: str, pairs: Iterable[tuple[str, str]]) -> str:
     """A text with texts of it, which must be there, replaced."""
     for old, new in pairs:
         if old not in text:
@@ -298,10 +445,12 @@ def replaced(text, pairs):
 class Answer:
     """A response as curl prints it with its head."""
 
-    def __init__(self, done):
+    def __init__(self, done: Ran) -> None:
         text, _, status = done.stdout.rpartition("\n")
         head, _, self.body = text.replace("\r\n", "\n").partition("\n\n")
         if head.startswith("HTTP/1.1 100"):
             head, _, self.body = self.body.partition("\n\n")
         self.status, self.code, self.error = int(status or 0), done.returncode, done.stderr
-        self.fields = dict(line.lower().split(": ", 1) for line in head.split("\n")[1:] if ": " in line)
+        lines = (line for line in head.split("\n")[1:] if ": " in line)
+        fields = (line.lower().partition(": ") for line in lines)
+        self.fields = {name: value for name, _, value in fields}

@@ -1,7 +1,7 @@
 // @ts-check
 // Rounds and fills: the commands to paste, filled in. A backup, a supervisor's lots and an audit belong to them, so the page does not
 // send them. The blocks are those of the HANDBOOK, between the lines that enter and leave the folder of an installed register:
-// deploy/checks/pasting.py compares them.
+// deploy/checks/test_pasting.py compares them.
 import { button, dayField, dayInput, element, say } from "./elements.js";
 import { isRead, name, nextDraw, notThere, readNow, register, rounds, school } from "./register.js";
 import { strangeness } from "./sending.js";
