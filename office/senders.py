@@ -8,6 +8,7 @@ import ipaddress
 import os
 import re
 import signal
+import socket
 import ssl
 import subprocess
 import tempfile
@@ -19,6 +20,7 @@ from . import commands
 from .run import Refused
 
 ANSWER_SECONDS = 120
+JSON, CSV = "application/json", "text/csv"
 # which a browser leaves out of an origin
 PORTS = {"http": ":80", "https": ":443"}
 # the answers that are those of a desk, and not of a site before it
@@ -171,14 +173,22 @@ class Http:
         # A site takes a POST from its own pages alone: what a browser says of them, in the form
         # that it has there
         place = parts.netloc.lower().removesuffix(PORTS[parts.scheme])
-        self.headers = {"Content-Type": "application/json", "Origin": f"{parts.scheme}://{place}"}
+        self.headers = {"Origin": f"{parts.scheme}://{place}"}
         if user:
             signed = base64.b64encode(f"{user}:{asked()}".encode()).decode()
             self.headers["Authorization"] = f"Basic {signed}"
 
-    def ask(self, method: str, path: str, body: bytes | None = None) -> tuple[int, bytes]:
+    def connection(self) -> http.client.HTTPConnection:
+        """A connection that is not open yet."""
+        made: http.client.HTTPConnection = self.kind(
+            self.host, self.port, timeout=ANSWER_SECONDS)
+        return made
+
+    def ask(
+        self, method: str, path: str, body: bytes | None = None, kind: str = JSON
+    ) -> tuple[int, bytes]:
         """The status and the body of a response."""
-        conn = self.kind(self.host, self.port, timeout=ANSWER_SECONDS)
+        conn = self.connection()
         try:
             conn.connect()
         except ssl.SSLCertVerificationError as error:
@@ -189,7 +199,7 @@ class Http:
             said = getattr(error, "strerror", None) or error
             raise Ended(f"no connection: {said}", False) from error
         try:
-            conn.request(method, self.base + path, body, self.headers)
+            conn.request(method, self.base + path, body, {**self.headers, "Content-Type": kind})
             response = conn.getresponse()
             return response.status, response.read()
         except (OSError, http.client.HTTPException) as error:
@@ -199,8 +209,16 @@ class Http:
 
     def send(self, line: bytes) -> bytes:
         """The answer to a line."""
-        status, body = self.ask("POST", "/command", line)
-        answer = body.rstrip(b"\n")
+        return self.answer("/command", line)
+
+    def imported(self, rows: bytes) -> bytes:
+        """The answer to the rows of an import."""
+        return self.answer("/import", rows, CSV)
+
+    def answer(self, path: str, body: bytes, kind: str = JSON) -> bytes:
+        """The answer of a desk."""
+        status, given = self.ask("POST", path, body, kind)
+        answer = given.rstrip(b"\n")
         value = commands.read(answer)
         said = value if isinstance(value, dict) else {}
         if status in STATUSES and ANSWERS & set(said):
@@ -222,3 +240,29 @@ class Http:
     def close(self) -> str:
         """Nothing is open between two lines."""
         return ""
+
+
+class UnixConnection(http.client.HTTPConnection):
+    """A connection by the name of a socket."""
+
+    def __init__(self, path: str) -> None:
+        super().__init__("127.0.0.1", timeout=ANSWER_SECONDS)
+        self.path = path
+
+    def connect(self) -> None:
+        """Opens it."""
+        self.sock = socket.socket(socket.AF_UNIX, socket.SOCK_STREAM)
+        self.sock.settimeout(ANSWER_SECONDS)
+        self.sock.connect(self.path)
+
+
+class Door(Http):
+    """The desk behind a socket of this machine."""
+
+    def __init__(self, path: str) -> None:
+        super().__init__("http://127.0.0.1")
+        self.path = path
+
+    def connection(self) -> http.client.HTTPConnection:
+        """A connection that is not open yet."""
+        return UnixConnection(self.path)
