@@ -1,0 +1,137 @@
+"""The application in tests: over a register that is served, asked as browsers and programs ask."""
+import base64
+import contextlib
+import html.parser
+import pathlib
+from collections.abc import Iterator
+from typing import Any
+
+import flask
+import flask.testing
+from conftest import ROOT, make
+from served import served
+
+from office.web import app, people
+from office.web.parts import Config, Parts
+
+ORIGIN = "https://admissions.example"
+Answer = Any
+SCHOOLS: list[dict[str, Any]] = [
+    {"cmd": "add_school", "school": code, "name": name, "pan": pan, "east": 0, "north": 0,
+     "criteria": []} for code, name, pan in (("A", "Alpha", 2), ("B", "Beta", 1))
+]
+
+
+def child(number: int, name: str, north: int) -> dict[str, Any]:
+    """A command that adds a child."""
+    return {"cmd": "add_child", "child": number, "name": name, "east": 0, "north": north,
+            "looked_after": False, "flags": [], "siblings": []}
+
+
+def town() -> list[dict[str, Any]]:
+    """Two schools, and four children that applied in time."""
+    names = ("Ada Abel", "Ben Bell", "Cyd <b>Cole</b>", "Dai O'Dare")
+    commands = SCHOOLS + [child(at, it, 100 * at) for at, it in enumerate(names, 1)]
+    return commands + [{"cmd": "apply", "child": at, "day": "2024-10-31", "preferences": list("AB")}
+                       for at in range(1, 5)]
+
+
+ROUND = {"cmd": "round", "draw": 1, "day": "2025-03-03", "lots": [1, 2, 3, 4, 5, 6, 7, 8]}
+
+
+class Form(html.parser.HTMLParser):
+    """The secret of a session in a page."""
+
+    def __init__(self, text: str) -> None:
+        super().__init__()
+        self.secret = ""
+        self.feed(text)
+
+    def handle_starttag(self, tag: str, attrs: list[tuple[str, str | None]]) -> None:
+        """Takes it from the hidden field."""
+        found = dict(attrs)
+        if tag == "input" and found.get("name") == "form":
+            self.secret = found.get("value") or ""
+
+
+class Browser:
+    """A browser of one person."""
+
+    def __init__(self, site: flask.Flask, address: str = "192.0.2.1") -> None:
+        self.client: flask.testing.FlaskClient = site.test_client()
+        self.address, self.secret = address, ""
+
+    def get(self, path: str) -> Answer:
+        """A page."""
+        found = self.client.get(path, base_url=ORIGIN, headers={"Accept": "text/html"})
+        self.secret = Form(found.text).secret or self.secret
+        return found
+
+    def post(self, path: str, given: dict[str, Any] | None = None, **more: Any) -> Answer:
+        """A form that is sent."""
+        headers = {"Accept": "text/html", "Origin": ORIGIN, "X-Real-IP": self.address}
+        data = {"form": self.secret, **(given or {})}
+        found = self.client.post(path, base_url=ORIGIN, headers=headers, data=data, **more)
+        self.secret = Form(found.text).secret or self.secret
+        return found
+
+    def command(self, command: dict[str, Any], seen: str | None = None) -> Answer:
+        """A command, as the page sends it."""
+        headers = {"Origin": ORIGIN, **({"X-Seen": seen} if seen else {})}
+        return self.client.post("/command", base_url=ORIGIN, headers=headers, json=command)
+
+    def sign_in(self, name: str, password: str) -> Answer:
+        """The form of the sign-in."""
+        return self.post("/sign-in", {"name": name, "password": password})
+
+
+class Site:
+    """The application, with people of each role."""
+
+    def __init__(self, flasks: flask.Flask) -> None:
+        self.app = flasks
+        self.parts: Parts = flasks.extensions["office"]
+        self.passwords: dict[str, str] = {}
+
+    def add(self, name: str, role: str) -> str:
+        """A person with a password of their own."""
+        drawn = self.parts.people.add(name, role)
+        self.passwords[name] = f"{name} of the office"
+        self.parts.people.set_password(people.Person(name, role), drawn, self.passwords[name])
+        return name
+
+    def browser(self, name: str, role: str = "officer") -> Browser:
+        """A browser in which somebody is signed in."""
+        if name not in self.passwords:
+            self.add(name, role)
+        found = Browser(self.app)
+        assert found.sign_in(name, self.passwords[name]).status_code == 303
+        # (a screen that each role has, with the secret of the session)
+        found.get("/password")
+        return found
+
+    def token(self, name: str, role: str) -> dict[str, str]:
+        """The header of a program."""
+        secret = self.parts.people.add(name, role, people.PROGRAM)
+        given = base64.b64encode(f"{name}:{secret}".encode()).decode()
+        return {"Authorization": f"Basic {given}"}
+
+
+@contextlib.contextmanager
+def site(folder: pathlib.Path, door: str) -> Iterator[Site]:
+    """The application before a desk."""
+    config = Config("secondary-2025", ORIGIN, door, folder / "office", folder / "copies",
+                    ROOT / "deploy" / "site", "Tŷ \"Ddewi\" Council")
+    found = app.create(config)
+    try:
+        yield Site(found)
+    finally:
+        found.extensions["office"].close()
+
+
+@contextlib.contextmanager
+def office_over(folder: pathlib.Path, commands: list[dict[str, Any]]) -> Iterator[Site]:
+    """The application over a new register with these commands."""
+    make(folder / "reg.db", commands)
+    with served(folder / "reg.db") as (address, _), site(folder, address) as found:
+        yield found

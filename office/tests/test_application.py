@@ -1,0 +1,283 @@
+"""The application: who may do what, what is on record, and what is sent only if nothing changed."""
+import json
+import pathlib
+from collections.abc import Iterator
+
+import pytest
+from applications import ORIGIN, ROUND, Browser, Site, office_over, town
+from register_files import Refused
+
+from office.web import guard, history, people
+from office.web.desk import seen_of
+
+ACCEPT = {"cmd": "accept", "child": 1, "school": "A"}
+DECLINE = {"cmd": "decline", "child": 1, "school": "A"}
+
+
+@pytest.fixture(name="office")
+def office_fixture(tmp_path: pathlib.Path) -> Iterator[Site]:
+    """The application over a register after its first round."""
+    with office_over(tmp_path, [*town(), ROUND]) as found:
+        yield found
+
+
+def test_nobody_reads_without_a_sign_in(office: Site) -> None:
+    """A browser is led to the form, and comes back to where it was going."""
+    stranger = Browser(office.app)
+    found = stranger.get("/activity/?who=jane")
+    assert (found.status_code, found.location) == (302, "/sign-in?to=%2Factivity%2F%3Fwho%3Djane")
+    for path in ("/register", "/child/1", "/pairs", "/school/A/waiting", "/who", "/draw/1"):
+        asked = stranger.client.get(path, base_url=ORIGIN)
+        assert (asked.status_code, asked.json) == (
+            401, {"reason": "sign in first", "status": 401}), path
+    office.add("jane", "officer")
+    assert stranger.sign_in("jane", "a wrong password").status_code == 403
+    assert stranger.sign_in("jane", office.passwords["jane"]).location == "/"
+
+
+def test_the_path_after_the_sign_in_is_of_this_site(office: Site) -> None:
+    """Nobody is led to another site by an address."""
+    office.add("jane", "officer")
+    for to in ("https://evil.example/", "//evil.example", "/\\evil.example", "javascript:alert(1)"):
+        given = {"name": "jane", "password": office.passwords["jane"], "to": to}
+        assert Browser(office.app).post("/sign-in", given).location == "/", to
+
+
+RIGHTS = [
+    # (method and path, and who may)
+    ("GET /", "head officer supervisor reader administrator school-A"),
+    ("GET /records", "head officer reader"),
+    ("GET /register", "head officer reader"),
+    ("GET /child/1", "head officer reader"),
+    ("GET /draw/1", "head officer reader"),
+    ("GET /school/A/waiting", "head officer reader school-A"),
+    ("GET /school/B/waiting", "head officer reader"),
+    ("GET /activity/", "head officer reader"),
+    ("GET /people/", "head administrator"),
+    ("POST /command", "head officer"),
+    ("POST /import", "head officer"),
+    ("POST /people/", "head administrator"),
+]
+ROLES = ("head", "officer", "supervisor", "reader", "administrator", "school-A")
+
+
+@pytest.mark.parametrize("role", ROLES)
+def test_each_role_may_do_what_is_its_own(office: Site, role: str) -> None:
+    """Everything else is refused, and on record."""
+    browser = office.browser("kim", role)
+    kinds = {"/command": "application/json", "/import": "text/csv"}
+    for what, roles in RIGHTS:
+        method, path = what.split()
+        found = browser.client.open(
+            path, method=method, base_url=ORIGIN, headers={"Origin": ORIGIN},
+            content_type=kinds.get(path, "application/x-www-form-urlencoded"),
+            data={} if path == "/command" or method == "GET" or path == "/import"
+            else {"form": browser.secret, "what": "none"})
+        is_refused = found.status_code == 403
+        assert is_refused == (role not in roles.split()), (what, found.status_code, found.text)
+        if is_refused:
+            last = office.parts.history.entries[-1]
+            assert (last.who, last.what, last.about) == (
+                "kim", "refused", {"asked": what, "role": role})
+
+
+def test_each_view_says_which_right_it_needs(office: Site) -> None:
+    """A view that says nothing would be open to all: the application does not begin."""
+    office.app.view_functions["forgotten"] = lambda: ""
+    with pytest.raises(RuntimeError, match="without a right: forgotten"):
+        guard.guarded(office.app)
+
+
+def test_a_refusal_is_on_record_once_in_a_while(office: Site) -> None:
+    """A loop of somebody who is signed in does not fill the disk."""
+    browser = office.browser("kim", "reader")
+    before = len(office.parts.history.entries)
+    for _ in range(5):
+        assert browser.get("/people/").status_code == 403
+    assert len(office.parts.history.entries) == before + 1
+
+
+def test_a_page_of_another_site_changes_nothing(office: Site) -> None:
+    """Neither by a form nor by a script."""
+    browser = office.browser("jane")
+    head = office.browser("hal", "head")
+    for origin in ("https://evil.example", "null", "http://admissions.example", None):
+        headers = {"Origin": origin} if origin else {}
+        found = browser.client.post("/command", base_url=ORIGIN, headers=headers, json=ACCEPT)
+        assert found.status_code == 403
+        given = {"what": "add", "name": "eve", "role": "head", "form": head.secret}
+        found = head.client.post("/people/", base_url=ORIGIN, headers=headers, data=given)
+        assert found.status_code == 403
+    given = {"what": "add", "name": "eve", "role": "head", "form": "guessed"}
+    found = head.client.post("/people/", base_url=ORIGIN, headers={"Origin": ORIGIN}, data=given)
+    assert found.status_code == 403
+    plain = browser.client.post("/command", base_url=ORIGIN, headers={"Origin": ORIGIN},
+                                data=json.dumps(ACCEPT), content_type="text/plain")
+    assert plain.status_code == 403
+    assert office.parts.people.store.row("SELECT 1 FROM person WHERE name='eve'") is None
+    assert office.parts.desk.now().places[1].kind == "offered"
+
+
+def test_a_command_is_on_record_before_and_after(office: Site) -> None:
+    """With its person, and what the register answered."""
+    browser = office.browser("jane")
+    assert browser.command(ACCEPT).json == {"done": True}
+    sent, answer = office.parts.history.entries[-2:]
+    assert (sent.who, sent.what, sent.about) == ("jane", "sends", {"command": ACCEPT})
+    assert (answer.what, answer.about) == ("answer", {"of": sent.number, "answer": {"done": True}})
+    assert browser.command({**ACCEPT, "child": 3}).status_code == 409
+    assert office.parts.history.entries[-1].about["answer"]["name"] == "NotOffered"
+    page = browser.get("/activity/?child=1").text
+    assert "accept child 1 school A" in page and "jane" in page
+
+
+def test_what_a_colleague_recorded_meanwhile_is_named(office: Site) -> None:
+    """A stale page does not decline a place that was accepted since."""
+    jane, bo = office.browser("jane"), office.browser("bo")
+    seen = seen_of(office.parts.desk.now(), DECLINE).text
+    assert jane.command(ACCEPT, seen).json == {"done": True}
+    found = bo.command(DECLINE, seen)
+    assert found.status_code == 409
+    assert "Child 1: jane recorded accept at " in found.json["reason"]
+    assert office.parts.desk.now().places[1].kind == "accepted"
+    assert [it.about["command"]["cmd"] for it in office.parts.history.entries
+            if it.what == "sends"] == ["accept"]
+
+
+def test_without_a_history_nothing_is_sent(office: Site) -> None:
+    """A full disk stops the application, and not the record."""
+    browser = office.browser("jane")
+    office.parts.history.fd, kept = -1, office.parts.history.fd
+    found = browser.command(ACCEPT)
+    assert found.status_code == 503
+    assert "Nothing was sent: the history cannot" in found.json["reason"]
+    office.parts.history.fd = kept
+    assert office.parts.desk.now().places[1].kind == "offered"
+
+
+def test_a_program_has_a_token(office: Site) -> None:
+    """It signs in with each request, and is on record like a person."""
+    token = office.token("portal", "officer")
+    client = office.app.test_client()
+    found = client.get("/child/1", base_url=ORIGIN, headers=token)
+    assert found.status_code == 200 and (found.json or {}).get("child") == 1
+    found = client.post("/command", base_url=ORIGIN, headers={**token, "Origin": ORIGIN},
+                        json=ACCEPT)
+    assert found.json == {"done": True} and office.parts.history.entries[-2].who == "portal"
+    wrong = {"Authorization": token["Authorization"][:-4] + "AAAA"}
+    assert client.get("/child/1", base_url=ORIGIN, headers=wrong).status_code == 401
+    office.parts.people.lock("portal", True)
+    assert client.get("/child/1", base_url=ORIGIN, headers=token).status_code == 401
+
+
+def test_people_are_added_and_kept_out(office: Site) -> None:
+    """A drawn password is for one sign-in; a locked person is out at once."""
+    hal = office.browser("hal", "head")
+    hal.get("/people/")
+    found = hal.post("/people/", {"what": "add", "name": "ann", "role": "officer"})
+    drawn = found.text.split('<code id="secret">')[1].split("<")[0]
+    ann = Browser(office.app)
+    assert ann.sign_in("ann", drawn).status_code == 303
+    assert ann.get("/").location == "/password"
+    assert ann.client.get("/register", base_url=ORIGIN).location == "/password"
+    ann.get("/password")
+    given = {"present": drawn, "new": "a sea of grey boats", "again": "a sea of grey boats"}
+    assert ann.post("/password", given).status_code == 303
+    assert ann.get("/").status_code == 200
+    hal.post("/people/", {"what": "lock", "name": "ann"})
+    assert ann.get("/").status_code == 302
+    assert Browser(office.app).sign_in("ann", "a sea of grey boats").status_code == 403
+    said = hal.post("/people/", {"what": "role", "name": "hal", "role": "officer"})
+    assert said.status_code == 409 and "nobody can do this for themselves" in said.text
+    kept = [(it.who, it.what, it.about.get("person")) for it in office.parts.history.entries]
+    assert ("hal", "added", "ann") in kept and ("hal", "locked", "ann") in kept
+
+
+def test_attempts_wait_longer_and_longer() -> None:
+    """For a name that exists and for one that does not alike, and not for other addresses."""
+    moment = [0.0]
+    found = people.Attempts(lambda: moment[0])
+    waits = []
+    for _ in range(8):
+        found.fail("jane 192.0.2.1", "192.0.2.1")
+        waits.append(found.wait("jane 192.0.2.1", "192.0.2.1"))
+        moment[0] += waits[-1]
+    assert waits == [0, 0, 0, 0, 1, 2, 4, 8]
+    assert found.wait("jane 192.0.2.2", "192.0.2.2") == 0
+    found.succeed("jane 192.0.2.1")
+    assert found.wait("jane 192.0.2.1", "192.0.2.1") == 0
+
+
+def test_a_name_that_exists_is_answered_as_one_that_does_not(office: Site) -> None:
+    """In words, in the wait, and with a slow hash for both."""
+    office.add("jane", "officer")
+    said: list[list[str]] = []
+    for name in ("jane", "nobody"):
+        browser = Browser(office.app, f"192.0.2.{len(said) + 7}")
+        texts = [browser.sign_in(name, f"wrong {at}").text.replace(name, "NAME") for at in range(7)]
+        said.append([it.split('role="alert">')[1].split("<")[0] for it in texts])
+    assert said[0] == said[1] and "Too many attempts failed." in said[0][-1]
+
+
+def test_a_session_ends(office: Site) -> None:
+    """By a sign-out, after half an hour without a request, and after some hours at most."""
+    jane = office.browser("jane")
+    assert jane.post("/sign-out").status_code == 303 and jane.get("/").status_code == 302
+    moment = [1e9]
+    office.parts.people.clock = lambda: moment[0]
+    secret = office.parts.people.begin("jane")
+    for _ in range(20):
+        moment[0] += people.IDLE_SECONDS - 1
+        is_in = office.parts.people.of_session(secret) is not None
+        assert is_in == (moment[0] - 1e9 <= people.SESSION_SECONDS)
+        if not is_in:
+            break
+    other = office.parts.people.begin("jane")
+    moment[0] += people.IDLE_SECONDS + 1
+    assert office.parts.people.of_session(other) is None
+
+
+def test_a_history_that_was_changed_is_refused(tmp_path: pathlib.Path) -> None:
+    """Each kind of change: a value, a line less, two exchanged, a line of somebody else's."""
+    path = tmp_path / "history.jsonl"
+    found = history.History(str(path))
+    for at in range(5):
+        found.add("jane", "sends", {"command": {"cmd": "accept", "child": at, "school": "A"}})
+    found.close()
+    whole = path.read_bytes()
+    lines = whole.splitlines(keepends=True)
+    wrong = {
+        "a value": whole.replace(b'"child":2', b'"child":7'),
+        "a line less": b"".join(lines[:2] + lines[3:]),
+        "two exchanged": b"".join([lines[0], lines[2], lines[1], *lines[3:]]),
+        "twice": whole + lines[-1],
+        "the first left out": b"".join(lines[1:]),
+    }
+    for what, text in wrong.items():
+        path.write_bytes(text)
+        with pytest.raises(Refused, match="the history was changed"):
+            history.History(str(path))
+        assert path.read_bytes() == text, what
+    path.write_bytes(whole + lines[-1][:20])
+    again = history.History(str(path))
+    assert len(again.entries) == 5 and path.read_bytes() == whole
+    assert again.add("bo", "signed in", {}).number == 6
+    again.close()
+    assert [it.who for it in history.read(str(path))] == ["jane"] * 5 + ["bo"]
+
+
+def test_a_request_without_an_answer_is_looked_up(tmp_path: pathlib.Path) -> None:
+    """An application that ended between the record and the answer finds out, and sends nothing
+    again.
+    """
+    with office_over(tmp_path, [*town(), ROUND]) as office:
+        office.parts.history.add("jane", "sends", {"command": ACCEPT})
+        office.parts.desk.sender.send(json.dumps(ACCEPT).encode())
+        office.parts.history.add("jane", "sends", {"command": {**ACCEPT, "child": 2}})
+        browser = office.browser("bo")
+        assert browser.command({"cmd": "leave_list", "child": 3, "school": "A"}).json == {
+            "done": True}
+        settled = [it.about for it in office.parts.history.entries if it.what == "settled"]
+        assert [it["done"] for it in settled] == [True, False]
+        places = office.parts.desk.now().places
+        assert (places[1].kind, places[2].kind) == ("accepted", "offered")

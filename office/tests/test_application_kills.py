@@ -1,0 +1,224 @@
+"""An application, and a register's server, that are killed at any moment: nothing that was answered
+is lost, nothing is sent twice, the history is whole, and what had no answer is settled.
+"""
+import base64
+import contextlib
+import http.client
+import http.server
+import json
+import os
+import pathlib
+import random
+import signal
+import socket
+import subprocess
+import sys
+import threading
+import time
+from collections.abc import Iterator
+from typing import Any
+
+import pytest
+from applications import child, town
+from conftest import PROGRAM, ROOT, make
+
+from office import model
+from office.web import effects, history, people
+from office.web.store import Store
+
+MOMENTS = 50
+TOKEN = "portal"
+
+
+def free_port() -> int:
+    """A port that nothing has now."""
+    with socket.socket() as it:
+        it.bind(("127.0.0.1", 0))
+        port: int = it.getsockname()[1]
+        return port
+
+
+class Counter:
+    """A way to the register that counts each command which arrives, and may be slow."""
+
+    def __init__(self, port: int) -> None:
+        self.arrived: list[bytes] = []
+        counter = self
+
+        class Way(http.server.BaseHTTPRequestHandler):
+            """Passes requests on."""
+
+            def answer(self, body: bytes | None) -> None:
+                """Asks the register, and passes its answer back."""
+                conn = http.client.HTTPConnection("127.0.0.1", port, timeout=30)
+                try:
+                    headers = {"Content-Type": self.headers.get("Content-Type", "")}
+                    conn.request(self.command, self.path, body, headers)
+                    found = conn.getresponse()
+                    text = found.read()
+                except OSError:
+                    self.close_connection = True
+                    return
+                with contextlib.suppress(OSError):
+                    self.send_response(found.status)
+                    self.send_header("Content-Length", str(len(text)))
+                    self.end_headers()
+                    self.wfile.write(text)
+
+            def do_GET(self) -> None:  # pylint: disable=invalid-name
+                """A question."""
+                self.answer(None)
+
+            def do_POST(self) -> None:  # pylint: disable=invalid-name
+                """A command."""
+                body = self.rfile.read(int(self.headers["Content-Length"]))
+                counter.arrived.append(body)
+                self.answer(body)
+
+            def log_message(self, *_: object) -> None:
+                """Prints nothing."""
+
+        self.server = http.server.ThreadingHTTPServer(("127.0.0.1", 0), Way)
+        self.port: int = self.server.server_address[1]
+        threading.Thread(target=self.server.serve_forever, daemon=True).start()
+
+
+class Room:
+    """A register that is served, the way to it, and the application before it."""
+
+    def __init__(self, folder: pathlib.Path) -> None:
+        self.folder, self.path = folder, folder / "reg.db"
+        make(self.path, town())
+        self.desk_port, self.port = free_port(), free_port()
+        self.way = Counter(self.desk_port)
+        (folder / "office").mkdir()
+        store = Store(str(folder / "office" / "office.db"))
+        secret = people.People(store).add(TOKEN, "officer", people.PROGRAM)
+        store.close()
+        self.token = base64.b64encode(f"{TOKEN}:{secret}".encode()).decode()
+        self.desk, self.office = self.begin_desk(), self.begin_office()
+
+    def begin_desk(self) -> subprocess.Popen[bytes]:
+        """Starts the server."""
+        words = [PROGRAM, "serve", str(self.path), str(self.desk_port)]
+        run = subprocess.Popen(  # pylint: disable=consider-using-with
+            words, stdout=subprocess.PIPE, start_new_session=True)
+        assert run.stdout and run.stdout.readline()
+        return run
+
+    def begin_office(self) -> subprocess.Popen[bytes]:
+        """Starts the application, and waits until it answers."""
+        code = (
+            "import pathlib, sys; sys.path[:0] = sys.argv[1:3];"
+            "from office.web import serve; from office.web.parts import Config;"
+            "at = pathlib.Path(sys.argv[3]);"
+            "serve.run(Config('r', sys.argv[4], sys.argv[5], at / 'office', at / 'copies', at),"
+            " sys.argv[6])")
+        words = [sys.executable, "-c", code, str(ROOT), str(ROOT / "tools"), str(self.folder),
+                 f"http://127.0.0.1:{self.port}", f"http://127.0.0.1:{self.way.port}",
+                 f"127.0.0.1:{self.port}"]
+        run = subprocess.Popen(words, start_new_session=True)  # pylint: disable=R1732
+        # (its socket is there before it answers)
+        until = time.monotonic() + 120
+        while time.monotonic() < until:
+            assert run.poll() is None
+            conn = http.client.HTTPConnection("127.0.0.1", self.port, timeout=60)
+            with contextlib.suppress(OSError, http.client.HTTPException):
+                conn.request("GET", "/sign-in")
+                if conn.getresponse().status == 200:
+                    return run
+            conn.close()
+            time.sleep(0.02)
+        raise TimeoutError
+
+    def ask(self, command: dict[str, Any]) -> dict[str, Any]:
+        """The answer of the application to a command."""
+        conn = http.client.HTTPConnection("127.0.0.1", self.port, timeout=60)
+        headers = {"Authorization": f"Basic {self.token}", "Content-Type": "application/json",
+                   "Origin": f"http://127.0.0.1:{self.port}"}
+        try:
+            conn.request("POST", "/command", json.dumps(command), headers)
+            answer: dict[str, Any] = json.loads(conn.getresponse().read())
+            return answer
+        finally:
+            conn.close()
+
+    def end(self) -> None:
+        """Ends all."""
+        for it in (self.office, self.desk):
+            os.killpg(it.pid, signal.SIGKILL)
+            it.wait()
+        self.way.server.shutdown()
+
+
+@pytest.fixture(name="room")
+def room_fixture(tmp_path: pathlib.Path) -> Iterator[Room]:
+    """A room of its own."""
+    found = Room(tmp_path)
+    try:
+        yield found
+    finally:
+        found.end()
+
+
+def load(room: Room, done: list[dict[str, Any]], stop: threading.Event, first: int) -> None:
+    """Sends commands, each once, until told to stop."""
+    number = first
+    while not stop.is_set():
+        command = child(number, f"Child {number}", 100)
+        try:
+            answer = room.ask(command)
+        except (OSError, ValueError, http.client.HTTPException):
+            return
+        if answer.get("done"):
+            done.append(command)
+        number += 1
+
+
+def see(room: Room, done: list[dict[str, Any]]) -> None:
+    """Sees that what was answered is stored, that nothing arrived twice, and that the history is
+    whole and says of each request what became of it.
+    """
+    assert room.ask({"cmd": "amend", **{name: it for name, it in child(1, "Ada", 100).items()
+                                        if name != "cmd"}}) == {"done": True}
+    register = model.read(f"http://127.0.0.1:{room.desk_port}")
+    for it in done:
+        assert effects.is_done(register, it), it
+    once = [it for it in room.way.arrived if b'"cmd":"add_child"' in it]
+    assert len(once) == len(set(once))
+    entries = history.read(str(room.folder / "office" / "history.jsonl"))
+    came = {it.about["of"]: it for it in entries if it.what in (history.ANSWER, history.SETTLED)}
+    for sent in entries:
+        if sent.what == history.SENDS:
+            command, found = sent.about["command"], came[sent.number]
+            is_done = found.about["done"] if found.what == history.SETTLED else (
+                commands_done(found.about["answer"]))
+            if command["cmd"] == "add_child":
+                assert is_done == (command["child"] in register.children), (sent, found)
+
+
+def commands_done(answer: Any) -> bool:
+    """Whether an answer says that it is done."""
+    return isinstance(answer, dict) and answer.get("done") is True
+
+
+@pytest.mark.parametrize("who", ["office", "desk"])
+def test_killed_at_any_moment(room: Room, who: str) -> None:
+    """Fifty times, at moments that a generator with a fixed seed chooses."""
+    chosen = random.Random(f"{who} 1")
+    done: list[dict[str, Any]] = []
+    for at in range(MOMENTS):
+        stop = threading.Event()
+        thread = threading.Thread(target=load, args=(room, done, stop, 100 + 1000 * at))
+        thread.start()
+        time.sleep(chosen.uniform(0.0, 0.3))
+        run: subprocess.Popen[bytes] = getattr(room, who)
+        # (the application is two processes, in a group of their own)
+        os.killpg(run.pid, signal.SIGKILL)
+        run.wait()
+        stop.set()
+        setattr(room, who, room.begin_desk() if who == "desk" else room.begin_office())
+        thread.join(90)
+        assert not thread.is_alive()
+    see(room, done)
+    assert len(done) > MOMENTS / 2, len(done)

@@ -1,0 +1,7 @@
+"""The office's application: sign-in, people, history, and the screens over a register that is
+served.
+
+It is the only way to the register. It sends commands one after another, each compared just before
+with what the register says now, and keeps a record of each before it is sent. What the register
+says is not stored here.
+"""

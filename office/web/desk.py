@@ -1,0 +1,252 @@
+"""The way to the register: requests one after another, each compared just before with what the
+register says now, and on record before it is sent.
+"""
+import dataclasses
+import json
+import threading
+import time
+from collections.abc import Callable
+from typing import Any
+
+from register_files import Refused
+
+from office import commands, model, senders
+from office.model import Register
+
+from . import effects
+from .history import ANSWER, SENDS, SETTLED, Entry, History
+from .people import Person
+
+Command = dict[str, Any]
+# for so long a copy of the register is shown as it is, where nothing was sent since
+FRESH_SECONDS = 2.0
+# a request that had no answer is looked for once more after this
+AGAIN_SECONDS = 1.0
+DONE, REFUSED, DIFFERS, UNSENT, LOST = "done", "refused", "differs", "unsent", "not done"
+
+
+@dataclasses.dataclass(frozen=True)
+class Result:
+    """What a request came to, in one word and in a sentence; and the answer of the register."""
+
+    outcome: str
+    said: str
+    answer: bytes = b""
+
+    @property
+    def is_done(self) -> bool:
+        """Whether it is stored."""
+        return self.outcome == DONE
+
+
+@dataclasses.dataclass(frozen=True)
+class Seen:
+    """What a person saw of a child, or of a school, when they decided: what a command rests on."""
+
+    text: str
+
+
+def seen_of(register: Register, command: Command) -> Seen:
+    """What a command rests on, of a register."""
+    return Seen(json.dumps(RESTS_ON[command["cmd"]](register, command), sort_keys=True))
+
+
+def place_in(register: Register, command: Command) -> Any:
+    """The place of the command's child."""
+    place = register.places.get(command["child"])
+    return [place.school, place.kind, str(place.day), str(place.reminded)] if place else None
+
+
+def data_in(register: Register, command: Command) -> Any:
+    """The data of the command's child."""
+    child = register.children.get(command["child"])
+    return child.data if child else None
+
+
+def wait_in(register: Register, command: Command) -> Any:
+    """Whether the command's child waits at the school."""
+    found = register.applications.get(command["child"])
+    state = found.listed.get(command["school"]) if found else None
+    return state.state if state else None
+
+
+def school_in(register: Register, command: Command) -> Any:
+    """The admission number of the command's school."""
+    school = register.schools.get(command["school"])
+    return school.pan if school else None
+
+
+def draws_in(register: Register, _command: Command) -> Any:
+    """How many draws there are."""
+    return len(register.draws)
+
+
+RESTS_ON: dict[str, Callable[[Register, Command], Any]] = {
+    "add_school": school_in, "raise_pan": school_in,
+    "add_child": data_in, "amend": data_in, "apply": data_in,
+    "accept": place_in, "decline": place_in, "remind": place_in, "lapse": place_in,
+    "name_plan": place_in, "leave_list": wait_in, "round": draws_in, "fill": draws_in,
+}
+
+
+class Desk:
+    """The register of one application."""
+
+    def __init__(
+        self, sender: senders.Http, record: History, clock: Callable[[], float] = time.monotonic
+    ) -> None:
+        self.sender, self.history, self.clock = sender, record, clock
+        self.lock, self.reading = threading.RLock(), threading.Lock()
+        self.copy: tuple[float, Register, bytes] | None = None
+        # when something was sent last, before which no copy is of the present
+        self.sent = clock()
+        # why nobody but a draw may send, or ""
+        self.closed: Callable[[], str] = str
+
+    def read(self, is_now: bool = False) -> tuple[Register, bytes]:
+        """The register as it is, and its document; or as it was some seconds ago, if nothing was
+        sent since.
+        """
+        asked = self.clock()
+        with self.reading:
+            since = asked if is_now else max(self.sent, asked - FRESH_SECONDS)
+            if self.copy and self.copy[0] >= since:
+                return self.copy[1:]
+            moment = self.clock()
+            document = self.sender.read("/register")
+            register = model.of_document(
+                model.Server(self.sender), model.parsed(self.sender.url, document))
+            self.copy = moment, register, document
+            return register, document
+
+    def register(self) -> Register:
+        """The register as it is, or as it was some seconds ago if nothing was sent since."""
+        return self.read()[0]
+
+    def now(self) -> Register:
+        """The register as it is."""
+        return self.read(True)[0]
+
+    def send(
+        self, who: Person, command: Command, seen: Seen | None = None, draw: bool = False
+    ) -> Result:
+        """Sends a command if what it rests on is as it was seen."""
+        with self.lock:
+            if reason := self.reason(draw):
+                return Result(UNSENT, reason)
+            if seen is not None and (said := self.difference(command, seen)):
+                return Result(DIFFERS, said)
+            line = json.dumps(command, separators=(",", ":"), ensure_ascii=False).encode()
+            return self.exchange(who, {"command": command}, lambda: self.sender.send(line))
+
+    def send_import(self, who: Person, rows: bytes) -> Result:
+        """Sends the rows of an import, which are stored all or not at all."""
+        with self.lock:
+            if reason := self.reason(False):
+                return Result(UNSENT, reason)
+            return self.exchange(
+                who, {"import": rows.decode()}, lambda: self.sender.imported(rows))
+
+    def reason(self, draw: bool) -> str:
+        """Why nothing can be sent now, or ""."""
+        if not draw and (said := self.closed()):
+            return said
+        try:
+            self.settle()
+        except Refused as error:
+            return f"Nothing was sent. {error}"
+        return ""
+
+    def difference(self, command: Command, seen: Seen) -> str:
+        """What has changed since a command was decided, or ""."""
+        try:
+            register = self.register()
+        except Refused as error:
+            return f"Nothing was sent. {error}"
+        if seen_of(register, command) == seen:
+            return ""
+        if "child" not in command:
+            return "It has changed meanwhile. Nothing was sent."
+        number = command["child"]
+        for it in self.history.of_child(number):
+            if it.what == SENDS:
+                moment, done = it.at[11:16], it.about["command"]["cmd"]
+                return (f"Child {number}: {it.who} recorded {done} at {moment} (UTC)."
+                        " Nothing was sent.")
+        return f"Child {number} has changed meanwhile. Nothing was sent."
+
+    def exchange(self, who: Person, about: dict[str, Any], send: Callable[[], bytes]) -> Result:
+        """Sends a request that is on record before, and records the answer."""
+        try:
+            entry = self.history.add(who.name, SENDS, about)
+        except Refused as error:
+            return Result(UNSENT, f"Nothing was sent: {error}")
+        try:
+            answer = send()
+        except senders.Ended as error:
+            return self.lost(entry, error)
+        finally:
+            self.sent = self.clock()
+        value = commands.read(answer)
+        if isinstance(value, dict) and value.get("failed"):
+            # (stored wholly or not at all, and only a look at the register says which)
+            return self.looked(entry, commands.in_words(value, None))
+        note = ""
+        try:
+            self.history.add(who.name, ANSWER, {"of": entry.number, "answer": value})
+        except Refused as error:
+            note = f" The answer is not in the history: {error}."
+        if commands.is_done(value):
+            return Result(DONE, (commands.result(value) or "Done, and stored.") + note, answer)
+        said = commands.in_words(value, about.get("command"), self.plans())
+        return Result(REFUSED, f"It was not done: {said}.{note}", answer)
+
+    def plans(self) -> dict[int, str]:
+        """The schools of the children that have a place by a plan, as of the last copy."""
+        places = self.copy[1].places.items() if self.copy else ()
+        return {child: it.school for child, it in places if it.kind == model.PLAN}
+
+    def lost(self, entry: Entry, error: senders.Ended) -> Result:
+        """What a request without an answer came to."""
+        if not error.is_open:
+            try:
+                self.history.add(entry.who, SETTLED,
+                                 {"of": entry.number, "done": False, "why": str(error)})
+            except Refused:
+                pass
+            return Result(UNSENT, f"Nothing was sent: {error}.")
+        return self.looked(entry, str(error))
+
+    def looked(self, entry: Entry, why: str) -> Result:
+        """What a request came to, by a look at the register."""
+        try:
+            is_done = self.settled(entry)
+        except Refused as other:
+            return Result(LOST, f"There was no certain answer ({why}), and the register does not"
+                          f" answer now: {other}. Whether it is done is looked up before anything"
+                          " else is sent.")
+        if is_done:
+            return Result(DONE, "Done, and stored: the answer was lost, and the register has it.")
+        return Result(LOST, f"It was not done: there was no answer ({why}), and the register does"
+                      " not have it.")
+
+    def settle(self) -> None:
+        """Finds out what became of each request without a known answer, before another is sent."""
+        for it in self.history.open_requests():
+            self.settled(it)
+
+    def settled(self, entry: Entry) -> bool:
+        """Whether a request is done, by a look at the register. It is never sent again."""
+        is_done = self.is_done(entry)
+        if not is_done:
+            time.sleep(AGAIN_SECONDS)
+            is_done = self.is_done(entry)
+        self.history.add(entry.who, SETTLED, {"of": entry.number, "done": is_done})
+        return is_done
+
+    def is_done(self, entry: Entry) -> bool:
+        """Whether the register is as after a request."""
+        register = self.now()
+        if "command" in entry.about:
+            return effects.is_done(register, entry.about["command"])
+        return effects.is_imported(register, entry.about["import"])

@@ -1,0 +1,106 @@
+"""Whether a register is as a command leaves it: what a request without an answer came to."""
+import csv
+import io
+from collections.abc import Callable
+from typing import Any
+
+from office import persons, rules
+from office.fields import trimmed
+from office.model import ACCEPTED, PLAN, WAITS, Place, Register
+
+Command = dict[str, Any]
+
+
+def is_done(register: Register, command: Command) -> bool:
+    """Whether a register is as after this command."""
+    return DONE[command["cmd"]](register, command)
+
+
+def place_of(register: Register, command: Command) -> Place | None:
+    """The place of the command's child at its school."""
+    place = register.places.get(command["child"])
+    return place if place and place.school == command["school"] else None
+
+
+def has_data(register: Register, command: Command) -> bool:
+    """Whether a child has the data of a command that adds or amends it."""
+    child = register.children.get(command["child"])
+    return child is not None and normal(persons.command_of(command["cmd"], child)) == normal(
+        command)
+
+
+def normal(command: Command) -> Command:
+    """A command with each field that may be left out, and with sorted flags, as they are stored."""
+    fields = rules.COMMANDS[command["cmd"]].values()
+    found: Command = {**{it.name: "" for it in fields if it.is_optional}, **command}
+    if isinstance(found.get("flags"), list):
+        found["flags"] = sorted(set(found["flags"]))
+    return found
+
+
+def has_applied(register: Register, command: Command) -> bool:
+    """Whether a child has this application."""
+    found = register.applications.get(command["child"])
+    return found is not None and (found.day.isoformat(), list(found.preferences)) == (
+        command["day"], command["preferences"])
+
+
+def has_left(register: Register, command: Command) -> bool:
+    """Whether a child does not wait at the school."""
+    found = register.applications.get(command["child"])
+    waits = found.listed.get(command["school"]) if found else None
+    return waits is None or waits.state != WAITS
+
+
+def is_reminded(register: Register, command: Command) -> bool:
+    """Whether a child was reminded on that day."""
+    place = place_of(register, command)
+    return place is not None and place.reminded is not None and (
+        place.reminded.isoformat() == command["day"])
+
+
+def has_kind(kind: str) -> Callable[[Register, Command], bool]:
+    """Whether the child has its place at the school in this way."""
+    def found(register: Register, command: Command) -> bool:
+        place = place_of(register, command)
+        return place is not None and place.kind == kind
+    return found
+
+
+def has_pan(register: Register, command: Command) -> bool:
+    """Whether a school has at least this admission number, which can only rise."""
+    school = register.schools.get(command["school"])
+    return school is not None and school.pan >= command["pan"]
+
+
+def is_held(register: Register, command: Command) -> bool:
+    """Whether a draw of this number was held, with these lots."""
+    lots = register.lots(command["draw"])
+    return bool(lots) and [lots[it] for it in sorted(lots)] == command["lots"]
+
+
+def is_imported(register: Register, rows: str) -> bool:
+    """Whether a register has each child of the rows of an import, by number and name."""
+    found = list(csv.DictReader(io.StringIO(rows)))
+    names = {str(it.number): it.name for it in register.children.values()}
+    return bool(found) and all(
+        names.get(trimmed(it.get("child") or "")) == trimmed(it.get("name") or "")
+        for it in found
+    )
+
+
+DONE: dict[str, Callable[[Register, Command], bool]] = {
+    "add_school": lambda register, it: it["school"] in register.schools,
+    "raise_pan": has_pan,
+    "add_child": has_data,
+    "amend": has_data,
+    "apply": has_applied,
+    "accept": has_kind(ACCEPTED),
+    "name_plan": has_kind(PLAN),
+    "decline": lambda register, it: place_of(register, it) is None,
+    "lapse": lambda register, it: place_of(register, it) is None,
+    "leave_list": has_left,
+    "remind": is_reminded,
+    "round": is_held,
+    "fill": is_held,
+}

@@ -1,0 +1,210 @@
+"""Who asks, and whether they may: sessions, tokens, rights, requests of other sites, headers."""
+import json
+import threading
+import time
+from collections.abc import Callable
+from typing import Any, TypeVar, cast
+
+import flask
+from register_files import Refused
+from werkzeug.exceptions import HTTPException
+from werkzeug.wrappers import Response as AnyResponse
+
+from .parts import Parts
+from .people import Person
+
+COOKIE = "__Host-admissions"
+# where a site is tried without TLS, a browser takes no such cookie
+PLAIN_COOKIE = "admissions"
+PUBLIC = "public"
+SIGNED_IN = "signed in"
+HEADERS = {
+    "Referrer-Policy": "same-origin",
+    "Cache-Control": "no-store",
+    "X-Content-Type-Options": "nosniff",
+    "Cross-Origin-Resource-Policy": "same-origin",
+    "Cross-Origin-Opener-Policy": "same-origin",
+    "Permissions-Policy": "camera=(), geolocation=(), microphone=(), payment=(), usb=()",
+    "Content-Security-Policy": (
+        "default-src 'none'; script-src 'self'; style-src 'self'; img-src 'self'; connect-src"
+        " 'self'; base-uri 'none'; form-action 'self'; frame-ancestors 'none';"
+        " require-trusted-types-for 'script'"),
+}
+# a person who tries what is not theirs is on record once in so many seconds for each address
+REFUSED_SECONDS = 60
+View = TypeVar("View", bound=Callable[..., Any])
+
+
+def needs(right: str) -> Callable[[View], View]:
+    """Says which right a view needs; PUBLIC needs none, SIGNED_IN any person."""
+    def marked(view: View) -> View:
+        view.right = right  # type: ignore[attr-defined]
+        return view
+    return marked
+
+
+def parts() -> Parts:
+    """The parts of the application."""
+    return cast(Parts, flask.current_app.extensions["office"])
+
+
+def person() -> Person:
+    """Who asks."""
+    found: Person | None = flask.g.get("person")
+    if found is None:
+        flask.abort(401)
+    return found
+
+
+def record(what: str, **about: Any) -> None:
+    """Adds what the person does to the history."""
+    parts().history.add(person().name, what, about)
+
+
+def cookie_name() -> str:
+    """The name of the cookie."""
+    return COOKIE if parts().config.origin.startswith("https:") else PLAIN_COOKIE
+
+
+def who_asks() -> Person | None:
+    """The person of the session, or the program of a token."""
+    request, people = flask.request, parts().people
+    if secret := request.cookies.get(cookie_name()):
+        return people.of_session(secret)
+    if request.authorization and request.authorization.type == "basic":
+        name, token = request.authorization.username, request.authorization.password
+        return people.of_token(name or "", token or "")
+    return None
+
+
+def is_foreign() -> bool:
+    """Whether a request that changes something may come from a page of another site. A form has the
+    secret of its session; other bodies are of kinds that no form can send.
+    """
+    request = flask.request
+    if request.headers.get("Origin") != parts().config.origin:
+        return True
+    if request.mimetype in ("application/json", "text/csv"):
+        return False
+    if request.endpoint == "signing.sign_in":
+        return False
+    found: Person | None = flask.g.get("person")
+    return found is None or not found.form or request.form.get("form") != found.form
+
+
+class Refusals:
+    """When somebody was refused last, so that a loop does not fill the disk."""
+
+    def __init__(self) -> None:
+        self.lock = threading.Lock()
+        self.last: dict[tuple[str, str], float] = {}
+
+    def is_new(self, name: str, path: str) -> bool:
+        """Whether this is to be on record."""
+        moment = time.monotonic()
+        with self.lock:
+            last = self.last.pop((name, path), None)
+            self.last[name, path] = moment if last is None else last
+            is_due = last is None or moment - last > REFUSED_SECONDS
+            if is_due:
+                self.last[name, path] = moment
+            for key in list(self.last)[:-1000]:
+                del self.last[key]
+            return is_due
+
+
+def see() -> AnyResponse | None:
+    """Lets a request pass, or answers it."""
+    request = flask.request
+    view = flask.current_app.view_functions.get(request.endpoint or "")
+    if view is None:
+        return None
+    right: str = getattr(view, "right")
+    flask.g.person = found = who_asks()
+    if right == PUBLIC and request.method in ("GET", "HEAD"):
+        return None
+    if right != PUBLIC and found is None:
+        if request.method == "GET" and "text/html" in request.headers.get("Accept", ""):
+            return flask.redirect(flask.url_for("signing.sign_in", to=target()))
+        flask.abort(401)
+    if request.method not in ("GET", "HEAD") and is_foreign():
+        flask.abort(403, "a request must come from a page of this site")
+    if right == PUBLIC or found is None:
+        return None
+    if found.must_change and request.endpoint not in ("signing.password", "signing.sign_out"):
+        return flask.redirect(flask.url_for("signing.password"))
+    if right != SIGNED_IN and not found.may(right):
+        refused(found)
+    return None
+
+
+def target() -> str:
+    """The path that was asked for, to go on there after the sign-in."""
+    return flask.request.full_path.rstrip("?")
+
+
+def refused(found: Person) -> None:
+    """Refuses a person what is not theirs, and records it."""
+    request = flask.request
+    path = f"{request.method} {request.path[:80]}"
+    refusals: Refusals = flask.current_app.extensions["refusals"]
+    if refusals.is_new(found.name, path):
+        try:
+            parts().history.add(found.name, "refused", {"asked": path, "role": found.role})
+        except Refused:
+            pass
+    flask.abort(403, f"the role {found.role} may not do this")
+
+
+def see_own_school(code: str) -> None:
+    """Refuses the head of a school another school than theirs."""
+    found = person()
+    if found.school is not None and found.school != code:
+        refused(found)
+
+
+def headers(response: flask.Response) -> flask.Response:
+    """Gives a response the headers that keep a browser strict."""
+    for name, value in HEADERS.items():
+        response.headers.setdefault(name, value)
+    return response
+
+
+def wants_page() -> bool:
+    """Whether the answer is read by a person."""
+    return "text/html" in flask.request.headers.get("Accept", "")
+
+
+def failed(status: int, reason: str) -> tuple[str, int] | flask.Response:
+    """The answer that says why something was not done."""
+    if wants_page():
+        return flask.render_template("failed.html", reason=reason, status=status), status
+    text = json.dumps({"reason": reason, "status": status}, sort_keys=True, separators=(",", ":"))
+    return flask.Response(text, status, mimetype="application/json")
+
+
+def on_refused(error: Exception) -> tuple[str, int] | flask.Response:
+    """What cannot be done, in words."""
+    return failed(409, str(error))
+
+
+def on_http(error: HTTPException) -> tuple[str, int] | flask.Response:
+    """A status of HTTP, in words."""
+    words = {404: "there is no such page", 405: "the page takes no such request",
+             401: "sign in first", 413: "that is too large"}
+    status = error.code or 500
+    if error.response is not None:
+        return cast(flask.Response, error.response)
+    return failed(status, words.get(status) or str(error.description))
+
+
+def guarded(app: flask.Flask) -> None:
+    """Guards an application. Each of its views says which right it needs."""
+    app.extensions["refusals"] = Refusals()
+    app.before_request(see)
+    app.after_request(headers)
+    app.register_error_handler(Refused, on_refused)
+    app.register_error_handler(HTTPException, on_http)
+    missing = [name for name, it in app.view_functions.items() if not hasattr(it, "right")]
+    if missing:
+        raise RuntimeError(f"without a right: {', '.join(missing)}")

@@ -1,0 +1,189 @@
+"""The history: who did what, when, and what the register answered. A file of lines that only grows.
+
+Each line is an entry with the digest of the line before, so that no entry can be changed or left
+out without notice. An entry is on the disk before what it announces is done.
+"""
+import dataclasses
+import datetime
+import fcntl
+import hashlib
+import json
+import os
+import threading
+from collections.abc import Callable
+from typing import Any
+
+from register_files import OWNER_ALONE, Refused
+
+FIRST = "0" * 64
+# what an entry is about: a request to the register, what came of it, or what a person did
+SENDS, ANSWER, SETTLED = "sends", "answer", "settled"
+
+
+@dataclasses.dataclass(frozen=True)
+class Entry:
+    """An entry, with the moment in UTC."""
+
+    number: int
+    at: str
+    who: str
+    what: str
+    about: dict[str, Any]
+
+    def line(self, before: str) -> bytes:
+        """The line of the entry after a line of this digest."""
+        found = {"about": self.about, "at": self.at, "before": before, "n": self.number,
+                 "what": self.what, "who": self.who}
+        text = json.dumps(found, sort_keys=True, separators=(",", ":"), ensure_ascii=False)
+        return text.encode("utf-8") + b"\n"
+
+
+def digest(line: bytes) -> str:
+    """The digest of a line."""
+    return hashlib.sha256(line).hexdigest()
+
+
+def entry_of(line: bytes, number: int, before: str) -> Entry:
+    """The entry of a line that follows a line of this digest, or a ValueError."""
+    found = json.loads(line)
+    entry = Entry(found["n"], found["at"], found["who"], found["what"], found["about"])
+    if entry.number != number or entry.line(before) != line:
+        raise ValueError("the digest or the number is another")
+    return entry
+
+
+def entries_of(name: str, data: bytes) -> tuple[list[Entry], str]:
+    """The entries of whole lines, and the digest of the last one. A line that was changed, and one
+    after which a line is missing, is refused.
+    """
+    found: list[Entry] = []
+    before = FIRST
+    for at, text in enumerate(data.split(b"\n")[:-1], 1):
+        line = text + b"\n"
+        try:
+            found.append(entry_of(line, at, before))
+        except (ValueError, KeyError, TypeError) as error:
+            raise Refused(f"{name}, line {at}: the history was changed there, or a line before it"
+                          f" is missing: {error}") from error
+        before = digest(line)
+    return found, before
+
+
+def read(name: str) -> list[Entry]:
+    """The entries of a history that nobody writes, as of a copy."""
+    with open(name, "rb") as file:
+        return entries_of(name, file.read())[0]
+
+
+def now() -> str:
+    """This moment."""
+    return datetime.datetime.now(datetime.timezone.utc).isoformat(timespec="milliseconds")
+
+
+class History:
+    """The history of one application, which alone has it open."""
+
+    def __init__(self, path: str, moment: Callable[[], str] = now) -> None:
+        self.path, self.moment = path, moment
+        self.lock = threading.RLock()
+        self.is_broken = False
+        self.fd = os.open(path, os.O_RDWR | os.O_CREAT | os.O_APPEND | os.O_CLOEXEC, OWNER_ALONE)
+        try:
+            fcntl.flock(self.fd, fcntl.LOCK_EX | fcntl.LOCK_NB)
+        except BlockingIOError as error:
+            os.close(self.fd)
+            raise Refused(f"{path} is in use by another application") from error
+        self.entries: list[Entry] = []
+        # the requests of which no answer is known yet, and the places of the entries by children
+        self.open: dict[int, Entry] = {}
+        self.children: dict[int, list[int]] = {}
+        self.before, self.length = FIRST, 0
+        try:
+            self.load()
+        except BaseException:
+            os.close(self.fd)
+            raise
+
+    def load(self) -> None:
+        """Takes the entries that are there."""
+        with open(self.path, "rb") as file:
+            data = file.read()
+        # (a crash within a write leaves a part of a line: what it announced was not begun)
+        whole = data[:data.rfind(b"\n") + 1]
+        found, self.before = entries_of(self.path, whole)
+        for it in found:
+            self.take(it)
+        self.length = len(whole)
+        if whole != data:
+            os.ftruncate(self.fd, self.length)
+            os.fsync(self.fd)
+        self.sync_folder()
+
+    def sync_folder(self) -> None:
+        """Makes the name of the file durable."""
+        folder = os.open(os.path.dirname(os.path.abspath(self.path)), os.O_RDONLY | os.O_CLOEXEC)
+        try:
+            os.fsync(folder)
+        finally:
+            os.close(folder)
+
+    def add(self, who: str, what: str, about: dict[str, Any]) -> Entry:
+        """Adds an entry, which is on the disk when this returns. Where it cannot be written, the
+        file is as before, and this is refused.
+        """
+        with self.lock:
+            if self.is_broken:
+                raise Refused(f"{self.path} could not be written, and nothing is sent until the"
+                              " application is started again")
+            entry = Entry(len(self.entries) + 1, self.moment(), who, what, about)
+            line = entry.line(self.before)
+            try:
+                self.write(line)
+            except OSError as error:
+                self.take_back()
+                raise Refused(f"the history cannot be written ({error.strerror}), and nothing is"
+                              " sent without it") from error
+            self.take(entry)
+            self.before, self.length = digest(line), self.length + len(line)
+            return entry
+
+    def write(self, line: bytes) -> None:
+        """Writes a line behind the others, and waits for the disk."""
+        rest = line
+        while rest:
+            rest = rest[os.write(self.fd, rest):]
+        os.fsync(self.fd)
+
+    def take_back(self) -> None:
+        """Removes a part of a line. If that fails, nothing is written any more."""
+        try:
+            os.ftruncate(self.fd, self.length)
+            os.fsync(self.fd)
+        except OSError:
+            self.is_broken = True
+
+    def take(self, entry: Entry) -> None:
+        """Adds an entry to those in memory."""
+        self.entries.append(entry)
+        request = entry
+        if entry.what == SENDS:
+            self.open[entry.number] = entry
+        elif entry.what in (ANSWER, SETTLED):
+            self.open.pop(entry.about["of"], None)
+            request = self.entries[entry.about["of"] - 1]
+        if child := request.about.get("command", {}).get("child"):
+            self.children.setdefault(child, []).append(entry.number)
+
+    def open_requests(self) -> list[Entry]:
+        """The requests to the register of which no answer is known yet."""
+        with self.lock:
+            return list(self.open.values())
+
+    def of_child(self, number: int) -> list[Entry]:
+        """The entries about a child, the last first."""
+        with self.lock:
+            return [self.entries[it - 1] for it in reversed(self.children.get(number, []))]
+
+    def close(self) -> None:
+        """Ends the use of the file."""
+        os.close(self.fd)

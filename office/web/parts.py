@@ -1,0 +1,45 @@
+"""The parts of one application: where everything is, and what its screens share."""
+import dataclasses
+import pathlib
+
+from office import senders
+
+from .desk import Desk
+from .history import History
+from .people import People
+from .store import Store
+
+
+@dataclasses.dataclass(frozen=True)
+class Config:
+    """Where an application is: the register's name; the address at which browsers find it, without
+    a path; the socket of the desk; the folder that is its own; that of the copies; that of the
+    site's files; and the authority's name.
+    """
+
+    name: str
+    origin: str
+    door: str
+    folder: pathlib.Path
+    copies: pathlib.Path
+    site: pathlib.Path
+    authority: str = ""
+
+
+class Parts:
+    """The parts of a running application."""
+
+    def __init__(self, config: Config) -> None:
+        self.config = config
+        config.folder.mkdir(mode=0o700, exist_ok=True)
+        self.history = History(str(config.folder / "history.jsonl"))
+        self.store = Store(str(config.folder / "office.db"))
+        self.people = People(self.store)
+        is_socket = config.door.startswith("/")
+        sender = senders.Door(config.door) if is_socket else senders.Http(config.door)
+        self.desk = Desk(sender, self.history)
+
+    def close(self) -> None:
+        """Ends the use of its files."""
+        self.store.close()
+        self.history.close()

@@ -1,0 +1,263 @@
+"""Who may sign in, and do what: people with a password of their own, and programs with a token."""
+import dataclasses
+import hashlib
+import re
+import secrets
+import threading
+import time
+from collections.abc import Callable
+
+import argon2
+from register_files import Refused
+
+from office import rules
+
+from .history import now
+from .store import Store
+
+# a mail address too
+NAME = re.compile("[a-z0-9][a-z0-9._@+-]{0,63}")
+PERSON, PROGRAM = "person", "program"
+OFFICER, HEAD, SUPERVISOR = "officer", "head", "supervisor"
+READER, ADMINISTRATOR, SCHOOL = "reader", "administrator", "school-"
+ROLES = {
+    HEAD: "reads and records everything, holds draws, restores, and says who may sign in",
+    OFFICER: "reads and records everything, and confirms the draws of somebody else",
+    SUPERVISOR: "draws the lots, and nothing else",
+    READER: "reads everything, and records nothing",
+    ADMINISTRATOR: "says who may sign in, and sees no child",
+}
+# what a role may do
+READ, RECORD, DRAW, CONFIRM, LOTS, PEOPLE = "read", "record", "draw", "confirm", "lots", "people"
+# the lists of schools: of all, or for the head of one of that one
+LISTS = "lists"
+RIGHTS = {
+    HEAD: {READ, LISTS, RECORD, DRAW, CONFIRM, PEOPLE},
+    OFFICER: {READ, LISTS, RECORD, CONFIRM},
+    SUPERVISOR: {LOTS},
+    READER: {READ, LISTS},
+    ADMINISTRATOR: {PEOPLE},
+}
+OF_SCHOOL = {LISTS}
+LEAST_PASSWORD, MOST_PASSWORD = 12, 200
+# a session ends after so many seconds without a request, and after so many at most
+IDLE_SECONDS, SESSION_SECONDS = 30 * 60, 10 * 3600
+# so many attempts that fail are free; each after them doubles the wait, up to the longest
+FREE_ATTEMPTS, LONGEST_WAIT = 5, 300
+WRONG = "The name or the password is wrong."
+
+
+def is_role(text: str) -> bool:
+    """Whether a text is a role."""
+    return text in ROLES or text.startswith(SCHOOL) and rules.is_code(text.removeprefix(SCHOOL))
+
+
+@dataclasses.dataclass(frozen=True)
+class Person:
+    """Somebody who is signed in, or a program with a valid token."""
+
+    name: str
+    role: str
+    must_change: bool = False
+    form: str = ""
+
+    def may(self, right: str) -> bool:
+        """Whether the role has a right."""
+        return right in (OF_SCHOOL if self.school else RIGHTS[self.role])
+
+    @property
+    def school(self) -> str | None:
+        """The school of the head of a school."""
+        return self.role.removeprefix(SCHOOL) if self.role.startswith(SCHOOL) else None
+
+
+def digest(secret: str) -> str:
+    """The digest of a drawn secret, which needs no slow hash."""
+    return hashlib.sha256(secret.encode()).hexdigest()
+
+
+class Attempts:
+    """How often somebody tried a password that was wrong. The wait grows with each, for a name from
+    an address and for an address; whether a name exists makes no difference.
+    """
+
+    def __init__(self, clock: Callable[[], float] = time.monotonic) -> None:
+        self.clock, self.lock = clock, threading.Lock()
+        self.failed: dict[str, tuple[int, float]] = {}
+
+    def wait(self, *keys: str) -> int:
+        """For how many seconds nothing more may be tried."""
+        with self.lock:
+            ends = (self.failed.get(it, (0, 0.0))[1] for it in keys)
+            return max(0, int(max(ends) - self.clock() + 0.999))
+
+    def fail(self, *keys: str) -> None:
+        """Counts one that failed."""
+        with self.lock:
+            for key in keys:
+                count = self.failed.pop(key, (0, 0.0))[0] + 1
+                wait = min(LONGEST_WAIT, 2 ** min(count - FREE_ATTEMPTS, 30)) if (
+                    count >= FREE_ATTEMPTS) else 0
+                self.failed[key] = count, self.clock() + wait
+            for key in list(self.failed)[:-10_000]:
+                del self.failed[key]
+
+    def succeed(self, key: str) -> None:
+        """Forgets those of a name from an address."""
+        with self.lock:
+            self.failed.pop(key, None)
+
+
+class People:
+    """The people and programs of a register, and who is signed in."""
+
+    def __init__(self, store: Store, clock: Callable[[], float] = time.time) -> None:
+        self.store, self.clock = store, clock
+        self.attempts = Attempts()
+        self.hasher = argon2.PasswordHasher()
+        # (so that a name that does not exist takes as long)
+        self.nobody = self.hasher.hash(secrets.token_urlsafe(18))
+
+    def add(self, name: str, role: str, kind: str = PERSON) -> str:
+        """Adds a person or a program, and returns the drawn password or token, which is shown
+        once.
+        """
+        if not NAME.fullmatch(name):
+            raise Refused("a name is 1 to 64 of a-z, 0-9 and . _ @ + -, and begins with a letter"
+                          " or a figure")
+        see_role(role)
+        secret = secrets.token_urlsafe(18)
+        with self.store.writing() as db:
+            if db.execute("SELECT 1 FROM person WHERE name=?", (name,)).fetchone():
+                raise Refused(f"{name} is there already")
+            db.execute("INSERT INTO person (name, kind, role, hash, must_change, added)"
+                       " VALUES (?, ?, ?, ?, ?, ?)",
+                       (name, kind, role, self.hash_of(secret, kind), kind == PERSON, now()))
+        return secret
+
+    def hash_of(self, secret: str, kind: str) -> str:
+        """What is kept of a password, or of a drawn token."""
+        return digest(secret) if kind == PROGRAM else str(self.hasher.hash(secret))
+
+    def changed(self, name: str, query: str, *values: object) -> None:
+        """Changes a person, and ends the sessions."""
+        with self.store.writing() as db:
+            if not db.execute(f"UPDATE person SET {query} WHERE name=?", (*values, name)).rowcount:
+                raise Refused(f"there is no {name}")
+            db.execute("DELETE FROM session WHERE person=?", (name,))
+
+    def set_role(self, name: str, role: str) -> None:
+        """Gives a person another role."""
+        see_role(role)
+        self.changed(name, "role=?", role)
+
+    def lock(self, name: str, is_locked: bool) -> None:
+        """Keeps a person out, or lets them in again."""
+        self.changed(name, "is_locked=?", int(is_locked))
+
+    def reset(self, name: str) -> str:
+        """Draws another password or token, and returns it."""
+        row, secret = self.store.row("SELECT kind FROM person WHERE name=?", name), ""
+        if row:
+            secret = secrets.token_urlsafe(18)
+            kind = row["kind"]
+            self.changed(name, "hash=?, must_change=?", self.hash_of(secret, kind), kind == PERSON)
+        return secret
+
+    def remove(self, name: str) -> None:
+        """Removes a person. What they did stays in the history."""
+        with self.store.writing() as db:
+            db.execute("DELETE FROM person WHERE name=?", (name,))
+
+    def set_password(self, person: Person, old: str, new: str) -> None:
+        """Gives a person a password of their own."""
+        row = self.store.row("SELECT hash FROM person WHERE name=?", person.name)
+        if not row or not self.is_right(row["hash"], old):
+            raise Refused("the present password is wrong")
+        if not LEAST_PASSWORD <= len(new) <= MOST_PASSWORD:
+            raise Refused(f"a password has {LEAST_PASSWORD} to {MOST_PASSWORD} characters")
+        if new == old:
+            raise Refused("the new password is the present one")
+        with self.store.writing() as db:
+            db.execute("UPDATE person SET hash=?, must_change=0 WHERE name=?",
+                       (self.hasher.hash(new), person.name))
+
+    def is_right(self, hashed: str, password: str) -> bool:
+        """Whether a password is that of a hash."""
+        try:
+            return bool(self.hasher.verify(hashed, password))
+        except (argon2.exceptions.VerificationError, argon2.exceptions.InvalidHash):
+            return False
+
+    def sign_in(self, name: str, password: str, address: str) -> str:
+        """The secret of a new session, or a refusal that does not say what was wrong."""
+        keys = f"{name[:64]} {address}", address
+        if wait := self.attempts.wait(*keys):
+            raise Refused(f"Too many attempts failed. Try again in {wait} seconds.")
+        row = self.store.row("SELECT * FROM person WHERE name=? AND kind=?", name, PERSON)
+        is_right = self.is_right(row["hash"] if row else self.nobody, password[:MOST_PASSWORD])
+        if not row or not is_right or row["is_locked"]:
+            self.attempts.fail(*keys)
+            raise Refused(WRONG)
+        self.attempts.succeed(keys[0])
+        return self.begin(name)
+
+    def sign_in_outside(self, name: str) -> str:
+        """The secret of a new session of somebody whom the authority's provider has signed in."""
+        row = self.store.row("SELECT is_locked FROM person WHERE name=? AND kind=?", name, PERSON)
+        if not row or row["is_locked"]:
+            raise Refused(f"{name} may not sign in here: ask who adds people.")
+        return self.begin(name, True)
+
+    def begin(self, name: str, is_outside: bool = False) -> str:
+        """Begins a session. Who was signed in outside needs no password of their own."""
+        secret, moment = secrets.token_urlsafe(32), self.clock()
+        with self.store.writing() as db:
+            db.execute("DELETE FROM session WHERE seen<? OR began<?",
+                       (moment - IDLE_SECONDS, moment - SESSION_SECONDS))
+            db.execute("INSERT INTO session VALUES (?, ?, ?, ?, ?, ?)",
+                       (digest(secret), name, secrets.token_urlsafe(18), moment, moment,
+                        int(is_outside)))
+            db.execute("UPDATE person SET signed_in=? WHERE name=?", (now(), name))
+        return secret
+
+    def of_session(self, secret: str) -> Person | None:
+        """Who has a session."""
+        moment = self.clock()
+        row = self.store.row(
+            "SELECT * FROM session JOIN person ON person=name WHERE digest=?", digest(secret))
+        if not row or row["is_locked"]:
+            return None
+        is_late = moment - row["seen"] > IDLE_SECONDS or moment - row["began"] > SESSION_SECONDS
+        if is_late:
+            self.end(secret)
+            return None
+        if moment - row["seen"] > 60 or moment < row["seen"]:
+            with self.store.writing() as db:
+                db.execute("UPDATE session SET seen=? WHERE digest=?", (moment, digest(secret)))
+        must_change = bool(row["must_change"]) and not row["is_outside"]
+        return Person(row["name"], row["role"], must_change, row["form"])
+
+    def signed_in(self) -> list[str]:
+        """Who is signed in."""
+        rows = self.store.rows("SELECT DISTINCT person FROM session WHERE seen>? ORDER BY person",
+                               self.clock() - IDLE_SECONDS)
+        return [row["person"] for row in rows]
+
+    def of_token(self, name: str, token: str) -> Person | None:
+        """Which program has a token."""
+        row = self.store.row("SELECT * FROM person WHERE name=? AND kind=?", name, PROGRAM)
+        known = row["hash"] if row else digest("")
+        is_right = secrets.compare_digest(known, digest(token))
+        return Person(name, row["role"]) if row and is_right and not row["is_locked"] else None
+
+    def end(self, secret: str) -> None:
+        """Ends a session."""
+        with self.store.writing() as db:
+            db.execute("DELETE FROM session WHERE digest=?", (digest(secret),))
+
+
+def see_role(role: str) -> None:
+    """Refuses what is no role."""
+    if not is_role(role):
+        raise Refused(f"{role} is no role: {', '.join(ROLES)}, or {SCHOOL}CODE")

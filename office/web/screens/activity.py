@@ -1,0 +1,51 @@
+"""All that was done: by person, by child, by day."""
+import flask
+
+from ..guard import needs, parts
+from ..history import ANSWER, SENDS, SETTLED, Entry
+from ..people import READ
+
+screen = flask.Blueprint("activity", __name__, url_prefix="/activity")
+SHOWN = 200
+
+
+def is_meant(it: Entry, who: str, day: str, child: str) -> bool:
+    """Whether an entry is one of those that were asked for."""
+    number = str(it.about.get("command", {}).get("child", ""))
+    return it.what not in (ANSWER, SETTLED) and (not who or it.who == who) and (
+        not day or it.at.startswith(day)) and (not child or number == child)
+
+
+@screen.get("/")
+@needs(READ)
+def show() -> str:
+    """The entries, the last first."""
+    who, day, child = (flask.request.args.get(it, "").strip() for it in ("who", "day", "child"))
+    entries = list(parts().history.entries)
+    came = {it.about["of"]: it for it in entries if it.what in (ANSWER, SETTLED)}
+    found = [it for it in reversed(entries) if is_meant(it, who, day, child)]
+    rows = [(it, in_words(it), outcome(came.get(it.number)) if it.what == SENDS else "")
+            for it in found[:SHOWN]]
+    names = sorted({it.who for it in entries})
+    return flask.render_template("activity.html", rows=rows, who=who, day=day, child=child,
+                                 names=names, count_all=len(found))
+
+
+def in_words(it: Entry) -> str:
+    """What an entry says."""
+    if it.what != SENDS:
+        return " ".join([it.what, *(f"{name} {value}" for name, value in it.about.items())])
+    if "import" in it.about:
+        return "import of applications"
+    named = {name: value for name, value in it.about["command"].items() if name != "lots"}
+    return " ".join([named.pop("cmd"), *(f"{name} {value}" for name, value in named.items())])
+
+
+def outcome(came: Entry | None) -> str:
+    """What became of a request."""
+    if came is None:
+        return "no answer yet"
+    if came.what == SETTLED:
+        return "done" if came.about["done"] else "not done"
+    answer = came.about["answer"]
+    return "done" if answer.get("done") else f"refused: {answer.get('name', '')}"

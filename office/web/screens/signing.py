@@ -1,0 +1,121 @@
+"""Signing in and out, and a password of one's own."""
+import urllib.parse
+
+import flask
+from register_files import Refused
+from werkzeug.wrappers import Response
+
+from .. import authority, guard
+from ..guard import PUBLIC, SIGNED_IN, needs, parts, person
+
+screen = flask.Blueprint("signing", __name__)
+Answer = str | Response | tuple[str, int]
+
+
+def own_path(text: str) -> str:
+    """A path of this site to go on at, or that of the first screen."""
+    found = urllib.parse.urlsplit(text)
+    is_own = text.startswith("/") and not text.startswith("//") and not found.netloc
+    return text if is_own and "\\" not in text else "/"
+
+
+def sign_in_page(to: str, said: str, name: str) -> str:
+    """The form."""
+    return flask.render_template("sign_in.html", to=to, said=said, name=name,
+                                 provider=authority.provider_of(parts().store))
+
+
+@screen.route("/sign-in", methods=("GET", "POST"))
+@needs(PUBLIC)
+def sign_in() -> Answer:
+    """The form, and the begin of a session."""
+    request = flask.request
+    to = own_path(request.values.get("to", "/"))
+    if request.method == "GET":
+        return sign_in_page(to, "", "")
+    name = request.form.get("name", "").strip().lower()
+    try:
+        secret = parts().people.sign_in(
+            name, request.form.get("password", ""), request.headers.get("X-Real-IP", "?"))
+    except Refused as error:
+        return sign_in_page(to, str(error), name), 403
+    parts().history.add(name, "signed in", {})
+    return with_session(flask.redirect(to, 303), secret)
+
+
+def with_session(answer: Response, secret: str) -> Response:
+    """An answer that gives the browser its session."""
+    answer.set_cookie(
+        guard.cookie_name(), secret, secure=guard.cookie_name() == guard.COOKIE, httponly=True,
+        samesite="Strict", path="/")
+    return answer
+
+
+def provider() -> authority.Provider:
+    """The provider of the authority's accounts."""
+    found = authority.provider_of(parts().store)
+    if not found:
+        flask.abort(404)
+    return found
+
+
+def own_address() -> str:
+    """Where a provider leads back to."""
+    return parts().config.origin + flask.url_for("signing.come_back")
+
+
+@screen.get("/sign-in/authority")
+@needs(PUBLIC)
+def go_out() -> Answer:
+    """The way to the provider."""
+    flask.session["to"] = own_path(flask.request.args.get("to", "/"))
+    try:
+        return authority.go_out(flask.current_app, provider(), own_address())
+    except Refused as error:
+        return sign_in_page("/", str(error), ""), 403
+
+
+@screen.get("/sign-in/authority/back")
+@needs(PUBLIC)
+def come_back() -> Answer:
+    """The begin of a session of somebody who comes back from the provider."""
+    to = own_path(str(flask.session.pop("to", "/")))
+    try:
+        name = authority.signed_in(flask.current_app, provider())
+        secret = parts().people.sign_in_outside(name)
+    except Refused as error:
+        return sign_in_page(to, str(error), ""), 403
+    parts().history.add(name, "signed in", {"by": "the authority's account"})
+    # (a browser that was led here by another site sends the new cookie only from a page of this
+    # one)
+    page = flask.make_response(flask.render_template("signed_in.html", to=to))
+    return with_session(page, secret)
+
+
+@screen.post("/sign-out")
+@needs(SIGNED_IN)
+def sign_out() -> Answer:
+    """The end of a session."""
+    parts().people.end(flask.request.cookies.get(guard.cookie_name(), ""))
+    guard.record("signed out")
+    answer = flask.redirect(flask.url_for("signing.sign_in"), 303)
+    answer.delete_cookie(guard.cookie_name(), path="/", secure=True, samesite="Strict")
+    return answer
+
+
+@screen.route("/password", methods=("GET", "POST"))
+@needs(SIGNED_IN)
+def password() -> Answer:
+    """Another password."""
+    said = ""
+    if flask.request.method == "POST":
+        form = flask.request.form
+        try:
+            if form.get("new", "") != form.get("again", ""):
+                raise Refused("the new password is not the same in both fields")
+            parts().people.set_password(person(), form.get("present", ""), form.get("new", ""))
+            guard.record("changed the own password")
+            return flask.redirect("/", 303)
+        except Refused as error:
+            said = str(error)
+    return flask.render_template("password.html", said=said), 403 if said else 200

@@ -1,0 +1,47 @@
+"""Serves the application by gunicorn: one process with many threads, since what it knows of the
+register is in its memory, and one request to the register follows another.
+"""
+from typing import Any
+
+import gunicorn.app.base
+from register_files import Refused, say
+
+from . import app
+from .parts import Config
+
+THREADS = 32
+
+
+class Server(gunicorn.app.base.BaseApplication):  # type: ignore[misc]
+    """The server and its settings."""
+
+    def __init__(self, config: Config, listen: str) -> None:
+        self.office, self.listen = config, listen
+        super().__init__()
+
+    def load_config(self) -> None:
+        """Its settings."""
+        if self.listen:
+            self.cfg.set("bind", self.listen)
+        for name, value in (
+            ("workers", 1), ("worker_class", "gthread"),
+            ("threads", THREADS), ("timeout", 0), ("graceful_timeout", 30), ("umask", 0o077),
+            ("proc_name", f"admissions-office {self.office.name}"), ("loglevel", "warning"),
+            ("worker_tmp_dir", str(self.office.folder)), ("control_socket_disable", True),
+        ):
+            if name in self.cfg.settings:
+                self.cfg.set(name, value)
+
+    def load(self) -> Any:
+        """The application, which its process makes."""
+        try:
+            return app.create(self.office)
+        except (Refused, OSError) as error:
+            say(2, f"office: {error}")
+            raise SystemExit(4) from error
+
+
+def run(config: Config, listen: str) -> None:
+    """Serves until a signal; at the socket that systemd hands over where none is named."""
+    config.folder.mkdir(mode=0o700, exist_ok=True)
+    Server(config, listen).run()

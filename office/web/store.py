@@ -1,0 +1,88 @@
+"""What the application keeps beside the register, in one SQLite file: people, sessions, drafts,
+the staging table, draws in progress. Nothing in it is a second truth about the register.
+"""
+import contextlib
+import os
+import sqlite3
+import threading
+from collections.abc import Iterator
+
+from register_files import Refused
+
+# each step takes the file from one version to the next
+STEPS = (
+    """
+    CREATE TABLE setting (name TEXT PRIMARY KEY, value TEXT NOT NULL) STRICT;
+    CREATE TABLE person (
+        name TEXT PRIMARY KEY, kind TEXT NOT NULL, role TEXT NOT NULL, hash TEXT NOT NULL,
+        is_locked INTEGER NOT NULL DEFAULT 0, must_change INTEGER NOT NULL DEFAULT 0,
+        added TEXT NOT NULL, signed_in TEXT) STRICT;
+    CREATE TABLE session (
+        digest TEXT PRIMARY KEY, person TEXT NOT NULL REFERENCES person (name) ON DELETE CASCADE,
+        form TEXT NOT NULL, began REAL NOT NULL, seen REAL NOT NULL,
+        is_outside INTEGER NOT NULL) STRICT;
+    """,
+)
+
+
+class Store:
+    """The file, of which one connection is open. Each block of `writing` is wholly stored or not at
+    all.
+    """
+
+    def __init__(self, path: str) -> None:
+        self.path, self.lock = path, threading.RLock()
+        fd = os.open(path, os.O_RDWR | os.O_CREAT | os.O_CLOEXEC, 0o600)
+        os.close(fd)
+        self.db = sqlite3.connect(path, timeout=10, isolation_level=None, check_same_thread=False)
+        self.db.row_factory = sqlite3.Row
+        for line in ("journal_mode=WAL", "synchronous=FULL", "foreign_keys=ON"):
+            self.db.execute(f"PRAGMA {line}")
+        self.upgrade()
+
+    def upgrade(self) -> None:
+        """Takes a file of an earlier version, or a new one, to this version."""
+        with self.writing() as db:
+            version = db.execute("PRAGMA user_version").fetchone()[0]
+            if version > len(STEPS):
+                raise Refused(f"{self.path} is of a later release than this one")
+            for step in STEPS[version:]:
+                for statement in step.split(";"):
+                    db.execute(statement)
+            db.execute(f"PRAGMA user_version={len(STEPS)}")
+
+    @contextlib.contextmanager
+    def writing(self) -> Iterator[sqlite3.Connection]:
+        """A transaction."""
+        with self.lock:
+            self.db.execute("BEGIN IMMEDIATE")
+            try:
+                yield self.db
+            except BaseException:
+                self.db.execute("ROLLBACK")
+                raise
+            self.db.execute("COMMIT")
+
+    def rows(self, query: str, *values: object) -> list[sqlite3.Row]:
+        """The rows of a query."""
+        with self.lock:
+            return self.db.execute(query, values).fetchall()
+
+    def row(self, query: str, *values: object) -> sqlite3.Row | None:
+        """The first row of a query, if there is one."""
+        return next(iter(self.rows(query, *values)), None)
+
+    def setting(self, name: str, default: str = "") -> str:
+        """A setting."""
+        found = self.row("SELECT value FROM setting WHERE name=?", name)
+        return str(found["value"]) if found else default
+
+    def set(self, name: str, value: str) -> None:
+        """Stores a setting."""
+        with self.writing() as db:
+            db.execute("INSERT OR REPLACE INTO setting VALUES (?, ?)", (name, value))
+
+    def close(self) -> None:
+        """Ends the use of the file."""
+        with self.lock:
+            self.db.close()
