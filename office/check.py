@@ -32,7 +32,7 @@ is; 2 wrong arguments.
 """
 import argparse
 import dataclasses
-from collections.abc import Callable, Iterator, Mapping
+from collections.abc import Callable, Iterable, Iterator, Mapping
 
 from register_files import Refused
 
@@ -49,6 +49,7 @@ MOST_SPANS = 4
 MOST_REFUSED = 50
 # a row is a total where it begins with one of these, and has neither a day nor preferences
 TOTALS = ("total", "totals", "grand total", "subtotal", "sum", "count")
+DOUBTFUL = "read as Windows-1252: are these the right letters?"
 KEEP_ROW = "to change a child, amend it and keep its row"
 # adds a finding: row, column, value, text, kind, what is written instead
 Add = Callable[..., None]
@@ -99,6 +100,8 @@ class Row:
     number: int
     given: dict[str, str]
     fields: dict[str, str]
+    # how messages name it where its number is not enough
+    name: str = ""
 
     @property
     def child(self) -> int:
@@ -119,7 +122,7 @@ class Row:
     @property
     def where(self) -> str:
         """How other rows' messages name it."""
-        return f"row {self.number}"
+        return self.name or f"row {self.number}"
 
 
 @dataclasses.dataclass
@@ -220,6 +223,61 @@ def values_of(row: Row) -> list[str]:
     return [row.fields.get(it, fields.OMITTED.get(it, "")) for it in fields.COLUMNS]
 
 
+def read_field(row: Row, column: str, given: str, context: Context, add: Add,
+               is_broken: bool = False) -> bool:
+    """Reads a field of a row, and adds what is expected or changed; nothing is expected of one that
+    has an error already. Whether it is right as it is.
+    """
+    field = fields.read(column, given, context)
+    row.given[column], row.fields[column] = given, field.text
+    if field.expected:
+        if not is_broken:
+            add(row.number, column, given, field.expected)
+        return False
+    if field.text != given:
+        add(row.number, column, given, "", FIXED, field.text)
+        return False
+    return True
+
+
+def see_repeated(pairs: Iterable[tuple[Row, Row, bool]], add: Add) -> set[int]:
+    """Adds the rows with a number that an earlier row has, and returns those that are equal to it,
+    which are left out.
+    """
+    again = set()
+    for row, first, is_equal in pairs:
+        if is_equal:
+            add(row.number, "child", row.given["child"],
+                f"it is the same as {first.where}: it is left out", FIXED)
+            again.add(row.number)
+        else:
+            columns = [it for it in row.fields if row.fields[it] != first.fields[it]]
+            add(row.number, "child", row.given["child"],
+                f"each child once: {first.where} has the same number with another"
+                f" {texts.listed(columns)}")
+    return again
+
+
+def see_alike(pairs: Iterable[tuple[Row, across.Person]], add: Add) -> None:
+    """Adds the rows that may be of one child with another."""
+    for row, other in pairs:
+        name, number = texts.shown(other.fields["name"]), other.fields["child"]
+        add(row.number, "name", row.given["name"],
+            f"is it the same child as {other.where}, {name}, number {number}?", LOOK)
+
+
+def see_days(rows: Iterable[Row], register: Register | None, add: Add) -> None:
+    """Adds the days that are far from the season, or from the others."""
+    for row, why, is_error in across.odd_days(rows, register):
+        add(row.number, "day", row.given["day"], why, ERROR if is_error else LOOK)
+
+
+def see_homes(rows: Iterable[Row], register: Register, add: Add) -> None:
+    """Adds the homes that are far from every school."""
+    for row, why in across.far_homes(rows, register):
+        add(row.number, "east", row.given["east"], why, LOOK)
+
+
 class Check:
     """The findings of one file."""
 
@@ -227,6 +285,7 @@ class Check:
         self.sheet, self.register, self.width = found, reg, 0
         self.findings: list[Finding] = []
         self.rows: list[Row] = []
+        self.header: sheet.Row | None = None
         self.columns: dict[str, int] = {}
         # the cells that have an error as they are, whatever is in them
         self.broken: set[tuple[int, str | None]] = set()
@@ -240,30 +299,39 @@ class Check:
 
     def run(self) -> None:
         """Reads everything that can be read."""
+        rows = self.rows_below()
+        if rows is not None:
+            self.read_rows(rows)
+        order = {column: at for at, column in enumerate(fields.COLUMNS)}
+        self.findings.sort(
+            key=lambda it: (ORDER.index(it.kind), it.row, order.get(it.column, -1)))
+
+    def rows_below(self) -> list[sheet.Row] | None:
+        """Reads the header and what is above it, and returns the rows below it; or None where there
+        is no header.
+        """
         for text in self.sheet.changes:
             self.add(1, "", "", text, FIXED)
         for number in self.sheet.empty:
             self.add(number, "", "", "the row is empty: it is left out", FIXED)
         at = header.place_of(self.sheet.rows)
         if at is None:
-            row = self.sheet.rows[0].number if self.sheet.rows else 1
-            self.add(row, "", "", "expected a header with the columns"
+            first = self.sheet.rows[0].number if self.sheet.rows else 1
+            self.add(first, "", "", "expected a header with the columns"
                      f" {', '.join(fields.COLUMNS)}")
-        else:
-            self.read_rows(at)
-        order = {column: at for at, column in enumerate(fields.COLUMNS)}
-        self.findings.sort(
-            key=lambda it: (ORDER.index(it.kind), it.row, order.get(it.column, -1)))
-
-    def read_rows(self, at: int) -> None:
-        """Reads the header at a place among the rows, and the rows below it."""
+            return None
         for row in self.sheet.rows[:at]:
             self.add(row.number, "", "", "the row is above the header: it is left out", FIXED)
-        found = header.read(self.sheet.rows[at], self.add)
+        self.header = self.sheet.rows[at]
+        found = header.read(self.header, self.add)
         self.columns, self.width = found.columns, found.width
         self.see_problems(found.row)
-        progress = Progress("rows", len(self.sheet.rows) - at - 1)
-        for count, row in enumerate(self.sheet.rows[at + 1:], 1):
+        return self.sheet.rows[at + 1:]
+
+    def read_rows(self, rows: list[sheet.Row]) -> None:
+        """Reads the rows below the header."""
+        progress = Progress("rows", len(rows))
+        for count, row in enumerate(rows, 1):
             self.read_row(row)
             progress.at(count)
         progress.end()
@@ -282,20 +350,8 @@ class Check:
 
     def read_row(self, row: sheet.Row) -> None:
         """Reads one row."""
-        cells = row.cells
-        if self.sheet.is_workbook:
-            cells = cells + [""] * (self.width - len(cells))
-        if self.is_total(cells):
-            first = next(it for it in cells if it.strip())
-            self.add(row.number, "child", first,
-                     "an application (the row looks like a total: delete it)")
-            return
-        is_blank = not any(it.strip() for it in cells[self.width:])
-        if len(cells) > self.width and is_blank and not self.has_split_name(cells):
-            self.add(row.number, "", "", "empty fields at the end are left out", FIXED)
-            cells = cells[: self.width]
-        if len(cells) != self.width:
-            self.wrong_width(row.number, cells)
+        cells = self.cells_of(row)
+        if cells is None:
             return
         found = Row(row.number, {}, dict.fromkeys(fields.REQUIRED, ""))
         for column in fields.COLUMNS:
@@ -303,18 +359,37 @@ class Check:
                 self.read_field(found, column, cells[self.columns[column]])
         self.rows.append(found)
 
+    def cells_of(self, row: sheet.Row) -> list[str] | None:
+        """The cells of a row, as many as the header has; or None where it has other ones, or is no
+        application, which is added.
+        """
+        cells = row.cells
+        if self.sheet.is_workbook:
+            cells = cells + [""] * (self.width - len(cells))
+        if self.is_total(cells):
+            first = next(it for it in cells if it.strip())
+            self.add(row.number, "child", first,
+                     "an application (the row looks like a total: delete it)")
+            return None
+        is_blank = not any(it.strip() for it in cells[self.width:])
+        if len(cells) > self.width and is_blank and not self.has_split_name(cells):
+            self.add(row.number, "", "", "empty fields at the end are left out", FIXED)
+            cells = cells[: self.width]
+        if len(cells) != self.width:
+            self.wrong_width(row.number, cells)
+            return None
+        return cells
+
     def read_field(self, row: Row, column: str, given: str) -> None:
         """Reads one field of a row."""
-        field = fields.read(column, given, self.context)
-        row.given[column], row.fields[column] = given, field.text
-        if field.expected:
-            if (row.number, column) not in self.broken:
-                self.add(row.number, column, given, field.expected)
-        elif field.text != given:
-            self.add(row.number, column, given, "", FIXED, field.text)
-        elif self.sheet.is_decoded and not given.isascii():
-            self.add(row.number, column, given,
-                     "read as Windows-1252: are these the right letters?", LOOK)
+        is_broken = (row.number, column) in self.broken
+        is_right = read_field(row, column, given, self.context, self.add, is_broken)
+        if is_right and self.is_doubtful(given):
+            self.add(row.number, column, given, DOUBTFUL, LOOK)
+
+    def is_doubtful(self, given: str) -> bool:
+        """Whether the letters of a cell were read by an encoding that was guessed."""
+        return self.sheet.is_decoded and not given.isascii()
 
     def is_total(self, cells: list[str]) -> bool:
         """Whether a row is no application but a total of the others."""
@@ -351,24 +426,10 @@ class Check:
 
     def across(self) -> None:
         """What is wrong across the rows."""
-        again = set()
-        for row, first, is_equal in across.repeated(self.rows):
-            if is_equal:
-                self.add(row.number, "child", row.given["child"],
-                         f"it is the same as row {first.number}: it is left out", FIXED)
-                again.add(row.number)
-            else:
-                columns = [it for it in row.fields if row.fields[it] != first.fields[it]]
-                self.add(row.number, "child", row.given["child"],
-                         f"each child once: row {first.number} has the same number with another"
-                         f" {texts.listed(columns)}")
+        again = see_repeated(across.repeated(self.rows), self.add)
         self.rows = [it for it in self.rows if it.number not in again]
-        for row, other in across.alike(self.rows, self.register):
-            name, number = texts.shown(other.fields["name"]), other.fields["child"]
-            self.add(row.number, "name", row.given["name"],
-                     f"is it the same child as {other.where}, {name}, number {number}?", LOOK)
-        for row, why, is_error in across.odd_days(self.rows, self.register):
-            self.add(row.number, "day", row.given["day"], why, ERROR if is_error else LOOK)
+        see_alike(across.alike(self.rows, self.register), self.add)
+        see_days(self.rows, self.register, self.add)
         most = LIMITS["rows"].most
         if len(self.rows) > most:
             row = self.rows[most]
@@ -377,8 +438,7 @@ class Check:
 
     def against(self, reg: Register) -> None:
         """What is wrong beside the register."""
-        for row, why in across.far_homes(self.rows, reg):
-            self.add(row.number, "east", row.given["east"], why, LOOK)
+        see_homes(self.rows, reg, self.add)
         self.known = Known(reg, list(self.readable(reg)))
         self.known.find(self.add)
         new = sum(it.child not in reg.children for it in self.rows)

@@ -18,6 +18,8 @@ OMITTED = {it: "no" if rules.COLUMNS[it].kind == "truth" else "" for it in COLUM
 MOST_DIGITS = 40
 INVISIBLE = "\u200b\u2060\ufeff"
 TRUTH = {"yes": "yes", "y": "yes", "true": "yes", "no": "no", "n": "no", "false": "no"}
+# how admissions-check is given one reading for all days
+UK_DAYS = "if all days of the file are day/month/year, say --uk-days"
 # what may stand between the items of a list: none of them can be part of a code or a number
 BETWEEN = re.compile(r"[;,/|\r\n]")
 
@@ -214,8 +216,7 @@ def day(text: str, context: Context) -> Field:
     form = f"a day as 2024-10-20, from {days.FIRST} to {days.LAST}"
     if readings:
         asked = " or ".join(days.in_words(it) for it in readings)
-        hint = "if all days of the file are day/month/year, say --uk-days"
-        return Field("", f"{form} (is it {asked}? {hint})")
+        return Field("", f"{form} (is it {asked}? {UK_DAYS})")
     if re.fullmatch(r"[0-9]{5}", found):
         hint = "it is a spreadsheet's number of a day: format the column as YYYY-MM-DD"
         return Field("", f"{form} ({hint})")

@@ -58,11 +58,16 @@ def decoded(name: str, data: bytes) -> str:
 
 
 def pairs_of(name: str, school: str | None) -> list[Pair]:
-    """The pairs in their order. A list in another order is refused: the lots of a line carry no
-    names, so they would go to other children.
+    """The pairs of a file in their order."""
+    return pairs_in(name, decoded(name, bytes_of(name)), school)
+
+
+def pairs_in(name: str, text: str, school: str | None) -> list[Pair]:
+    """The pairs of a text in their order. A list in another order is refused: the lots of a line
+    carry no names, so they would go to other children.
     """
     found: list[Pair] = []
-    for at, line in enumerate(decoded(name, bytes_of(name)).splitlines(), 1):
+    for at, line in enumerate(text.splitlines(), 1):
         where = f"line {at} of {named(name)}"
         code, _, digits = line.partition(" ")
         number = rules.number_in(digits, LIMITS["child"])
@@ -119,15 +124,22 @@ def csv_rows(name: str, text: str) -> list[Numbered]:
 
 
 def split_by(line: str, mark: str) -> list[str]:
-    """The cells of a line with a separator."""
-    return next(csv.reader([line], delimiter=mark), [])
+    """The cells of a line with a separator; none where they would be too long for a CSV."""
+    try:
+        return next(csv.reader([line], delimiter=mark), [])
+    except csv.Error:
+        return []
 
 
 def rows_of(name: str) -> list[Numbered]:
+    """The rows of a sheet that is a file."""
+    return rows_in(name, bytes_of(name))
+
+
+def rows_in(name: str, data: bytes) -> list[Numbered]:
     """The rows of a sheet, each with its number, as code, number and lot, without a header. Empty
     rows are omitted.
     """
-    data = bytes_of(name)
     if data.startswith(b"PK\x03\x04") and name != "-":
         found = sheet.of_bytes(name, data, None, "leave the one of the lots")
         rows = [(it.number, it.cells) for it in found.rows]

@@ -8,6 +8,10 @@ from .fields import COLUMNS
 from .model import Application, Child
 
 
+# the kinds of fields that are numbers
+NUMBERS = ("child", "flag", "number")
+
+
 def command_of(name: str, child: Child) -> dict[str, Any]:
     """The command of this name with the data of a child: one that adds or amends it."""
     return {"cmd": name, **{it: child.data[it] for it in rules.COMMANDS[name]}}
@@ -21,6 +25,16 @@ def cells_of(child: Child, application: Application | None) -> dict[str, str]:
     if application:
         values |= {"day": application.day.isoformat(), "preferences": application.preferences}
     return {it: cell_of(values[it]) for it in COLUMNS if it in values}
+
+
+def value_of(kind: str, text: str) -> Any:
+    """The value of a field of this kind, of a cell that was read: what cell_of makes a cell of."""
+    if kind.startswith(rules.LIST):
+        item = kind.removeprefix(rules.LIST)
+        return [value_of(item, it) for it in text.split(";") if it]
+    if kind == "truth":
+        return text == "yes"
+    return int(text) if kind in NUMBERS else text
 
 
 def cell_of(value: Any) -> str:

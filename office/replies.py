@@ -1,4 +1,5 @@
 """A sheet of families' answers, or a worklist, as a file of commands: a line for each row."""
+import dataclasses
 import json
 import os
 from collections.abc import Sequence
@@ -100,6 +101,26 @@ def see_replies(
         raise Refused(f"nothing was sent: {name} seems to be another file: {have} {form}")
 
 
+@dataclasses.dataclass(frozen=True)
+class Reply:
+    """A row of a sheet: its command, or what is wrong with it; and the name that it has."""
+
+    row: Row
+    command: Command
+    wrong: list[str]
+    name: str
+
+
+def read(name: str, rows: Sequence[Row], kind: str | None, day: str) -> list[Reply]:
+    """The replies of a sheet's rows, or a refusal where it is another sheet."""
+    columns, has_header = columns_of(rows[0].cells, kind)
+    below = list(rows[1:] if has_header else rows)
+    see_replies(name, rows[0], below, columns, kind)
+    at = name_column(rows[0].cells, kind, has_header)
+    return [Reply(row, *command_of(row, columns, kind, day), cell(row, at).strip())
+            for row in below]
+
+
 def commands_of(name: str, kind: str | None, day: str) -> tuple[bytes, list[str] | None]:
     """The commands of a sheet, as bytes, and the name that each row has, or None. All rows that
     cannot be read are reported at once.
@@ -107,19 +128,15 @@ def commands_of(name: str, kind: str | None, day: str) -> tuple[bytes, list[str]
     rows = sheet.read(name).rows
     if not rows:
         raise Refused(f"nothing was sent: {name} has no row, and so no child")
-    columns, has_header = columns_of(rows[0].cells, kind)
-    below = rows[1:] if has_header else rows
-    see_replies(name, rows[0], below, columns, kind)
-    found = [command_of(row, columns, kind, day) for row in below]
-    wrong = [it for _, them in found for it in them]
+    found = read(name, rows, kind, day)
+    wrong = [said for it in found for said in it.wrong]
     for said in wrong:
         print(said)
     if wrong:
         count = texts.count(len(wrong), "error")
         raise Refused(f"nothing was sent: correct {count} in {name} first")
-    at = name_column(rows[0].cells, kind, has_header)
-    names = [cell(row, at).strip() for row in below]
-    return b"".join(line_of(it) for it, _ in found), names if any(names) else None
+    names = [it.name for it in found]
+    return b"".join(line_of(it.command) for it in found), names if any(names) else None
 
 
 def name_column(header: Sequence[str], kind: str | None, has_header: bool) -> int | None:

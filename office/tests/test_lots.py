@@ -410,3 +410,12 @@ def test_wrong_arguments(office: Office, town: Town) -> None:
     assert ran.returncode == 1 and "the folder of no/x.csv is not there" in ran.stderr
     ran = office("lots", "-", "--sheet", "x.csv", "--register", "reg.db", stdin="A 999\n")
     assert ran.returncode == 1 and "the pair A 999 is not of reg.db" in ran.stderr
+
+
+def test_a_sheet_with_a_long_first_line(office: Office, town: Town, tmp_path: Path) -> None:
+    """Which no CSV with another separator could have as one cell: it has too many columns."""
+    (tmp_path / "wide.csv").write_text("x," * 100_000)
+    ran = office("lots", "fill.pairs", "wide.csv", "--number", 2, "--school", "A", *DAY)
+    assert (ran.returncode, ran.stdout) == (1, "")
+    assert ran.stderr == ("admissions-lots: wide.csv has too many columns in row 1: a sheet has at"
+                          " most 250 here\n")
