@@ -64,7 +64,8 @@ class Browser:
     def get(self, path: str) -> Answer:
         """A page."""
         found = self.client.get(path, base_url=ORIGIN, headers={"Accept": "text/html"})
-        self.secret = Form(found.text).secret or self.secret
+        if found.mimetype == "text/html":
+            self.secret = Form(found.text).secret or self.secret
         return found
 
     def post(self, path: str, given: dict[str, Any] | None = None, **more: Any) -> Answer:

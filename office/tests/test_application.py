@@ -266,6 +266,19 @@ def test_a_history_that_was_changed_is_refused(tmp_path: pathlib.Path) -> None:
     assert [it.who for it in history.read(str(path))] == ["jane"] * 5 + ["bo"]
 
 
+def test_an_entry_is_as_it_is_read_again(tmp_path: pathlib.Path) -> None:
+    """Whatever it is about: keys that are numbers, in another order than their texts; and pairs.
+    """
+    path = tmp_path / "history.jsonl"
+    found = history.History(str(path))
+    entry = found.add("jane", "named flags", {"words": {2: "two", 10: "ten"}, "pair": (1, "é")})
+    assert entry.about == {"words": {"2": "two", "10": "ten"}, "pair": [1, "é"]}
+    found.close()
+    again = history.History(str(path))
+    assert again.entries == [entry]
+    again.close()
+
+
 def test_a_request_without_an_answer_is_looked_up(tmp_path: pathlib.Path) -> None:
     """An application that ended between the record and the answer finds out, and sends nothing
     again.

@@ -204,14 +204,23 @@ def commands_done(answer: Any) -> bool:
 
 @pytest.mark.parametrize("who", ["office", "desk"])
 def test_killed_at_any_moment(room: Room, who: str) -> None:
-    """Fifty times, at moments that a generator with a fixed seed chooses."""
+    """Fifty times: after so many commands have reached the register, and a little later, as a
+    generator with a fixed seed chooses.
+    """
     chosen = random.Random(f"{who} 1")
     done: list[dict[str, Any]] = []
+    least = 0
     for at in range(MOMENTS):
         stop = threading.Event()
         thread = threading.Thread(target=load, args=(room, done, stop, 100 + 1000 * at))
+        before, count = len(room.way.arrived), chosen.randrange(4)
         thread.start()
-        time.sleep(chosen.uniform(0.0, 0.3))
+        while len(room.way.arrived) < before + count:
+            assert thread.is_alive()
+            time.sleep(0.002)
+        time.sleep(chosen.uniform(0.0, 0.03))
+        # (of those that have arrived, the last one may have no answer yet)
+        least += max(0, count - 1)
         run: subprocess.Popen[bytes] = getattr(room, who)
         # (the application is two processes, in a group of their own)
         os.killpg(run.pid, signal.SIGKILL)
@@ -221,4 +230,4 @@ def test_killed_at_any_moment(room: Room, who: str) -> None:
         thread.join(90)
         assert not thread.is_alive()
     see(room, done)
-    assert len(done) > MOMENTS / 2, len(done)
+    assert len(done) >= least

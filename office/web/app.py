@@ -9,19 +9,34 @@ import werkzeug.routing
 
 from office import texts
 
-from . import authority, guard
+from . import authority, flags, guard
 from .guard import PUBLIC, needs
 from .parts import Config, Parts
-from .screens import activity, people, register, season, signing
+from .screens import (
+    activity, answers, applications, applications_add, applications_commit, child, draws, lists,
+    lots, new_schools, people, register, schools, season, signing,
+)
+from .screens import flags as flag_screen
 
 HERE = pathlib.Path(__file__).resolve().parent
-SCREENS = (signing, season, people, activity, register)
+SCREENS = (
+    signing, season, new_schools, schools, flag_screen, applications, applications_add,
+    applications_commit, child, answers, draws, lots, lists, people, activity, register,
+)
 # the largest body: a workbook, or a file of commands
 MOST_BYTES = 16 << 20
 # what the menu has, in its order: the view, its title, and the right
 MENU = (
     ("season.show", "Season", "read"),
-    ("register.page", "Children and schools", "read"),
+    ("schools.show", "Schools", "read"),
+    ("applications.show", "Applications", "read"),
+    ("child.find", "Children", "read"),
+    ("answers.show", "Answers", "record"),
+    ("draws.show", "Draws", "read"),
+    ("lots.show", "Lots", "lots"),
+    ("lists.show", "Lists", "read"),
+    ("flags.show", "Flags", "read"),
+    ("register.page", "The page", "read"),
     ("people.show", "People", "people"),
     ("activity.show", "Activity", "read"),
 )
@@ -46,6 +61,7 @@ def create(config: Config) -> flask.Flask:
     app.context_processor(shared)
     app.jinja_env.filters["day"] = day
     app.jinja_env.filters["moment"] = moment
+    app.jinja_env.filters["flag_words"] = flags.flag_words
     app.jinja_env.globals["count"] = texts.count
 
     @needs(PUBLIC)

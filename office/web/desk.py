@@ -2,6 +2,7 @@
 register says now, and on record before it is sent.
 """
 import dataclasses
+import datetime
 import json
 import threading
 import time
@@ -10,7 +11,7 @@ from typing import Any
 
 from register_files import Refused
 
-from office import commands, model, senders
+from office import commands, days, model, senders
 from office.model import Register
 
 from . import effects
@@ -22,6 +23,8 @@ Command = dict[str, Any]
 FRESH_SECONDS = 2.0
 # a request that had no answer is looked for once more after this
 AGAIN_SECONDS = 1.0
+# these are held on a screen of their own, with a second person
+DRAWS = ("round", "fill")
 DONE, REFUSED, DIFFERS, UNSENT, LOST = "done", "refused", "differs", "unsent", "not done"
 
 
@@ -89,6 +92,29 @@ RESTS_ON: dict[str, Callable[[Register, Command], Any]] = {
 }
 
 
+# what somebody recorded, in a sentence; accept and decline are as they are
+NAMES = {
+    "add_child": "the child", "amend": "a correction", "apply": "an application",
+    "remind": "a reminder", "lapse": "a withdrawal of the offer",
+    "leave_list": "a departure from a list", "name_plan": "a plan", "round": "a round",
+    "fill": "a fill",
+}
+
+
+def is_about(register: Register, entry: Entry, number: int) -> bool:
+    """Whether a request that was done is about a child, or a draw that offered it a place."""
+    command = entry.about.get("command", {})
+    return command.get("child") == number or (
+        "draw" in command and register.fresh.get(command["draw"], {}).get(number, False))
+
+
+def local(at: str) -> str:
+    """A moment of the history by the clock of this machine, with its day if that is not today."""
+    found, now = datetime.datetime.fromisoformat(at).astimezone(), datetime.datetime.now()
+    day = "" if found.date() == now.date() else f" on {days.in_words(found.date())}"
+    return f"{found:%H:%M}{day}"
+
+
 class Desk:
     """The register of one application."""
 
@@ -113,11 +139,23 @@ class Desk:
             if self.copy and self.copy[0] >= since:
                 return self.copy[1:]
             moment = self.clock()
-            document = self.sender.read("/register")
+            document = self.document()
             register = model.of_document(
                 model.Server(self.sender), model.parsed(self.sender.url, document))
             self.copy = moment, register, document
             return register, document
+
+    def document(self) -> bytes:
+        """The document of the register."""
+        try:
+            status, document = self.sender.ask("GET", "/register")
+        except senders.Ended as error:
+            raise Refused(f"the register does not answer now: {error}") from error
+        if status != 200:
+            said = commands.read(document)
+            reason, _ = senders.refusal(status, said if isinstance(said, dict) else {})
+            raise Refused(f"the register cannot be read now: {reason}")
+        return document
 
     def register(self) -> Register:
         """The register as it is, or as it was some seconds ago if nothing was sent since."""
@@ -131,6 +169,9 @@ class Desk:
         self, who: Person, command: Command, seen: Seen | None = None, draw: bool = False
     ) -> Result:
         """Sends a command if what it rests on is as it was seen."""
+        if command["cmd"] in DRAWS and not draw:
+            return Result(UNSENT, "Nothing was sent: a round or a fill is held on the screen of"
+                                  " draws, where a second person confirms it.")
         with self.lock:
             if reason := self.reason(draw):
                 return Result(UNSENT, reason)
@@ -160,20 +201,24 @@ class Desk:
     def difference(self, command: Command, seen: Seen) -> str:
         """What has changed since a command was decided, or ""."""
         try:
-            register = self.register()
+            said = self.changed(self.register(), command, seen)
         except Refused as error:
             return f"Nothing was sent. {error}"
+        return f"{said} Nothing was sent." if said else ""
+
+    def changed(self, register: Register, command: Command, seen: Seen) -> str:
+        """What a register has otherwise than it was seen, with who recorded it last, or ""."""
         if seen_of(register, command) == seen:
             return ""
         if "child" not in command:
-            return "It has changed meanwhile. Nothing was sent."
+            return "It has changed meanwhile."
         number = command["child"]
-        for it in self.history.of_child(number):
-            if it.what == SENDS:
-                moment, done = it.at[11:16], it.about["command"]["cmd"]
-                return (f"Child {number}: {it.who} recorded {done} at {moment} (UTC)."
-                        " Nothing was sent.")
-        return f"Child {number} has changed meanwhile. Nothing was sent."
+        done = self.history.done()
+        last = next((it for it in done if is_about(register, it, number)), None)
+        if last is None:
+            return f"Child {number} has changed meanwhile."
+        name = last.about["command"]["cmd"]
+        return f"Child {number}: {last.who} recorded {NAMES.get(name, name)} at {local(last.at)}."
 
     def exchange(self, who: Person, about: dict[str, Any], send: Callable[[], bytes]) -> Result:
         """Sends a request that is on record before, and records the answer."""

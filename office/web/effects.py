@@ -6,7 +6,7 @@ from typing import Any
 
 from office import persons, rules
 from office.fields import trimmed
-from office.model import ACCEPTED, PLAN, WAITS, Place, Register
+from office.model import ACCEPTED, PLAN, WAITS, Place, Register, School
 
 Command = dict[str, Any]
 
@@ -67,6 +67,18 @@ def has_kind(kind: str) -> Callable[[Register, Command], bool]:
     return found
 
 
+def has_school(register: Register, command: Command) -> bool:
+    """Whether a school has the data of a command that adds it."""
+    school = register.schools.get(command["school"])
+    return school is not None and command_of(school) == command
+
+
+def command_of(school: School) -> Command:
+    """The command that adds a school with the data that it has."""
+    return {"cmd": "add_school", "school": school.code, "name": school.name, "pan": school.pan,
+            "east": school.east, "north": school.north, "criteria": list(school.criteria)}
+
+
 def has_pan(register: Register, command: Command) -> bool:
     """Whether a school has at least this admission number, which can only rise."""
     school = register.schools.get(command["school"])
@@ -74,9 +86,15 @@ def has_pan(register: Register, command: Command) -> bool:
 
 
 def is_held(register: Register, command: Command) -> bool:
-    """Whether a draw of this number was held, with these lots."""
-    lots = register.lots(command["draw"])
-    return bool(lots) and [lots[it] for it in sorted(lots)] == command["lots"]
+    """Whether a draw of this number was held, for this school or all, on this day, and with these
+    lots.
+    """
+    held = next((it for it in register.draws if it.number == command["draw"]), None)
+    if held is None or (held.school, held.day.isoformat()) != (
+            command.get("school"), command["day"]):
+        return False
+    lots = register.lots(held.number)
+    return bool([lots[it] for it in sorted(lots)] == command["lots"])
 
 
 def is_imported(register: Register, rows: str) -> bool:
@@ -90,7 +108,7 @@ def is_imported(register: Register, rows: str) -> bool:
 
 
 DONE: dict[str, Callable[[Register, Command], bool]] = {
-    "add_school": lambda register, it: it["school"] in register.schools,
+    "add_school": has_school,
     "raise_pan": has_pan,
     "add_child": has_data,
     "amend": has_data,

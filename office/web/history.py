@@ -10,10 +10,12 @@ import hashlib
 import json
 import os
 import threading
-from collections.abc import Callable
+from collections.abc import Callable, Iterator
 from typing import Any
 
 from register_files import OWNER_ALONE, Refused
+
+from office import commands
 
 FIRST = "0" * 64
 # what an entry is about: a request to the register, what came of it, or what a person did
@@ -135,7 +137,9 @@ class History:
             if self.is_broken:
                 raise Refused(f"{self.path} could not be written, and nothing is sent until the"
                               " application is started again")
-            entry = Entry(len(self.entries) + 1, self.moment(), who, what, about)
+            # (as it is read again: a key that is a number would be another one then)
+            kept = json.loads(json.dumps(about))
+            entry = Entry(len(self.entries) + 1, self.moment(), who, what, kept)
             line = entry.line(self.before)
             try:
                 self.write(line)
@@ -178,6 +182,15 @@ class History:
         """The requests to the register of which no answer is known yet."""
         with self.lock:
             return list(self.open.values())
+
+    def done(self) -> Iterator[Entry]:
+        """The requests to the register that are known to be done, the last first."""
+        with self.lock:
+            found = list(self.entries)
+        known = {it.about["of"] for it in found
+                 if it.what == ANSWER and commands.is_done(it.about["answer"])
+                 or it.what == SETTLED and it.about["done"]}
+        return (it for it in reversed(found) if it.number in known)
 
     def of_child(self, number: int) -> list[Entry]:
         """The entries about a child, the last first."""

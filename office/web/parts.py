@@ -4,7 +4,10 @@ import pathlib
 
 from office import senders
 
+from .copies import Copies
 from .desk import Desk
+from .draws import Draws
+from .draws_drafts import Drafts
 from .history import History
 from .people import People
 from .store import Store
@@ -38,6 +41,10 @@ class Parts:
         is_socket = config.door.startswith("/")
         sender = senders.Door(config.door) if is_socket else senders.Http(config.door)
         self.desk = Desk(sender, self.history)
+        self.copies = Copies(config.folder / "requests", config.copies, self.store, self.desk)
+        self.draws = Draws(self.store, self.history, self.desk, self.copies)
+        self.lots = Drafts(self.draws)
+        self.desk.closed = self.draws.closed
 
     def close(self) -> None:
         """Ends the use of its files."""

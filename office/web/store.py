@@ -22,6 +22,49 @@ STEPS = (
         form TEXT NOT NULL, began REAL NOT NULL, seen REAL NOT NULL,
         is_outside INTEGER NOT NULL) STRICT;
     """,
+    """
+    CREATE TABLE copy (
+        number INTEGER PRIMARY KEY, purpose TEXT NOT NULL, asked TEXT NOT NULL, name TEXT,
+        size INTEGER, failed TEXT) STRICT;
+    CREATE TABLE draw (
+        id INTEGER PRIMARY KEY AUTOINCREMENT, first INTEGER NOT NULL, school TEXT,
+        fills INTEGER NOT NULL, day TEXT NOT NULL, state TEXT NOT NULL, version INTEGER NOT NULL,
+        copy_before INTEGER REFERENCES copy (number),
+        copy_after INTEGER REFERENCES copy (number), digest TEXT, rehearsal TEXT, audit TEXT,
+        restore_by TEXT) STRICT;
+    CREATE TABLE draw_step (
+        draw INTEGER NOT NULL REFERENCES draw (id), version INTEGER NOT NULL, at TEXT NOT NULL,
+        who TEXT NOT NULL, state TEXT NOT NULL, said TEXT NOT NULL,
+        PRIMARY KEY (draw, version)) STRICT;
+    CREATE TABLE lot (
+        draw INTEGER NOT NULL REFERENCES draw (id), school TEXT NOT NULL, child INTEGER NOT NULL,
+        fill INTEGER NOT NULL, text TEXT NOT NULL, seed TEXT, tie INTEGER NOT NULL,
+        PRIMARY KEY (draw, school, child, fill)) STRICT;
+    """,
+    # the staging table: its files, and their rows with cells, other columns and notes as JSON
+    """
+    CREATE TABLE staged_file (
+        id INTEGER PRIMARY KEY, name TEXT NOT NULL UNIQUE, digest TEXT NOT NULL,
+        is_form INTEGER NOT NULL, is_uk INTEGER NOT NULL, changes TEXT NOT NULL,
+        who TEXT NOT NULL, added TEXT NOT NULL) STRICT;
+    CREATE TABLE staged_row (
+        id INTEGER PRIMARY KEY, file INTEGER NOT NULL REFERENCES staged_file (id),
+        number INTEGER NOT NULL, cells TEXT NOT NULL, others TEXT NOT NULL, notes TEXT NOT NULL,
+        state TEXT NOT NULL, version INTEGER NOT NULL DEFAULT 1, who TEXT NOT NULL,
+        added TEXT NOT NULL, changed_by TEXT NOT NULL, changed TEXT NOT NULL,
+        sent TEXT NOT NULL DEFAULT '', entry INTEGER, UNIQUE (file, number)) STRICT;
+    CREATE INDEX staged_row_state ON staged_row (state);
+    """,
+    """
+    CREATE TABLE school_draft (
+        number INTEGER PRIMARY KEY AUTOINCREMENT, cells TEXT NOT NULL) STRICT;
+    CREATE TABLE answer (
+        number INTEGER PRIMARY KEY AUTOINCREMENT,
+        person TEXT NOT NULL REFERENCES person (name) ON DELETE CASCADE,
+        typed TEXT NOT NULL, kind TEXT NOT NULL, child INTEGER, school TEXT NOT NULL,
+        name TEXT NOT NULL, seen TEXT NOT NULL, state TEXT NOT NULL, said TEXT NOT NULL,
+        after INTEGER NOT NULL) STRICT;
+    """,
 )
 
 

@@ -1,4 +1,6 @@
 """All that was done: by person, by child, by day."""
+from typing import Any
+
 import flask
 
 from ..guard import needs, parts
@@ -34,11 +36,18 @@ def show() -> str:
 def in_words(it: Entry) -> str:
     """What an entry says."""
     if it.what != SENDS:
-        return " ".join([it.what, *(f"{name} {value}" for name, value in it.about.items())])
+        return f"{it.what} {text_of(it.about)}"
     if "import" in it.about:
         return "import of applications"
     named = {name: value for name, value in it.about["command"].items() if name != "lots"}
-    return " ".join([named.pop("cmd"), *(f"{name} {value}" for name, value in named.items())])
+    return f"{named.pop('cmd')} {text_of(named)}"
+
+
+def text_of(value: Any) -> str:
+    """A value of an entry, with what is in it."""
+    if isinstance(value, dict):
+        return " ".join(f"{name} {text_of(it)}" for name, it in value.items())
+    return ", ".join(map(text_of, value)) if isinstance(value, list) else str(value)
 
 
 def outcome(came: Entry | None) -> str:

@@ -1,55 +1,23 @@
 """The first screen: what is done, what is next and by when."""
-import dataclasses
 import datetime
+from typing import Any
 
 import flask
 from register_files import Refused
 from werkzeug.wrappers import Response
 
-from office import model, texts
-from office.model import Register
-
+from .. import steps
 from ..guard import SIGNED_IN, needs, parts, person
 from ..people import READ
+from ..steps import Step
+from ..wording import sentence, weekday
 
 screen = flask.Blueprint("season", __name__)
 
 
-@dataclasses.dataclass(frozen=True)
-class Step:
-    """A step of the season, and what is to be said of it."""
-
-    title: str
-    is_done: bool
-    said: str
-
-
-def steps(register: Register) -> list[Step]:
-    """The steps of the season, in order."""
-    closing, offer_day, last = register.days
-    children, schools = len(register.children), len(register.schools)
-    rounds = register.rounds
-    applied = texts.count(len(register.applications), "application")
-    waiting = sum(it.kind == model.OFFERED for it in register.places.values())
-    vacant = sum(it.vacancies for it in register.schools.values())
-    held = f"held for {in_words(rounds[0].day)}" if rounds else (
-        f"for the offer day, {in_words(offer_day)}")
-    return [
-        Step("Schools", schools > 0, texts.count(schools, "school")),
-        Step("Applications", children > 0,
-             f"{texts.count(children, 'child', 'children')}, {applied}; the closing day is"
-             f" {in_words(closing)}"),
-        Step("Round 1", bool(rounds), held),
-        Step("Answers to offers", bool(rounds) and not waiting,
-             f"{texts.count(waiting, 'offer')} without an answer" if rounds else "after round 1"),
-        Step("Waiting lists", False,
-             f"{texts.count(vacant, 'place')} vacant; the lists end on {in_words(last)}"),
-    ]
-
-
-def in_words(day: datetime.date) -> str:
-    """A day in words."""
-    return f"{day.day} {day:%B %Y}"
+def today() -> datetime.date:
+    """The day of today."""
+    return datetime.date.today()
 
 
 def home() -> str:
@@ -62,6 +30,18 @@ def home() -> str:
     return flask.url_for("lots.show" if found.may("lots") else "people.show")
 
 
+def links(step: Step) -> list[tuple[str, str]]:
+    """The addresses of a step's screens, of those that this application has and this person may
+    see, each with its words.
+    """
+    found: dict[str, str] = {}
+    for view, words, values in step.links:
+        right = getattr(flask.current_app.view_functions.get(view), "right", None)
+        if right is not None and person().may(right) and words not in found:
+            found[words] = flask.url_for(view, **dict[str, Any](values))
+    return [(address, words) for words, address in found.items()]
+
+
 @screen.get("/")
 @needs(SIGNED_IN)
 def show() -> str | Response:
@@ -72,8 +52,11 @@ def show() -> str | Response:
     try:
         found = parts().desk.now()
     except Refused as error:
-        reason = str(error)
-    signed_in = parts().people.signed_in()
+        reason = sentence(str(error))
+    day = today()
+    made = steps.steps(found, day) if found else []
     return flask.render_template(
-        "season.html", register=found, reason=reason, steps=steps(found) if found else [],
-        signed_in=signed_in, closed=parts().desk.closed())
+        "season.html", register=found, reason=reason, day=weekday(day),
+        rows=[(it, links(it), steps.when(it.by, day) if it.by else "") for it in made],
+        next=steps.next_of(made), counts=steps.counts(found) if found else [],
+        signed_in=parts().people.signed_in(), closed=parts().desk.closed())

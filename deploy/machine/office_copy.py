@@ -1,0 +1,64 @@
+"""Makes a copy of a register for the office's application, as it has asked.
+
+  office-copy NAME
+
+The request is the number in the file `requests/copy` in the application's
+folder. The desk of the register NAME is stopped, the register is copied by
+admissions-backup, and the desk is started, whatever came of it. The copy
+office-NUMBER-TIME.db is in the folder of the copies of NAME, and the
+application's group reads it. The answer is in `requests/copy.done`: the name
+of the copy, or an error. A request that is no number is refused there, and
+the desk is not stopped.
+
+example:
+  office-copy secondary-2025
+
+exit status: 0 copied; 1 not, and the line says why; 2 wrong arguments.
+"""
+import argparse
+import datetime
+import os
+import pathlib
+
+from register_files import Refused
+
+from . import copies, files, office_requests
+from .office_requests import Result, Wrong
+from .programs import USER, call, program
+from .registers import Register, known
+
+GROUP = "admissions-office"
+READ_BY_GROUP = 0o640
+
+
+def arguments(reader: argparse.ArgumentParser) -> None:
+    reader.add_argument("name", metavar="NAME", help="the name of the register")
+
+
+def main(given: argparse.Namespace) -> int:
+    register = known(given.name)
+    return office_requests.handled(register, "copy", lambda number: copied(register, number))
+
+
+def copied(register: Register, number: int) -> Result:
+    """Copies a register, and returns the name of the copy."""
+    time = datetime.datetime.now().strftime(copies.TIME)
+    path = register.copies / f"office-{number:06}-{time}.db"
+    try:
+        with office_requests.stopped(register):
+            call(program("admissions-backup"), register.file, path, as_user=USER)
+        give(path)
+    except (Refused, OSError) as error:
+        raise Wrong("NotCopied", f"the register was not copied: {error}") from error
+    return {"copy": path.name}
+
+
+def give(path: pathlib.Path) -> None:
+    """Lets the application's group read a copy."""
+    _, group = files.numbers(USER, GROUP)
+    fd = os.open(path, os.O_RDONLY | office_requests.AS_IT_IS)
+    try:
+        os.fchown(fd, -1, group)
+        os.fchmod(fd, READ_BY_GROUP)
+    finally:
+        os.close(fd)

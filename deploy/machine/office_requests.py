@@ -1,0 +1,140 @@
+"""What the office's application asks of the machine: by a file that holds a number and nothing
+else, in a folder of the application. The answer is a file beside it, one object of JSON with the
+number, and the result or an error.
+
+The folder is another user's, so nothing in it is trusted: no link is followed, and of a request
+digits alone are taken. A request is removed once it is answered: where the machine stops before
+that, it is done again.
+"""
+import contextlib
+import json
+import os
+import pathlib
+import re
+import stat
+import sys
+from collections.abc import Callable, Iterator
+
+from register_files import Refused
+
+from .programs import call, tool
+from .registers import Register
+
+STATE, FOLDER = pathlib.Path("/var/lib/admissions-office"), "requests"
+NUMBER = re.compile(rb"([1-9][0-9]{0,8})\n?")
+# how a file of somebody else is opened: waiting for nobody, and through no link
+AS_IT_IS = os.O_NOFOLLOW | os.O_NONBLOCK | os.O_CLOEXEC
+Result = dict[str, str]
+
+
+class Wrong(Refused):
+    """An error that the answer names."""
+
+    def __init__(self, name: str, text: str) -> None:
+        super().__init__(text)
+        self.name = name
+
+
+@contextlib.contextmanager
+def opened(register: Register) -> Iterator[int]:
+    """A descriptor of the folder of requests."""
+    path = STATE / register.name / FOLDER
+    try:
+        folder = os.open(path, os.O_RDONLY | os.O_DIRECTORY | AS_IT_IS)
+    except OSError as error:
+        raise Refused(f"{path} cannot be opened: {error.strerror}") from error
+    try:
+        yield folder
+    finally:
+        os.close(folder)
+
+
+def number_of(folder: int, name: str) -> int:
+    """The number of a request."""
+    try:
+        fd = os.open(name, os.O_RDONLY | AS_IT_IS, dir_fd=folder)
+    except FileNotFoundError as error:
+        raise Refused(f"there is no request {name}") from error
+    except OSError as error:
+        raise Wrong("NoFile", f"the request {name} is no file: {error.strerror}") from error
+    try:
+        if not stat.S_ISREG(os.fstat(fd).st_mode):
+            raise Wrong("NoFile", f"the request {name} is no file")
+        found = NUMBER.fullmatch(os.read(fd, 64))
+    finally:
+        os.close(fd)
+    if not found:
+        raise Wrong("NoNumber", f"the request {name} is no number")
+    return int(found[1])
+
+
+def put(folder: int, name: str, text: str) -> None:
+    """Writes a file into the folder, in one step."""
+    new = f".{name}"
+    with contextlib.suppress(FileNotFoundError):
+        os.unlink(new, dir_fd=folder)
+    fd = os.open(new, os.O_WRONLY | os.O_CREAT | os.O_EXCL | AS_IT_IS, 0o644, dir_fd=folder)
+    with open(fd, "w", encoding="utf-8") as file:
+        # (whoever asked reads it, and the umask of a command is that of its owner alone)
+        os.fchmod(fd, 0o644)
+        file.write(text)
+        file.flush()
+        os.fsync(fd)
+    os.rename(new, name, src_dir_fd=folder, dst_dir_fd=folder)
+    os.fsync(folder)
+
+
+def handled(register: Register, name: str, work: Callable[[int], Result]) -> int:
+    """Does what was asked, and answers. Returns the exit status."""
+    with opened(register) as folder:
+        number, said = 0, {}
+        try:
+            number = number_of(folder, name)
+            said = work(number)
+        except Wrong as error:
+            said = {"error": error.name, "why": str(error)}
+        answer = json.dumps({"number": number, **said}, sort_keys=True)
+        put(folder, f"{name}.done", f"{answer}\n")
+        forget(folder, name, number)
+        print(answer, file=sys.stderr if "error" in said else sys.stdout)
+        return 1 if "error" in said else 0
+
+
+def forget(folder: int, name: str, number: int) -> None:
+    """Removes a request that is answered. Another that was made meanwhile is still to be done."""
+    try:
+        if number_of(folder, name) != number:
+            return
+    except Wrong:
+        pass
+    except Refused:
+        return
+    os.unlink(name, dir_fd=folder)
+
+
+def unit_of(register: Register) -> str:
+    """The unit that serves a register."""
+    return f"admissions@{register.name}.service"
+
+
+def stop(register: Register) -> None:
+    """Stops the desk of a register, so that its file alone is the register."""
+    call(tool("systemctl", "systemd"), "stop", unit_of(register))
+
+
+def start(register: Register) -> None:
+    """Starts it. One that is masked, since it is closed for longer, stays closed."""
+    done = call(tool("systemctl", "systemd"), "start", unit_of(register), may_fail=True)
+    print(done.stderr, end="", file=sys.stderr)
+
+
+@contextlib.contextmanager
+def stopped(register: Register) -> Iterator[None]:
+    """The desk is stopped meanwhile, and started whatever happens; where this process is killed,
+    its unit starts it.
+    """
+    try:
+        stop(register)
+        yield
+    finally:
+        start(register)

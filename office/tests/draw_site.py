@@ -1,0 +1,302 @@
+"""The application with a machine in tests: a register that is served at one port; a stand-in for
+the units of the machine, which end its server, copy or restore by the commands of the machine, and
+begin it again; and a draw that is brought from state to state.
+"""
+import argparse
+import contextlib
+import datetime
+import html.parser
+import os
+import pathlib
+import shutil
+import socket
+import subprocess
+import sys
+import threading
+from collections.abc import Callable, Iterator
+from typing import Any
+
+import pytest
+from applications import ORIGIN, Browser, Site
+from conftest import PROGRAM, ROOT, apply, child, do, make, school
+
+from office.model import Pair
+from office.web import app, people
+from office.web.draws import Draws
+from office.web.draws_drafts import Typed
+from office.web.parts import Config
+
+sys.path.append(str(ROOT / "deploy"))
+from machine import office_copy, office_requests, office_restore, registers  # noqa: E402
+
+NAME = "secondary-2025"
+HAL, JANE = people.Person("hal", "head"), people.Person("jane", "officer")
+SUP = people.Person("sup", "supervisor")
+OFFER_DAY = "2025-03-03"
+RAISED = {"cmd": "raise_pan", "school": "OAK", "pan": 2}
+Command = dict[str, Any]
+
+
+class Machine:
+    """A machine with one register."""
+
+    def __init__(self, folder: pathlib.Path, register: pathlib.Path) -> None:
+        self.folder = folder
+        self.lib, self.backups = folder / "lib", folder / "backups"
+        self.file = self.lib / NAME / "reg.db"
+        self.state = folder / "state" / NAME
+        for it in (self.lib / NAME, self.backups / NAME, self.state / "requests"):
+            it.mkdir(parents=True)
+        shutil.copy(register, self.file)
+        self.held = socket.socket()
+        # (a port that is bound so is given to nobody else, and the program can listen on it)
+        self.held.setsockopt(socket.SOL_SOCKET, socket.SO_REUSEADDR, 1)
+        self.held.bind(("127.0.0.1", 0))
+        self.port = self.held.getsockname()[1]
+        self.run: subprocess.Popen[str] | None = None
+        self.is_ended = threading.Event()
+        self.answered = 0
+        self.thread = threading.Thread(target=self.watch)
+
+    @property
+    def address(self) -> str:
+        """Where the register is served."""
+        return f"http://127.0.0.1:{self.port}"
+
+    def start(self, *_: object) -> None:
+        """Begins the server."""
+        if self.run is None:
+            # pylint: disable-next=consider-using-with
+            self.run = subprocess.Popen([PROGRAM, "serve", str(self.file), str(self.port)],
+                                        stdout=subprocess.PIPE, text=True)
+            assert self.run.stdout
+            assert self.run.stdout.readline() == f"serving on 127.0.0.1:{self.port}\n"
+
+    def stop(self, *_: object) -> None:
+        """Ends the server, and leaves the register in its file alone."""
+        if self.run is not None:
+            self.run.terminate()
+            self.run.communicate()
+            self.run = None
+        subprocess.run([PROGRAM, "do", str(self.file)], stdin=subprocess.DEVNULL, check=True)
+
+    def do(self, commands: list[Command]) -> None:
+        """Has the program do commands behind the application's back."""
+        self.stop()
+        do(self.file, commands)
+        self.start()
+
+    def watch(self) -> None:
+        """Answers requests, as the units of the machine do."""
+        given = argparse.Namespace(name=NAME)
+        while not self.is_ended.wait(0.01):
+            for name, command in (("copy", office_copy), ("restore", office_restore)):
+                if os.path.lexists(self.state / "requests" / name):
+                    command.main(given)
+                    self.answered += 1
+
+    def close(self) -> None:
+        """Ends it."""
+        self.is_ended.set()
+        self.thread.join()
+        if self.run is not None:
+            self.stop()
+        self.held.close()
+
+    def config(self) -> Config:
+        """Where the application finds what it needs."""
+        return Config(NAME, ORIGIN, self.address, self.state, self.backups / NAME,
+                      ROOT / "deploy" / "site", "Tŷ \"Ddewi\" Council")
+
+    @contextlib.contextmanager
+    def office(self) -> Iterator[Site]:
+        """The application, which ends at the end of the block."""
+        found = app.create(self.config())
+        try:
+            yield Site(found)
+        finally:
+            found.extensions["office"].close()
+
+
+def tools_in(folder: pathlib.Path) -> pathlib.Path:
+    """A folder with the program and the tools under their names."""
+    folder.mkdir()
+    os.symlink(os.path.realpath(PROGRAM), folder / "admissions")
+    for name in ("backup", "restore"):
+        os.symlink(ROOT / "tools" / name, folder / f"admissions-{name}")
+    return folder
+
+
+@contextlib.contextmanager
+def machine_over(
+    folder: pathlib.Path, register: pathlib.Path, patch: pytest.MonkeyPatch
+) -> Iterator[Machine]:
+    """A machine whose folders are below one, with the register of a file, and whose units run."""
+    tools = tools_in(folder / "tools")
+    patch.setenv("ADMISSIONS", PROGRAM)
+    machine = Machine(folder, register)
+    patch.setattr(registers, "REGISTERS", machine.lib)
+    patch.setattr(registers, "COPIES", machine.backups)
+    patch.setattr(registers, "SETTINGS", folder / "etc")
+    patch.setattr(office_requests, "STATE", folder / "state")
+    patch.setattr(office_requests, "start", machine.start)
+    patch.setattr(office_requests, "stop", machine.stop)
+    for it in (office_copy, office_restore, registers):
+        patch.setattr(it, "program", lambda name: str(tools / name))
+    for one in (office_copy, office_restore):
+        patch.setattr(one, "USER", "root")
+    patch.setattr("machine.files.numbers", lambda user, group: (os.getuid(), os.getgid()))
+    machine.start()
+    machine.thread.start()
+    try:
+        yield machine
+    finally:
+        machine.close()
+
+
+class Fields(html.parser.HTMLParser):
+    """The fields of a page with their values, and its texts."""
+
+    def __init__(self, page: str) -> None:
+        super().__init__()
+        self.values: dict[str, str] = {}
+        self.wrong: dict[str, str] = {}
+        self.texts: dict[str, str] = {}
+        self.at = ""
+        self.feed(page)
+
+    def handle_starttag(self, tag: str, attrs: list[tuple[str, str | None]]) -> None:
+        """Takes a field, and what describes it."""
+        found = {name: value or "" for name, value in attrs}
+        if tag == "input" and found.get("name"):
+            self.values[found["name"]] = found.get("value", "")
+            if "aria-describedby" in found:
+                self.wrong[found["name"]] = found["aria-describedby"]
+        self.at = found.get("id", self.at)
+
+    def handle_endtag(self, tag: str) -> None:
+        """Ends what has an id."""
+        self.at = ""
+
+    def handle_data(self, data: str) -> None:
+        """Takes a text of what has an id."""
+        self.texts[self.at] = self.texts.get(self.at, "") + data
+
+    def said(self, name: str) -> str:
+        """What the page says of a field."""
+        return self.texts.get(self.wrong.get(name, "-"), "").strip()
+
+
+class Person:
+    """Somebody at the draw's screens, in a browser."""
+
+    def __init__(self, office: Site, name: str, role: str) -> None:
+        self.browser: Browser = office.browser(name, role)
+
+    def step(self, number: int, name: str, **given: str) -> Any:
+        """Presses the button of a step on the page as it is now."""
+        page = self.browser.get(f"/draws/{number}")
+        assert page.status_code == 200, page.text
+        return self.press(number, Fields(page.text).values["seen"], name, **given)
+
+    def press(self, number: int, seen: str, name: str, **given: str) -> Any:
+        """Presses a button of a page that was shown at a version."""
+        second = "second/" if name in ("confirm", "restore") else ""
+        return self.browser.post(f"/draws/{number}/{second}{name}", {"seen": seen, **given})
+
+
+def small_register(factory: pytest.TempPathFactory) -> pathlib.Path:
+    """A register with a school of one place, and five children that all want it: two of them only a
+    lot can separate.
+    """
+    commands = [school("OAK", 1), school("ELM", 9, 9000)]
+    for at, home in enumerate((100, 200, 200, 300, 400), 1):
+        commands += [child(at, home), apply(at, ["OAK", "ELM"])]
+    path = factory.mktemp("small") / "reg.db"
+    make(path, commands)
+    return path
+
+
+def first_day(office: Site) -> None:
+    """Has the application see the offer day as today."""
+    office.parts.draws.today = lambda: datetime.date.fromisoformat(OFFER_DAY)
+
+
+def typed(office: Site, number: int, lot: Callable[[Pair, int], int]) -> None:
+    """The supervisor types all lots that are not there yet."""
+    _, sheet = office.parts.lots.sheet(number)
+    cells = {cell: Typed("", str(lot(*cell))) for cell, text in sheet.cells().items() if not text}
+    office.parts.lots.save(SUP, number, cells)
+
+
+def lot_of(pair: Pair, at: int) -> int:
+    """A lot that no two pairs of a school share."""
+    return 100 * at + (pair[1] * 7) % 97
+
+
+def version(office: Site, number: int) -> int:
+    """The version of a draw."""
+    return office.parts.draws.get(number).version
+
+
+def sealed(office: Site, number: int) -> None:
+    """Seals the lots."""
+    digest = office.parts.lots.sheet(number)[1].digest()
+    office.parts.lots.seal(SUP, number, version(office, number), digest)
+
+
+def steps(office: Site, number: int) -> dict[str, Callable[[], object]]:
+    """What brings a draw to each state."""
+    draws: Draws = office.parts.draws
+
+    def at() -> int:
+        return version(office, number)
+
+    def lots() -> None:
+        draws.give(HAL, number, at())
+
+    def seal() -> None:
+        typed(office, number, lot_of)
+        sealed(office, number)
+
+    return {
+        "closed": lambda: draws.close(HAL, number, at(), True),
+        "copied": lambda: draws.copy(HAL, number, at()),
+        "lots": lots, "sealed": seal,
+        "rehearsed": lambda: draws.rehearse(HAL, number, at()),
+        "confirmed": lambda: draws.confirm(JANE, number, at()),
+        "sending": lambda: draws.send(HAL, number, at()),
+        "audited": lambda: draws.audit(HAL, number, at()),
+        "opened": lambda: draws.open(HAL, number, at()),
+    }
+
+
+def begun(office: Site, school_code: str | None = None, fills: int = 1,
+          day: str = OFFER_DAY) -> int:
+    """Begins a draw."""
+    first_day(office)
+    return office.parts.draws.begin(HAL, school_code, fills, datetime.date.fromisoformat(day))
+
+
+def brought(office: Site, number: int, state: str) -> None:
+    """Brings a draw from its state to another."""
+    found = steps(office, number)
+    names = ["begun", *found]
+    for it in names[names.index(office.parts.draws.get(number).state) + 1:names.index(state) + 1]:
+        found[it]()
+    assert office.parts.draws.get(number).state == state
+
+
+def after_round(machine: Machine, office: Site) -> None:
+    """The small register after its first round: child 1 has OAK, four wait there."""
+    number = begun(office)
+    brought(office, number, "opened")
+    machine.do([{"cmd": "raise_pan", "school": "OAK", "pan": 4}])
+    assert office.parts.desk.now().schools["OAK"].vacancies == 3
+
+
+def at_lots(office: Site, name: str = "sup") -> Browser:
+    """The browser of a supervisor at the screen of lots."""
+    found = office.browser(name, "supervisor")
+    assert found.get("/lots/").status_code == 200
+    return found

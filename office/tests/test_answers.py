@@ -1,0 +1,484 @@
+"""The pile of answers in the application: what is typed, uploaded or pasted, and recorded."""
+import io
+import pathlib
+import threading
+from collections.abc import Iterator
+from typing import Any
+
+import openpyxl
+import pytest
+from applications import SCHOOLS, Browser, Site, child, office_over, site
+from conftest import make
+from pages import Page, press
+from served import served
+
+from office.web import answers, piles
+from office.web.desk import LOST, Result
+from office.web.people import Person
+from office.web.screens import answers as screen
+
+# 30 children, of whom each has an offer: those with an even number at B, the others at A
+NAMES = {11: "Ada Abel", 12: "Ben Bell", 13: "Cyd <b>Cole</b>", 14: "Dai O'Dare", 15: "Ada Abbot",
+         16: "=1+1"}
+PAGE = "/answers/"
+
+
+def offered() -> list[dict[str, Any]]:
+    """A register in which children 11 to 40 have an offer, and 41 has none and no application."""
+    schools = [{**it, "pan": 20} for it in SCHOOLS]
+    numbers = range(11, 41)
+    children = [child(it, NAMES.get(it, f"Child Number{it}"), it) for it in numbers]
+    applied = [{"cmd": "apply", "child": it, "day": "2024-10-31",
+                "preferences": ["A", "B"] if it % 2 else ["B", "A"]} for it in numbers]
+    lots = [*range(1, 31), *range(1, 31)]
+    return [*schools, *children, child(41, "Zoe Zander", 41), *applied,
+            {"cmd": "round", "draw": 1, "day": "2025-03-03", "lots": lots}]
+
+
+@pytest.fixture(name="office")
+def office_fixture(tmp_path: pathlib.Path) -> Iterator[Site]:
+    """The application over that register."""
+    with office_over(tmp_path, offered()) as found:
+        yield found
+
+
+def enter(browser: Browser, *entries: str) -> Page:
+    """Entries that are typed, each with Enter; the page after them."""
+    browser.get(PAGE)
+    for it in entries:
+        found = browser.post(PAGE, {"entry": it})
+        assert found.status_code == 303, Page(found.text).said()
+    return shown(browser)
+
+
+def shown(browser: Browser) -> Page:
+    """The page of the pile."""
+    return Page(browser.get(PAGE).text)
+
+
+def pile(page: Page) -> list[list[str]]:
+    """The rows of the pile, without what changes them; the last entry is the first."""
+    name = next((it for it in page.tables if it.startswith("The pile:")), None)
+    return [row[:6] for row in page.tables[name][1:]] if name else []
+
+
+def recorded(page: Page) -> list[list[str]]:
+    """The rows of those that were recorded, the last first."""
+    return [it[:4] for it in page.tables.get("recorded", [])[1:]]
+
+
+def kinds(office: Site) -> dict[int, str]:
+    """How each child has its place."""
+    return {number: it.kind for number, it in office.parts.desk.now().places.items()}
+
+
+def sent(office: Site) -> list[dict[str, Any]]:
+    """The commands that were sent, in their order."""
+    return [it.about["command"] for it in office.parts.history.entries if it.what == "sends"]
+
+
+def of_keys(page: Page, field: str, button: str) -> int:
+    """How many keys lead from a field to a button: Tab until it is there, and Enter."""
+    return page.stops.index(button) - page.stops.index(field) + 1
+
+
+def test_24_answers_need_few_keys(office: Site) -> None:
+    """Two figures and Enter for each, and from the field to the button by the keyboard."""
+    jane = office.browser("jane")
+    numbers = range(11, 35)
+    page = enter(jane, *map(str, numbers))
+    assert page.focus == "entry" and "Record 24 answers" in page.buttons()
+    keys = sum(len(str(it)) + 1 for it in numbers) + of_keys(page, "entry", "record-all")
+    assert keys == 24 * 3 + 3 and keys <= 89
+    found = press(jane, PAGE, page, "Record 24 answers")
+    assert found.status_code == 303
+    assert sent(office) == [
+        {"cmd": "accept", "child": it, "school": "A" if it % 2 else "B"} for it in numbers]
+    assert {it for it, kind in kinds(office).items() if kind == "accepted"} == set(numbers)
+    page = Page(jane.get(found.location).text)
+    assert page.said() == "24 of 24 answers are recorded."
+    assert len(recorded(page)) == 24 and not pile(page)
+    entry = next(it for it in office.parts.history.entries if it.what == "records a pile")
+    assert (entry.who, entry.about) == ("jane", {"answers": 24})
+
+
+def test_an_entry_is_a_number_or_a_name(office: Site) -> None:
+    """With a minus for a decline; a name that several have is chosen from them."""
+    jane = office.browser("jane")
+    page = enter(jane, "11", "12-", "cole", "O'Dare -", "ada", "nobody", "13 Cyd Cole")
+    assert pile(page) == [
+        ["13 Cyd Cole", "13", "Cyd <b>Cole</b>", "accept", "A", "the pile has this answer already"],
+        ["nobody", "", "", "accept", "", "0 children have names like it: enter the number"],
+        ["ada", "", "", "accept", "", "2 children have names like it: enter the number"],
+        ["O'Dare -", "14", "Dai O'Dare", "decline", "B", ""],
+        ["cole", "13", "Cyd <b>Cole</b>", "accept", "A", ""],
+        ["12-", "12", "Ben Bell", "decline", "B", ""],
+        ["11", "11", "Ada Abel", "accept", "A", ""]]
+    assert "<b>Cole" not in page.text and "Record 4 answers" in page.buttons()
+    press(jane, PAGE, page, "It is 15 Ada Abbot")
+    assert ["ada", "15", "Ada Abbot", "accept", "A", ""] in pile(shown(jane))
+    found = jane.post(PAGE, {"entry": "  "})
+    assert found.status_code == 400 and Page(found.text).said() == "Enter a number or a name."
+
+
+def test_declines_are_confirmed_by_name(office: Site) -> None:
+    """Nothing is sent before; the final button is not the one with the focus."""
+    jane = office.browser("jane")
+    page = enter(jane, "11", "12-", "13-")
+    office.parts.desk.send(Person("bo", "officer"), {"cmd": "accept", "child": 12, "school": "B"})
+    # (the pile was read after it, so that 12 is in conflict, and is added again)
+    press(jane, PAGE, shown(jane), "Remove 12-")
+    page = enter(jane, "12-")
+    before = len(sent(office))
+    question = Page(press(jane, PAGE, page, "Record 3 answers").text)
+    assert len(sent(office)) == before
+    assert question.by_id["final"].split("\n  ") and "Ben Bell" in question.by_id["final"]
+    assert "child 13, Cyd <b>Cole</b>, at A Alpha" in " ".join(question.by_id["final"].split())
+    assert "child 12, Ben Bell, at B Beta, which was accepted" in " ".join(
+        question.by_id["final"].split())
+    assert "Ada Abel" not in question.by_id["final"]
+    assert question.focus == PAGE and question.stops.index("confirm") > question.stops.index(PAGE)
+    found = press(jane, PAGE, question, "Record 3 answers")
+    assert found.status_code == 303
+    assert sent(office)[before:] == [{"cmd": "accept", "child": 11, "school": "A"},
+                                     {"cmd": "decline", "child": 13, "school": "A"},
+                                     {"cmd": "decline", "child": 12, "school": "B"}]
+    assert {12, 13}.isdisjoint(kinds(office))
+    page = enter(jane, "14-")
+    question = Page(press(jane, PAGE, page, "Record 1 answer").text)
+    assert "Record 1 answer, with that of Dai O'Dare" in question.buttons()
+
+
+def test_conflicts_are_named_and_not_sent(office: Site) -> None:
+    """No offer, answered already, no such child, two answers for one child."""
+    desk, jane = office.parts.desk, office.browser("jane")
+    for command in ({"cmd": "accept", "child": 20, "school": "B"},
+                    {"cmd": "name_plan", "child": 21, "school": "B"}):
+        assert desk.send(Person("bo", "officer"), command).is_done
+    page = enter(jane, "20", "21-", "41", "9999999", "11", "11-", "12")
+    against = {row[0]: row[5] for row in pile(page)}
+    assert against == {
+        "20": "the place is accepted already",
+        "21-": "there is no offer to answer: The child has a place at Beta by a plan.",
+        "41": "there is no offer to answer: The child has no place.",
+        "9999999": "the register has no child 9999999",
+        "11": "the pile has another answer for this child",
+        "11-": "the pile has another answer for this child", "12": ""}
+    before = len(sent(office))
+    press(jane, PAGE, page, "Record 1 answer")
+    assert sent(office)[before:] == [{"cmd": "accept", "child": 12, "school": "B"}]
+    assert len(pile(shown(jane))) == 6
+    press(jane, PAGE, shown(jane), "Remove 11-")
+    assert "Record 1 answer" in shown(jane).buttons()
+    press(jane, PAGE, shown(jane), "Remove all 5 from the pile")
+    assert pile(shown(jane)) == [] and len(recorded(shown(jane))) == 1
+    press(jane, PAGE, shown(jane), "Clear this list")
+    assert recorded(shown(jane)) == []
+
+
+def test_what_a_colleague_did_meanwhile_is_named(office: Site) -> None:
+    """Before the pile is shown, and between that and the sending."""
+    jane, bo = office.browser("jane"), office.browser("bo")
+    page = enter(jane, "11-", "12", "13")
+    assert "jane has an answer for this child in a pile too" in pile(enter(bo, "12"))[0][5]
+    press(bo, PAGE, shown(bo), "Record 1 answer")
+    found = press(jane, PAGE, page, "Record 3 answers")
+    again = Page(found.text)
+    assert found.status_code == 409 and "The pile has changed since it was shown" in again.said()
+    row = next(it for it in pile(again) if it[0] == "12")
+    assert row[5].startswith("Child 12: bo recorded accept at ")
+    assert [it["child"] for it in sent(office)] == [12]
+    # while the pile is sent
+    desk = office.parts.desk
+    kept = desk.send
+
+    def late(who: Person, command: dict[str, Any], *more: Any) -> Result:
+        if command["child"] == 13:
+            kept(Person("bo", "officer"), {"cmd": "accept", "child": 13, "school": "A"})
+        return kept(who, command, *more)
+
+    setattr(desk, "send", late)
+    question = Page(press(jane, PAGE, again, "Record 2 answers").text)
+    press(jane, PAGE, question, "Record 2 answers, with that of Ada Abel")
+    page = shown(jane)
+    assert "2 answers were not recorded" in page.said() or "1 answer was not" in page.said()
+    row = next(it for it in pile(page) if it[0] == "13")
+    assert "Child 13: bo recorded accept at " in row[5] and "Nothing was sent." in row[5]
+    assert recorded(page) == [["11", "Ada Abel", "decline", "A"]]
+
+
+def test_the_same_pile_is_not_recorded_twice(office: Site) -> None:
+    """Neither by a form that is sent again nor by two tabs at once."""
+    jane = office.browser("jane")
+    page = enter(jane, "11", "12")
+    assert press(jane, PAGE, page, "Record 2 answers").status_code == 303
+    assert press(jane, PAGE, page, "Record 2 answers").status_code == 409
+    assert len(sent(office)) == 2
+    found = screen_piles(office)
+    page = enter(jane, "13")
+    entries = [it for it in found.of("jane") if it.state == "waits"]
+    held, kept = threading.Event(), office.parts.desk.send
+
+    def slow(*given: Any) -> Result:
+        held.wait(20)
+        return kept(*given)
+
+    setattr(office.parts.desk, "send", slow)
+    found.record(Person("jane", "officer"), entries, 0)
+    page = shown(jane)
+    assert "The pile is being recorded. 1 answer is left." in page.text
+    assert "Look again" in page.by_id["running"] and "refresh" not in page.text
+    assert not any(it.startswith("Record ") for it in page.buttons())
+    with pytest.raises(Exception, match="is being recorded already"):
+        found.record(Person("jane", "officer"), entries, 0)
+    held.set()
+    found.running["jane"].join(20)
+    assert [it["child"] for it in sent(office)] == [11, 12, 13]
+
+
+def screen_piles(office: Site) -> piles.Piles:
+    """The piles of the application."""
+    found: piles.Piles = office.app.extensions["piles"]
+    return found
+
+
+def test_a_pile_is_kept_by_person(office: Site) -> None:
+    """Over a sign-out, and nobody else has it."""
+    jane, bo = office.browser("jane"), office.browser("bo")
+    enter(jane, "11", "12-")
+    assert pile(shown(bo)) == []
+    number = screen_piles(office).of("jane")[0].number
+    bo.post("/answers/remove", {"number": str(number)})
+    bo.post("/answers/choose", {"number": str(number), "child": "13"})
+    jane.post("/sign-out")
+    again = office.browser("jane")
+    assert [it[0] for it in pile(shown(again))] == ["12-", "11"]
+
+
+@pytest.mark.filterwarnings("ignore::pytest.PytestUnhandledThreadExceptionWarning")
+def test_an_application_that_ends_in_the_middle_goes_on(tmp_path: pathlib.Path) -> None:
+    """What was recorded is known by the history; the rest is recorded later; nothing is sent twice.
+    """
+    make(tmp_path / "reg.db", offered())
+    with served(tmp_path / "reg.db") as (address, _):
+        with site(tmp_path, address) as office:
+            jane = office.browser("jane")
+            page = enter(jane, "11", "12", "13", "14")
+            sender, count = office.parts.desk.sender, [0]
+            kept = sender.send
+
+            def ends(line: bytes) -> bytes:
+                count[0] += 1
+                if count[0] == 4:
+                    raise SystemExit
+                answer = kept(line)
+                if count[0] == 3:
+                    raise SystemExit
+                return answer
+
+            setattr(sender, "send", ends)
+            press(jane, PAGE, page, "Record 4 answers")
+            states = [it.state for it in screen_piles(office).of("jane")]
+            assert states == ["done", "done", "sending", "waits"]
+        with site(tmp_path, address) as office:
+            office.passwords["jane"] = "jane of the office"
+            jane = office.browser("jane")
+            page = shown(jane)
+            assert [it[0] for it in recorded(page)] == ["13", "12", "11"]
+            assert [it[0] for it in pile(page)] == ["14"]
+            press(jane, PAGE, page, "Record 1 answer")
+            assert [it["child"] for it in sent(office)] == [11, 12, 13, 14]
+            assert {it for it, kind in kinds(office).items() if kind == "accepted"} == {
+                11, 12, 13, 14}
+            # and one that was on record and never reached the register
+            page = enter(jane, "15")
+            sender = office.parts.desk.sender
+
+            def lost(_line: bytes) -> bytes:
+                raise SystemExit
+
+            setattr(sender, "send", lost)
+            press(jane, PAGE, page, "Record 1 answer")
+        with site(tmp_path, address) as office:
+            office.passwords["jane"] = "jane of the office"
+            jane = office.browser("jane")
+            page = shown(jane)
+            assert "There was no answer: not done." in pile(page)[0][5]
+            press(jane, PAGE, page, "Record 1 answer")
+            assert kinds(office)[15] == "accepted"
+
+
+def test_an_answer_that_is_lost_is_looked_up(office: Site, monkeypatch: pytest.MonkeyPatch) -> None:
+    """The pile stops there, and says later which of the two it was."""
+    jane, desk = office.browser("jane"), office.parts.desk
+    page = enter(jane, "11", "12")
+    kept = desk.send
+
+    def unsure(who: Person, command: dict[str, Any], *more: Any) -> Result:
+        kept(who, command, *more)
+        return Result(LOST, "There was no certain answer.")
+
+    monkeypatch.setattr(desk, "send", unsure)
+    press(jane, PAGE, page, "Record 2 answers")
+    assert [it["child"] for it in sent(office)] == [11]
+    monkeypatch.setattr(desk, "send", kept)
+    page = shown(jane)
+    assert recorded(page) == [["11", "Ada Abel", "accept", "A"]]
+    assert [it[0] for it in pile(page)] == ["12"]
+
+
+SHEETS = [
+    "reply,child,school,name\naccept,11,A,Ada Abel\ndecline,12,B,Ben Bell\n",
+    "accept;11;a;Ada ABEL\ndecline;12;B;Bell, Ben\n",
+    "accept\t11\tA\tAda Abel\ndecline\t12\tB\t\n",
+    "\ufeffchild,school,reply\n11,A,accept\n12,B,decline\n",
+    "11\n12-\n",
+    "11,Ada Abel\n12-,Ben Bell\n",
+    "\n  11 Ada Abel \n\n bell -\n",
+]
+
+
+@pytest.mark.parametrize("text", SHEETS)
+@pytest.mark.parametrize("how", ["pasted", "sheet"])
+def test_a_sheet_or_a_column_fills_the_pile(office: Site, text: str, how: str) -> None:
+    """Replies, or entries as they are typed, with the names compared."""
+    jane = office.browser("jane")
+    jane.get(PAGE)
+    given: dict[str, Any] = {"pasted": text}
+    if how == "sheet":
+        given = {"sheet": (io.BytesIO(text.encode()), "replies.csv")}
+    found = jane.post("/answers/several", given, content_type="multipart/form-data")
+    assert found.status_code == 303, Page(found.text).said()
+    assert [row[1:] for row in pile(shown(jane))] == [
+        ["12", "Ben Bell", "decline", "B", ""], ["11", "Ada Abel", "accept", "A", ""]]
+
+
+def test_a_workbook_fills_the_pile(office: Site) -> None:
+    """With lists that are left, and plans; each final one is in the question."""
+    book = openpyxl.Workbook()
+    for row in (["Reply", "Child", "School", "Name"], ["accept", 11, "A", "Ada Abel"],
+                ["plan", 41, "B", "Zoe Zander"], ["leave", 13, "B", "Cyd Cole"]):
+        book.active.append(row)
+    out = io.BytesIO()
+    book.save(out)
+    jane = office.browser("jane")
+    jane.get(PAGE)
+    found = jane.post("/answers/several", {"sheet": (io.BytesIO(out.getvalue()), "a.xlsx")},
+                      content_type="multipart/form-data")
+    assert found.status_code == 303, Page(found.text).said()
+    page = shown(jane)
+    assert [row[1:] for row in pile(page)] == [
+        ["13", "Cyd <b>Cole</b>", "leave the list", "B", "the child does not wait at B"],
+        ["41", "Zoe Zander", "plan", "B", ""], ["11", "Ada Abel", "accept", "A", ""]]
+    question = Page(press(jane, PAGE, page, "Record 2 answers").text)
+    assert "plan: child 41, Zoe Zander, at B Beta" in " ".join(question.by_id["final"].split())
+    press(jane, PAGE, question, "Record 2 answers, with that of Zoe Zander")
+    assert kinds(office)[41] == "plan" and kinds(office)[11] == "accepted"
+
+
+def test_a_name_that_is_another_stops_its_answer(office: Site) -> None:
+    """Until somebody says that it is this child."""
+    jane = office.browser("jane")
+    jane.get(PAGE)
+    text = "accept,11,A,Ada Abell\naccept,12,B,Zoe Young\naccept,13,B,Cyd Cole\n"
+    jane.post("/answers/several", {"pasted": text}, content_type="multipart/form-data")
+    page = shown(jane)
+    assert {row[1]: row[5] for row in pile(page)} == {
+        "11": "", "12": 'the name given is "Zoe Young"',
+        "13": "it is about B: The child was offered a place at Alpha on 3 March 2025."
+              " There is no answer yet."}
+    press(jane, PAGE, page, "It is Ben Bell all the same")
+    assert {row[1]: row[5] for row in pile(shown(jane))}["12"] == ""
+    assert "Record 2 answers" in shown(jane).buttons()
+
+
+REFUSED = [
+    ("accept,11,A\naccept,x,B\n", "Correct it first: row 2, \"x\": expected"),
+    ("child,school,lot\n11,A,5\n", "it is a sheet of lots."),
+    ("child,school,offered,due\n11,A,2025-03-03,2025-03-17\n", "it is a worklist"),
+    ("child,name,east,north,looked_after,flags,siblings,day,preferences\n1,A,1,1,no,,,x,A\n",
+     "it is a sheet of applications."),
+    ("reply,child,school\n", "has no child"),
+]
+
+
+@pytest.mark.parametrize("text, said", REFUSED)
+def test_another_sheet_is_refused(office: Site, text: str, said: str) -> None:
+    """Whole, with the reason, without words for a terminal; what was pasted is still there."""
+    jane = office.browser("jane")
+    jane.get(PAGE)
+    found = jane.post("/answers/several", {"pasted": text}, content_type="multipart/form-data")
+    page = Page(found.text)
+    assert found.status_code == 400 and said.lower() in page.said().lower(), page.said()
+    assert "admissions-" not in page.said() and "--" not in page.said()
+    assert text.split("\n")[0] in page.by_id["pasted"] and pile(page) == []
+
+
+def test_hostile_uploads_are_refused(office: Site) -> None:
+    """As of other sheets; and an entry is of a length."""
+    jane = office.browser("jane")
+    jane.get(PAGE)
+    for data in (b"%PDF-1", b"PK\x03\x04xx", b"\0\1\2", b""):
+        found = jane.post("/answers/several", {"sheet": (io.BytesIO(data), "a.xlsx")},
+                          content_type="multipart/form-data")
+        assert found.status_code == 400 and "Nothing was added: " in Page(found.text).said()
+    both = {"pasted": "11", "sheet": (io.BytesIO(b"12"), "a.csv")}
+    found = jane.post("/answers/several", both, content_type="multipart/form-data")
+    assert found.status_code == 400 and "and not both" in Page(found.text).said()
+    found = jane.post("/answers/several", {"pasted": "1\n" * 150_000},
+                      content_type="multipart/form-data")
+    assert found.status_code == 400 and "too much to be pasted" in Page(found.text).said()
+    found = jane.post("/answers/several", {"pasted": "11\n" * (piles.MOST + 1)},
+                      content_type="multipart/form-data")
+    assert found.status_code == 400 and "at most 2,000 answers" in Page(found.text).said()
+    page = enter(jane, "<script>alert(1)</script>" + "x" * 5000)
+    assert "<script>alert" not in page.text and len(pile(page)[0][0]) == answers.MOST_TYPED
+
+
+def test_only_who_may_record_has_a_pile(office: Site) -> None:
+    """A reader, the head of a school and a supervisor do not."""
+    for name, role in (("rita", "reader"), ("ann", "school-A"), ("sue", "supervisor")):
+        browser = office.browser(name, role)
+        assert browser.get(PAGE).status_code == 403, role
+        for path in (PAGE, "/answers/several", "/answers/record", "/answers/remove",
+                     "/answers/choose"):
+            assert browser.post(path, {"entry": "11", "sure": "yes"}).status_code == 403
+    assert office.parts.store.rows("SELECT * FROM answer") == []
+
+
+def test_a_pile_is_kept_while_the_register_is_closed(office: Site) -> None:
+    """Each answer says why it was not recorded, and is recorded later."""
+    jane, desk = office.browser("jane"), office.parts.desk
+    page = enter(jane, "11", "12")
+    desk.closed = lambda: "Closed for draw 2 by hal."
+    press(jane, PAGE, page, "Record 2 answers")
+    page = shown(jane)
+    assert [row[5] for row in pile(page)] == ["", "Closed for draw 2 by hal."]
+    assert sent(office) == []
+    desk.closed = str
+    press(jane, PAGE, page, "Record 2 answers")
+    assert len(sent(office)) == 2 and pile(shown(jane)) == []
+
+
+def test_a_pile_is_shown_while_the_register_is_away(tmp_path: pathlib.Path) -> None:
+    """What was typed is kept, and typed again into the field where it could not be added."""
+    make(tmp_path / "reg.db", offered())
+    with served(tmp_path / "reg.db") as (address, run), site(tmp_path, address) as office:
+        jane = office.browser("jane")
+        enter(jane, "11", "12-")
+        run.terminate()
+        run.wait()
+        office.parts.desk.copy = None
+        found = jane.get(PAGE)
+        page = Page(found.text)
+        assert found.status_code == 503 and "The register does not answer now" in page.said()
+        assert "2 answers are kept: 11, 12-" in " ".join(page.text.split())
+        found = jane.post(PAGE, {"entry": "13"})
+        page = Page(found.text)
+        assert found.status_code == 503 and "13 was not added" in page.said()
+        assert page.fields["entry"]["value"] == "13"
+
+
+def test_a_wait_has_an_end() -> None:
+    """A page that records a large pile comes back and shows how far it is."""
+    assert 0 < screen.WAIT_SECONDS <= 30

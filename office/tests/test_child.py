@@ -1,0 +1,327 @@
+"""A child in the application: what is shown of it, what is recorded after a question, and its
+history.
+"""
+import datetime
+import pathlib
+from collections.abc import Iterator
+from typing import Any
+
+import pytest
+from applications import ROUND, Browser, Site, child, office_over, town
+from pages import Page, press
+
+from office.web import children, corrections, flags, wording
+from office.web.people import Person
+from office.web.screens import child as screen
+
+TODAY = datetime.date(2025, 3, 17)
+
+
+@pytest.fixture(name="office")
+def office_fixture(tmp_path: pathlib.Path, monkeypatch: pytest.MonkeyPatch) -> Iterator[Site]:
+    """The application over a register after its first round, on the day on which reminders are due.
+    Child 5 has flags, a sibling and no application.
+    """
+    monkeypatch.setattr(screen, "today", lambda: TODAY)
+    eve = {**child(5, "=Eve \"<i>Eden</i>\"", 500), "flags": [2, 5], "siblings": ["A"],
+           "present": "PRIM7"}
+    with office_over(tmp_path, [*town(), eve, ROUND]) as found:
+        yield found
+
+
+def sent(office: Site) -> list[dict[str, Any]]:
+    """The commands that were sent, in their order."""
+    return [it.about["command"] for it in office.parts.history.entries if it.what == "sends"]
+
+
+def act(browser: Browser, path: str, button: str) -> Any:
+    """A question that is opened and confirmed."""
+    page = Page(browser.get(path).text)
+    return press(browser, path, page, button)
+
+
+def test_a_child_is_shown_with_its_place_its_list_and_its_data(office: Site) -> None:
+    """Child 3 has B, waits first at A, and lives 300 metres away."""
+    flags.change(office.parts.store, "{}", {2: "medical need"}, lambda _: None)
+    rita = office.browser("rita", "reader")
+    page = Page(rita.get("/children/3").text)
+    assert page.by_id["heading"] == "Child 3, Cyd <b>Cole</b>"
+    assert page.by_id["place"] == (
+        "The child was offered a place at Beta on 3 March 2025. There is no answer yet.")
+    assert page.by_id["deadline"] == "A reminder is due from 17 March 2025 on."
+    assert page.tables["list"][1:] == [
+        ["1", "A Alpha", "waits, position 1 of 2", "ranked by distance alone", "300"],
+        ["2", "B Beta", "offered", "ranked by distance alone", "300"]]
+    assert page.buttons() == ["Sign out"] and "/children/3/" not in page.text
+    page = Page(rita.get("/children/5").text)
+    assert "medical need; flag 5" in page.text and "The child has no application." in page.text
+    assert "&lt;i&gt;Eden" in page.text and "<i>Eden" not in page.text
+    assert rita.get("/children/6").status_code == 404
+
+
+def test_children_are_found(office: Site) -> None:
+    """By words of their names, and by number."""
+    rita = office.browser("rita", "reader")
+    for text, numbers in (("abel", ["1"]), ("3", ["3"]), ("cole cyd", ["3"]), ("Beil", ["2"])):
+        rows = Page(rita.get(f"/children/?find={text}").text).tables
+        assert [it[0] for it in next(iter(rows.values()))[1:]] == numbers, text
+    page = Page(rita.get("/children/?find=<script>").text)
+    assert "No child has a name like" in page.said() and "<script>" not in page.text
+
+
+# what each role finds at a child: (path, what is asked, the command)
+ACTIONS: list[tuple[str, str, dict[str, Any]]] = [
+    ("/children/3/accept", "Accept Beta for Cyd <b>Cole</b>",
+     {"cmd": "accept", "child": 3, "school": "B"}),
+    ("/children/3/decline", "Decline Beta for Cyd <b>Cole</b>",
+     {"cmd": "decline", "child": 3, "school": "B"}),
+    ("/children/3/remind?day=17/3/2025", "Record the reminder of Cyd <b>Cole</b> about Beta",
+     {"cmd": "remind", "child": 3, "school": "B", "day": "2025-03-17"}),
+    ("/children/3/leave?school=A", "Take Cyd <b>Cole</b> off the list of Alpha",
+     {"cmd": "leave_list", "child": 3, "school": "A"}),
+    ("/children/4/plan?school=A", "Give Dai O'Dare a place at Alpha by a plan",
+     {"cmd": "name_plan", "child": 4, "school": "A"}),
+]
+
+
+@pytest.mark.parametrize("path, button, command", ACTIONS, ids=[it[2]["cmd"] for it in ACTIONS])
+def test_each_action_is_asked_by_name(
+    office: Site, path: str, button: str, command: dict[str, Any],
+) -> None:
+    """It is recorded once, with the child as it was shown; a page from before sends nothing."""
+    jane = office.browser("jane")
+    page = Page(jane.get(path).text)
+    assert button in page.buttons() and page.by_id["becomes"]
+    assert sent(office) == []
+    found = press(jane, path, page, button)
+    assert found.status_code == 303 and sent(office) == [command]
+    shown = Page(jane.get(found.location).text)
+    assert shown.said().startswith("Recorded: ")
+    assert [it[1:] for it in shown.tables["history"][1:2]] == [
+        ["jane", shown.said()[len("Recorded: "):-1], "done"]]
+    again = press(jane, path, page, button)
+    assert again.status_code == 409 and "jane recorded " in Page(again.text).said()
+    assert sent(office) == [command]
+
+
+def test_a_withdrawal_needs_a_reminder(office: Site) -> None:
+    """And a question of it is no page where there is none."""
+    jane = office.browser("jane")
+    found = jane.get("/children/3/lapse")
+    said = "This cannot be recorded: The child was offered a place at Beta on 3 March 2025."
+    assert found.status_code == 409 and Page(found.text).said().startswith(said)
+    found = act(jane, "/children/3/remind", "Record the reminder of Cyd <b>Cole</b> about Beta")
+    page = Page(jane.get(found.location).text)
+    assert page.by_id["deadline"] == (
+        "The offer may be withdrawn from 31 March 2025 on, if it is not answered.")
+    path = "/children/3/lapse?day=31 March 2025"
+    page = Page(jane.get(path).text)
+    assert page.by_id["on"] == "Day: Monday, 31 March 2025"
+    assert "The day is 14 days after today." in page.text
+    found = press(jane, path, page, "Withdraw the offer of Beta from Cyd <b>Cole</b>")
+    assert found.status_code == 303 and 3 not in office.parts.desk.now().places
+
+
+def test_what_the_register_refuses_is_said(office: Site) -> None:
+    """With the child as it is, and the day that was typed."""
+    jane = office.browser("jane")
+    path = "/children/3/remind?day=4 March 2025"
+    found = act(jane, path, "Record the reminder of Cyd <b>Cole</b> about Beta")
+    page = Page(found.text)
+    assert found.status_code == 409 and "too early" in page.said()
+    assert page.fields["day"]["value"] == "4 March 2025"
+    assert jane.get("/children/3").status_code == 200
+    history = Page(jane.get("/children/3").text).tables["history"][1]
+    assert history[1:3] == ["jane", "reminded on 4 March 2025 of the offer of B"]
+    assert "too early" in history[3]
+
+
+def test_a_day_is_typed_and_warned_of(office: Site) -> None:
+    """One that is none is said at its field, and there is nothing to confirm."""
+    jane = office.browser("jane")
+    for text in ("soon", "31/2/2025", "2025-13-01"):
+        found = jane.get(f"/children/3/remind?day={text}")
+        page = Page(found.text)
+        assert found.status_code == 400 and "17 March 2025" in page.error("day")
+        assert page.fields["day"]["value"] == text and "confirm" not in page.fields
+    page = Page(jane.get("/children/3/remind?day=3/3/2026").text)
+    assert "The day is outside the season" in page.text and "351 days after today" in page.text
+    page = Page(jane.get("/children/3/remind").text)
+    assert page.by_id["on"] == "Day: Monday, 17 March 2025" and "warning" not in page.text
+
+
+def test_what_a_colleague_did_is_named(office: Site) -> None:
+    """A stale question of a decline does not end a place that was accepted since."""
+    jane, bo = office.browser("jane"), office.browser("bo")
+    page = Page(jane.get("/children/1/decline").text)
+    act(bo, "/children/1/accept", "Accept Alpha for Ada Abel")
+    found = press(jane, "/children/1/decline", page, "Decline Alpha for Ada Abel")
+    again = Page(found.text)
+    assert found.status_code == 409
+    assert again.said().startswith("Child 1: bo recorded accept at ")
+    assert again.said().endswith("Nothing was sent.")
+    assert "The family had accepted this place." in again.text
+    assert office.parts.desk.now().places[1].kind == "accepted"
+    assert [it["cmd"] for it in sent(office)] == ["accept"]
+    # (and now, seen as it is, it is declined)
+    assert press(jane, "/children/1/decline", again, "Decline Alpha for Ada Abel"
+                 ).status_code == 303
+    history = Page(jane.get("/children/1").text)
+    assert [it[1:] for it in history.tables["history"][1:]] == [
+        ["jane", "declined the place at A", "done"], ["bo", "accepted the place at A", "done"],
+        ["", "round 1, 3 March 2025", "offered the place at A"]]
+    assert history.tables["list"][1][2] == "declined"
+
+
+def test_a_draw_that_gave_a_place_is_named(office: Site) -> None:
+    """A fill offers child 3 a place at A while its place at B is to be declined."""
+    jane, desk, hal = office.browser("jane"), office.parts.desk, Person("hal", "head")
+    page = Page(jane.get("/children/3/decline").text)
+    for command in ({"cmd": "decline", "child": 2, "school": "A"},
+                    {"cmd": "fill", "draw": 2, "school": "A", "day": "2025-03-17",
+                     "lots": [1, 2]}):
+        assert desk.send(hal, command, draw=True).is_done, command
+    found = press(jane, "/children/3/decline", page, "Decline Beta for Cyd <b>Cole</b>")
+    assert "Child 3: hal recorded a fill at " in Page(found.text).said()
+    rows = Page(jane.get("/children/3").text).tables["history"][1:]
+    assert [it[1:] for it in rows] == [
+        ["hal", "fill of A (draw 2), 17 March 2025", "offered the place at A"],
+        ["", "round 1, 3 March 2025", "offered the place at B"]]
+
+
+def test_a_plan_is_chosen_and_ends_a_place(office: Site) -> None:
+    """Its question says what ends with it."""
+    jane = office.browser("jane")
+    page = Page(jane.get("/children/1/plan").text)
+    assert "confirm" not in page.fields and page.form("Show").method == "get"
+    page = Page(jane.get("/children/1/plan?school=B").text)
+    assert "The place at A, offered, ends with it." in page.text
+    assert jane.get("/children/1/plan?school=ZZ").status_code == 409
+    button = "Give Ada Abel a place at Beta by a plan"
+    found = press(jane, "/children/1/plan?school=B", page, button)
+    assert found.status_code == 303
+    page = Page(jane.get("/children/1").text)
+    assert page.by_id["place"] == "The child has a place at Beta by a plan."
+    assert "/children/1/plan" not in page.text and "/children/1/decline" not in page.text
+
+
+def test_a_correction_shows_what_it_changes(office: Site) -> None:
+    """Each field side by side; confirmed by the name; a colleague's correction is not lost."""
+    jane, bo = office.browser("jane"), office.browser("bo")
+    path = "/children/5/correct"
+    page = Page(jane.get(path).text)
+    form = page.form("Compare with the register").values
+    assert (form["flags"], form["siblings"], form["present"]) == (["2", "5"], ["A"], ["PRIM7"])
+    found = press(jane, path, page, "Compare with the register", name="Eve Eden", east="50000",
+                  flags=["5"], siblings="a; b", present="")
+    page = Page(found.text)
+    assert page.tables["changes"][1:] == [
+        ["Name", "=Eve \"<i>Eden</i>\"", "Eve Eden"], ["East, in metres", "0", "50000"],
+        ["Flags", "2;5", "5"], ["Siblings at", "A", "A;B"], ["Present school", "PRIM7", "none"]]
+    assert "The home moves by 50 km" in page.text
+    assert "The present school PRIM7 is removed" in page.text and sent(office) == []
+    button = "Correct the data of =Eve \"<i>Eden</i>\""
+    assert button in page.buttons()
+    other = press(bo, path, Page(bo.get(path).text), "Compare with the register", east="7")
+    press(bo, path, Page(other.text), button)
+    assert office.parts.desk.now().children[5].east == 7
+    found = press(jane, path, page, button)
+    page = Page(found.text)
+    assert found.status_code == 409 and "Child 5: bo recorded a correction at " in page.said()
+    assert ["East, in metres", "7", "50000"] in page.tables["changes"]
+    assert press(jane, path, page, button).status_code == 303
+    now = office.parts.desk.now().children[5]
+    assert (now.name, now.east, now.north, now.flags, now.siblings, now.present) == (
+        "Eve Eden", 50000, 500, (5,), ("A", "B"), "")
+    rows = Page(jane.get("/children/5").text).tables["history"][1:]
+    assert [it[1] for it in rows] == ["jane", "bo"] and rows[0][2].startswith("data corrected: ")
+    assert "East, in metres 7 → 50000" in rows[0][2]
+
+
+def test_a_correction_that_is_wrong_stays_in_the_form(office: Site) -> None:
+    """With each error at its field; one that changes nothing is not sent."""
+    jane = office.browser("jane")
+    path = "/children/1/correct"
+    page = Page(jane.get(path).text)
+    found = press(jane, path, page, "Compare with the register", name=" ", east="x",
+                  north="1500001", siblings="A;A", present="not a code", flags=["99"])
+    page = Page(found.text)
+    assert found.status_code == 400 and sent(office) == []
+    for field, said in (("name", "it is empty"), ("east", "a whole number"),
+                        ("north", "1,500,000"), ("siblings", "A is in it twice"),
+                        ("present", "1 to 8 of A-Z and 0-9")):
+        assert said in page.error(field), field
+    assert "numbers of flags from 0 to 15" in page.by_id["flags-error"]
+    assert page.fields["east"]["value"] == "x"
+    found = press(jane, path, Page(jane.get(path).text), "Compare with the register")
+    assert found.status_code == 409 and "there is nothing to send" in Page(found.text).said()
+
+
+def test_only_who_may_record_finds_a_question(office: Site) -> None:
+    """A reader, the head of a school and a supervisor do not."""
+    for name, role in (("rita", "reader"), ("ann", "school-A"), ("sue", "supervisor")):
+        browser = office.browser(name, role)
+        for path in ("/children/1/accept", "/children/1/correct", "/children/1/plan"):
+            assert browser.get(path).status_code == 403, (role, path)
+            assert browser.post(path, {"school": "A"}).status_code == 403, (role, path)
+    assert office.browser("ann").get("/children/1").status_code == 403
+    assert sent(office) == []
+
+
+def test_a_form_that_was_changed_sends_nothing_unseen(office: Site) -> None:
+    """Without what was seen, with another school, or with a text that is none."""
+    jane = office.browser("jane")
+    jane.get("/children/1/accept")
+    forms: tuple[dict[str, Any], ...] = (
+        {}, {"seen": "null", "school": "A"}, {"seen": "{", "school": "<script>"})
+    for given in forms:
+        found = jane.post("/children/1/accept", given)
+        assert found.status_code == 409 and "<script>" not in found.text.replace("<script src", "")
+    assert office.parts.desk.now().places[1].kind == "offered" and sent(office) == []
+
+
+def test_an_import_is_the_first_entry_of_a_child(office: Site) -> None:
+    """With who sent it; a child of another row, or of another number, has it not."""
+    header = "child,name,east,north,looked_after,flags,siblings,day,preferences\n"
+    rows = header + "12,\"Abel, Fay\",1,2,no,,,2024-10-20,A;B\n112,Gil,1,2,no,,,2024-10-21,B\n"
+    result = office.parts.desk.send_import(Person("jane", "officer"), rows.encode())
+    assert result.is_done, result
+    rita = office.browser("rita", "reader")
+    for number, said in ((12, "20 October 2024: A, B"), (112, "21 October 2024: B")):
+        table = Page(rita.get(f"/children/{number}").text).tables["history"]
+        assert [it[1:] for it in table[1:]] == [
+            ["jane", f"imported, with the application of {said}", "done"]]
+    assert Page(rita.get("/children/1").text).tables["history"][1][1] == ""
+
+
+def test_a_name_in_a_button_is_only_a_name() -> None:
+    """Whatever it has in it."""
+    given = {"school": "{child}", "child": "{school} {0} %s"}
+    assert children.filled("Decline {school} for {child}", given) == (
+        "Decline {child} for {school} {0} %s")
+
+
+def test_days_are_read_as_they_are_typed() -> None:
+    """In the order of an office; what can be two days, or none, is none."""
+    day = datetime.date(2025, 4, 2)
+    for text in ("2025-04-02", "2/4/2025", "02.04.2025", "2 April 2025", " 2nd Apr 2025 "):
+        assert wording.day_of(text) == day, text
+    for text in ("", "2/4/25", "2025-04-31", "31/4/2025", "April", "1/1/2500", "2/4/2025x"):
+        assert wording.day_of(text) is None, text
+
+
+def test_a_correction_is_warned_of(tmp_path: pathlib.Path) -> None:
+    """Another person, and what may be a priority."""
+    with office_over(tmp_path, town()) as office:
+        register = office.parts.desk.now()
+        cells = corrections.cells_of(register.children[1])
+        found = []
+        others: tuple[dict[str, str], ...] = (
+            {}, {"name": "Ada Abell"}, {"name": "Zoe Young"}, {"looked_after": "yes"})
+        for more in others:
+            command, wrong = corrections.read(register, 1, {**cells, **more})
+            assert not wrong
+            found.append(list(corrections.warnings(register.children[1], command)))
+    assert found == [[], [], ["The names are not alike: is it this child?"],
+                     ["Children who are or were looked after are first in every list:"
+                      " is this right?"]]

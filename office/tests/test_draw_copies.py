@@ -1,0 +1,241 @@
+"""Copies of the register by a unit of the machine, asked for by the application; and restores."""
+import argparse
+import functools
+import json
+import os
+import pathlib
+import sys
+from collections.abc import Callable, Iterator
+from typing import Any
+
+import pytest
+from draw_site import NAME, RAISED, Machine, machine_over, small_register
+from machine import office_restore, programs
+from register_files import Refused
+from served import do_over
+
+from office.web import copies
+
+
+@pytest.fixture(name="register", scope="module")
+def register_fixture(tmp_path_factory: pytest.TempPathFactory) -> pathlib.Path:
+    """The file of a small register."""
+    return small_register(tmp_path_factory)
+
+
+@pytest.fixture(name="small")
+def small_fixture(
+    tmp_path: pathlib.Path, register: pathlib.Path, monkeypatch: pytest.MonkeyPatch
+) -> Iterator[Machine]:
+    """A machine with a small register."""
+    with machine_over(tmp_path, register, monkeypatch) as found:
+        yield found
+
+
+def test_a_copy_is_that_of_the_register(small: Machine, monkeypatch: pytest.MonkeyPatch) -> None:
+    """One that shows something else is refused, as is one of another number, an error of the
+    machine, and no answer.
+    """
+    with small.office() as office:
+        found = office.parts.copies
+        assert found.make("a try") == 1 and found.path(1).exists()
+        assert [(it.number, it.purpose, it.size) for it in found.listed()] == [
+            (1, "a try", found.path(1).stat().st_size)]
+        assert found.register(1).children.keys() == {1, 2, 3, 4, 5}
+        with pytest.raises(Refused, match="there is no copy 7"):
+            found.path(7)
+        do_over(small.address, [RAISED])
+        # from here on the machine does nothing, and its answers are these
+        small.is_ended.set()
+        small.thread.join()
+        old, name = found.path(1), "office-{:06}-2025-03-03T101112.db"
+        answers: list[tuple[dict[str, Any], str]] = [
+            ({"copy": old.name}, "another copy than was asked for"),
+            ({"copy": "../../reg.db"}, "another copy than was asked for"),
+            ({"copy": 7}, "another copy than was asked for"),
+            ({"error": "NotCopied", "why": "the disk is full"}, "the disk is full"),
+            ({"error": "NoNumber", "number": 0}, "does not take the request for a number"),
+            ({"copy": name.format(7)}, "the copy differs from the register"),
+        ]
+        for at, (answer, said) in enumerate(answers, 2):
+            def read(_: object, it: dict[str, Any] = {"number": at, **answer}) -> dict[str, Any]:
+                if it.get("copy") == name.format(7) and old.exists():
+                    old.rename(old.with_name(name.format(7)))
+                return it
+
+            monkeypatch.setattr(copies, "read", read)
+            with pytest.raises(Refused, match=said):
+                found.make("a try")
+        assert len(found.listed()) == 1
+        monkeypatch.setattr(copies, "read", lambda _: {"number": 1, "copy": name.format(1)})
+        monkeypatch.setattr(copies, "ANSWER_SECONDS", 0.2)
+        with pytest.raises(Refused, match="the machine has not answered"):
+            found.make("a try")
+        assert not (small.state / "requests" / "copy").exists()
+
+
+def answer_of(machine: Machine, what: str) -> dict[str, Any]:
+    """What the machine has answered."""
+    found: dict[str, Any] = json.loads((machine.state / "requests" / f"{what}.done").read_text())
+    return found
+
+
+def asked(machine: Machine, what: str, make: Callable[[pathlib.Path], object]) -> dict[str, Any]:
+    """The answer to a request that is made in this way, and is there in one step."""
+    new, count = machine.state / "requests" / "new", machine.answered
+    make(new)
+    new.rename(new.with_name(what))
+    for _ in range(3000):
+        if machine.answered > count:
+            return answer_of(machine, what)
+        machine.is_ended.wait(0.01)
+    raise AssertionError("no answer")
+
+
+WRONG_REQUESTS = {
+    "a path": b"../../etc/passwd", "nothing": b"", "a number and more": b"1; reboot",
+    "zero": b"0", "lines": b"1\n2\n", "too long": b"1" * 70, "minus": b"-1",
+    "Arabic digits": "١".encode(), "a blank": b" 1",
+}
+
+
+@pytest.mark.parametrize("what", ("copy", "restore"))
+def test_the_machine_takes_digits_alone(small: Machine, what: str) -> None:
+    """Anything else is refused by name, its content is not repeated, no link is followed, and the
+    register is served on.
+    """
+    run = small.run
+    for data in WRONG_REQUESTS.values():
+        answer = asked(small, what, functools.partial(pathlib.Path.write_bytes, data=data))
+        assert (answer["error"], answer["number"]) == ("NoNumber", 0)
+        assert answer["why"] == f"the request {what} is no number"
+    secret = small.folder / "secret"
+    secret.write_text("17")
+    makers: list[Callable[[pathlib.Path], object]] = [
+        lambda path: path.symlink_to(secret), lambda path: path.symlink_to("nowhere"),
+        os.mkfifo]
+    for make in makers:
+        answer = asked(small, what, make)
+        assert answer["error"] == "NoFile" and not os.path.lexists(small.state / "requests" / what)
+    if what == "restore":
+        answer = asked(small, what, lambda path: path.write_text("17\n"))
+        assert (answer["error"], answer["number"]) == ("NoCopy", 17)
+    assert small.run is run and secret.read_text() == "17"
+    assert not list((small.backups / NAME).iterdir())
+
+
+def test_the_machine_writes_its_answer_through_no_link(small: Machine) -> None:
+    """A link in the place of the answer is replaced, and what it names stays."""
+    secret = small.folder / "secret"
+    secret.write_text("kept")
+    for name in ("copy.done", ".copy.done"):
+        (small.state / "requests" / name).symlink_to(secret)
+    answer = asked(small, "copy", lambda path: path.write_text("9\n"))
+    assert answer["number"] == 9 and answer["copy"].startswith("office-000009-")
+    assert secret.read_text() == "kept"
+
+
+def test_a_number_that_the_folder_has_is_not_used_again(small: Machine) -> None:
+    """As where the application's own file was lost."""
+    (small.backups / NAME / "office-000041-2025-03-03T101112.db").write_text("")
+    with small.office() as office:
+        assert office.parts.copies.make("a try") == 42
+
+
+def restored_by(machine: Machine, stand_in: str, patch: pytest.MonkeyPatch) -> Any:
+    """Has a stand-in take the place of admissions-restore, and restores copy 1."""
+    path = machine.folder / "stand-in"
+    path.write_text(stand_in, "utf-8")
+    path.chmod(0o755)
+    tools = machine.folder / "tools"
+    patch.setattr(office_restore, "program",
+                  lambda name: str(path if name == "admissions-restore" else tools / name))
+    return asked(machine, "restore", lambda it: it.write_text("1\n"))
+
+
+@pytest.mark.parametrize("when", ("before", "after"))
+def test_a_restore_that_is_killed(
+    small: Machine, monkeypatch: pytest.MonkeyPatch, when: str
+) -> None:
+    """Before it has begun or after it: the answer says which register is there, it is whole, and
+    the next request restores it.
+    """
+    with small.office() as office:
+        office.parts.copies.make("a try")
+        before = office.parts.desk.now()
+        do_over(small.address, [RAISED])
+        real = small.folder / "tools" / "admissions-restore"
+        lines = ["#!/bin/sh", *([f"{real} \"$@\""] if when == "after" else []), "kill -9 $$"]
+        with monkeypatch.context() as patch:
+            answer = restored_by(small, "\n".join(lines), patch)
+        wanted = {"before": "the register is as it was",
+                  "after": "the register is that of the copy"}
+        assert answer["error"] == "NotRestored" and answer["why"].startswith(wanted[when])
+        pan = office.parts.desk.now().schools["OAK"].pan
+        assert pan == {"before": 2, "after": 1}[when]
+        office.parts.copies.restore(1)
+        assert copies.is_same(office.parts.desk.now(), before)
+
+
+class Killed(BaseException):
+    """The unit ends here."""
+
+
+@pytest.mark.parametrize("when", ("before", "after"))
+def test_a_unit_that_is_killed_in_a_restore(
+    small: Machine, monkeypatch: pytest.MonkeyPatch, when: str
+) -> None:
+    """The register is the one or the other, and the request stays: the unit that is started again
+    does it, and answers.
+    """
+    with small.office() as office:
+        office.parts.copies.make("a try")
+        before = office.parts.desk.now()
+        do_over(small.address, [RAISED])
+        small.is_ended.set()
+        small.thread.join()
+        real = programs.call
+
+        def killed(*given: Any, **more: Any) -> Any:
+            if when == "after":
+                real(*given, **more)
+            raise Killed
+
+        given = argparse.Namespace(name=NAME)
+        request = small.state / "requests" / "restore"
+        request.write_text("1\n")
+        with monkeypatch.context() as patch:
+            patch.setattr(office_restore, "call", killed)
+            with pytest.raises(Killed):
+                office_restore.main(given)
+        assert request.exists() and not request.with_name("restore.done").exists()
+        pan = office.parts.desk.now().schools["OAK"].pan
+        assert pan == {"before": 2, "after": 1}[when]
+        assert office_restore.main(given) == 0
+        answer = answer_of(small, "restore")
+        assert (answer["number"], answer["restored"]) == (1, office.parts.copies.path(1).name)
+        assert not request.exists() and copies.is_same(office.parts.desk.now(), before)
+        kept = [it.name for it in (small.lib / NAME).iterdir() if ".db." in it.name]
+        assert len(kept) == 1
+
+
+def test_a_restore_that_leaves_no_register_says_so(
+    small: Machine, monkeypatch: pytest.MonkeyPatch
+) -> None:
+    """Where the file is half written no program opens it, and the same restore is done again."""
+    with small.office() as office:
+        office.parts.copies.make("a try")
+        before = office.parts.desk.now()
+        do_over(small.address, [RAISED])
+        half = ["#!" + sys.executable, "import sys",
+                r"open(sys.argv[2], 'r+b').write(b'restoring 00000\n')", "sys.exit(3)"]
+        with monkeypatch.context() as patch:
+            patch.setattr("machine.office_requests.start", lambda _: None)
+            answer = restored_by(small, "\n".join(half), patch)
+        assert answer["error"] == "NotRestored"
+        assert answer["why"].startswith("no program opens the register, and the copy must be")
+        assert small.run is None
+        with monkeypatch.context() as patch:
+            patch.setattr("machine.office_requests.stop", lambda _: None)
+            office.parts.copies.restore(1)
+        assert copies.is_same(office.parts.desk.now(), before)

@@ -1,0 +1,257 @@
+"""The lots of a draw: typed, taken from a sheet, drawn by a seed, and sealed."""
+import csv
+import hashlib
+import io
+import pathlib
+import zipfile
+from collections.abc import Iterator
+
+import pytest
+from applications import ORIGIN
+from draw_site import (
+    HAL, SUP, Fields, Machine, at_lots, begun, brought, lot_of, machine_over, small_register, typed,
+    version,
+)
+from register_files import Refused
+
+from office.model import Pair
+from office.web import draws_lots, draws_sheet
+from office.web.draws_drafts import Typed
+
+
+@pytest.fixture(name="register", scope="module")
+def register_fixture(tmp_path_factory: pytest.TempPathFactory) -> pathlib.Path:
+    """The file of a small register."""
+    return small_register(tmp_path_factory)
+
+
+@pytest.fixture(name="small")
+def small_fixture(
+    tmp_path: pathlib.Path, register: pathlib.Path, monkeypatch: pytest.MonkeyPatch
+) -> Iterator[Machine]:
+    """A machine with a small register."""
+    with machine_over(tmp_path, register, monkeypatch) as found:
+        yield found
+
+
+def seeded(seed: str, draw: int, pair: Pair) -> int:
+    """The lot of a pair by a seed, as the page says it."""
+    text = f"{seed}\n{draw}\n{pair[0]}\n{pair[1]}\n"
+    return int(hashlib.sha256(text.encode()).hexdigest()[:8], 16)
+
+
+def test_sealed_lots_cannot_be_changed(small: Machine) -> None:
+    """Neither by the table, nor a sheet, a seed, or a second seal; and a change of the store is
+    found at the rehearsal.
+    """
+    with small.office() as office:
+        number = begun(office)
+        brought(office, number, "sealed")
+        sup = at_lots(office)
+        before = office.parts.lots.sheet(number)[1].text()
+        name = "lot-OAK-1-0"
+        page = sup.post(f"/lots/{number}", {name: "5", f"was-{name}": ""})
+        assert page.status_code == 409 and "cannot be changed" in page.text
+        assert sup.post(f"/lots/{number}/seed", {"seed": "1"}).status_code == 409
+        sheet = (io.BytesIO(b"OAK,1,5\n"), "a.csv")
+        assert sup.post(f"/lots/{number}/sheet", {"file": sheet}).status_code == 409
+        digest = office.parts.draws.get(number).digest
+        again = {"seen": str(version(office, number)), "digest": digest}
+        assert sup.post(f"/lots/{number}/seal", again).status_code == 409
+        assert office.parts.lots.sheet(number)[1].text() == before
+        with office.parts.store.writing() as db:
+            db.execute("UPDATE lot SET text='77' WHERE school='OAK' AND child=1")
+        with pytest.raises(Refused, match="the lots are not those that were sealed. The draw must"):
+            office.parts.draws.rehearse(HAL, number, version(office, number))
+
+
+def test_what_is_wrong_is_marked_at_its_cell(small: Machine) -> None:
+    """A lot of another pair, a text, a number that is too large; each is kept as it was typed, and
+    nothing is sealed.
+    """
+    with small.office() as office:
+        number = begun(office)
+        brought(office, number, "lots")
+        sup = at_lots(office)
+        given = {"lot-OAK-1-0": "7", "lot-OAK-2-0": " 007 ", "lot-ELM-1-0": "7",
+                 "lot-OAK-3-0": "<b>x</b>", "lot-OAK-4-0": "4294967296", "lot-OAK-5-0": "-1",
+                 "lot-ELM-2-0": "٣", "lot-ELM-3-0": "=1+1", "lot-NONE-3-0": "1",
+                 "lot-OAK-1-9": "1"}
+        page = sup.post(f"/lots/{number}", given)
+        assert page.status_code == 200 and "<b>x" not in page.text
+        fields, no_number = Fields(page.text), "has a lot that is no number"
+        assert {it: fields.said(it) for it in fields.values if it.startswith("lot-")} == {
+            "lot-OAK-1-0": "has the lot of child 2", "lot-OAK-2-0": "has the lot of child 1",
+            "lot-OAK-3-0": no_number, "lot-ELM-1-0": "",
+            "lot-OAK-4-0": "has a lot above 4294967295", "lot-OAK-5-0": no_number,
+            "lot-ELM-2-0": no_number, "lot-ELM-3-0": no_number,
+            "lot-ELM-4-0": "has no lot yet", "lot-ELM-5-0": "has no lot yet",
+        }
+        assert (fields.values["lot-OAK-2-0"], fields.values["lot-OAK-3-0"]) == ("7", "<b>x</b>")
+        whole = sup.get(f"/lots/{number}/seal")
+        assert "Seal the lots of" not in whole.text and "9 lots are missing or wrong." in whole.text
+        with pytest.raises(Refused, match="2 lots are missing and 7 lots are wrong"):
+            office.parts.lots.seal(SUP, number, version(office, number), "")
+
+
+def test_two_at_the_lots_see_each_other(small: Machine) -> None:
+    """What one has saved at a cell is not replaced by the page of another: both are shown."""
+    with small.office() as office:
+        number = begun(office)
+        brought(office, number, "lots")
+        one, two = at_lots(office), at_lots(office, "sue")
+        one.post(f"/lots/{number}", {"lot-OAK-1-0": "1", "was-lot-OAK-1-0": ""})
+        given = {"lot-OAK-1-0": "8", "was-lot-OAK-1-0": "", "lot-OAK-2-0": "2",
+                 "was-lot-OAK-2-0": ""}
+        page = two.post(f"/lots/{number}", given)
+        fields = Fields(page.text)
+        assert page.status_code == 409
+        assert (fields.values["lot-OAK-1-0"], fields.said("lot-OAK-1-0")) == (
+            "8", "'1' is saved here")
+        assert fields.values["lot-OAK-2-0"] == "2"
+        sheet = office.parts.lots.sheet(number)[1]
+        assert sheet.cells()[("OAK", 1), 0] == "1" and sheet.cells()[("OAK", 2), 0] == ""
+        again = {it: value for it, value in fields.values.items() if "lot-" in it}
+        assert two.post(f"/lots/{number}", again).status_code == 200
+        sheet = office.parts.lots.sheet(number)[1]
+        assert sheet.cells()[("OAK", 1), 0] == "8" and sheet.cells()[("OAK", 2), 0] == "2"
+        # an untouched cell does not take back what somebody else saved there
+        one.post(f"/lots/{number}", {"lot-OAK-1-0": "1", "was-lot-OAK-1-0": "1",
+                                     "lot-OAK-3-0": "3", "was-lot-OAK-3-0": ""})
+        assert office.parts.lots.sheet(number)[1].cells()[("OAK", 1), 0] == "8"
+
+
+def test_a_seal_is_of_the_lots_that_were_shown(small: Machine) -> None:
+    """A lot that is saved between the page and the button is not sealed unseen."""
+    with small.office() as office:
+        number = begun(office)
+        brought(office, number, "lots")
+        typed(office, number, lot_of)
+        sup = at_lots(office)
+        fields = Fields(sup.get(f"/lots/{number}/seal").text).values
+        cell = ("OAK", 1), 0
+        stored = office.parts.lots.sheet(number)[1].cells()[cell]
+        office.parts.lots.save(SUP, number, {cell: Typed(stored, "98")})
+        given = {"seen": fields["seen"], "digest": fields["digest"]}
+        page = sup.post(f"/lots/{number}/seal", given)
+        assert page.status_code == 409 and "have changed since this page was shown" in page.text
+        assert office.parts.draws.get(number).state == "lots"
+
+
+def test_a_seed_draws_those_that_decide_nothing(small: Machine) -> None:
+    """Each by its own number, and never one that was typed or that only a lot can separate."""
+    with small.office() as office:
+        number = begun(office)
+        brought(office, number, "lots")
+        cell = ("OAK", 4), 0
+        office.parts.lots.save(SUP, number, {cell: Typed("", "12")})
+        assert office.parts.lots.draw_by_seed(SUP, number, "1 2 3") == 5
+        cells = office.parts.lots.sheet(number)[1].cells()
+        assert {pair: text for (pair, _), text in cells.items()} == {
+            ("OAK", 1): str(seeded("1 2 3", 1, ("OAK", 1))), ("OAK", 2): "", ("OAK", 3): "",
+            ("OAK", 4): "12", ("OAK", 5): str(seeded("1 2 3", 1, ("OAK", 5))),
+            ("ELM", 1): str(seeded("1 2 3", 1, ("ELM", 1))), ("ELM", 2): "", ("ELM", 3): "",
+            ("ELM", 4): str(seeded("1 2 3", 1, ("ELM", 4))),
+            ("ELM", 5): str(seeded("1 2 3", 1, ("ELM", 5)))}
+        for seed in ("", "  ", "a\nb", "x" * 201, "\x1b[2J"):
+            with pytest.raises(Refused, match="a seed is a line"):
+                office.parts.lots.draw_by_seed(SUP, number, seed)
+
+
+def test_a_seed_with_two_equal_lots_is_refused(
+    small: Machine, monkeypatch: pytest.MonkeyPatch
+) -> None:
+    """Which no seed that anybody has found leads to: so the numbers are made equal here."""
+    monkeypatch.setattr("office.web.draws_drafts.by_seed", lambda *_: 5)
+    with small.office() as office:
+        number = begun(office)
+        brought(office, number, "lots")
+        with pytest.raises(Refused, match="1 and 4 would have the same lot at ELM: take another"):
+            office.parts.lots.draw_by_seed(SUP, number, "1")
+        assert not any(office.parts.lots.sheet(number)[1].cells().values())
+
+
+def workbook(rows: list[list[object]]) -> bytes:
+    """A workbook of one sheet."""
+    import openpyxl
+    book = openpyxl.Workbook()
+    for row in rows:
+        book.active.append(row)
+    out = io.BytesIO()
+    book.save(out)
+    return out.getvalue()
+
+
+def test_lots_come_from_a_sheet(small: Machine) -> None:
+    """The sheet that the page gives, filled in a spreadsheet: as a workbook and as CSV."""
+    with small.office() as office:
+        number = begun(office)
+        brought(office, number, "lots")
+        sup = at_lots(office)
+        given = sup.get(f"/lots/{number}/sheet.csv")
+        rows = list(csv.reader(io.StringIO(given.data.decode("utf-8-sig"))))
+        assert rows[0] == ["school", "child", "lot"] and len(rows) == 11
+        filled: list[list[object]] = [list(rows[0])]
+        filled += [[*row[:2], 50 + at] for at, row in enumerate(rows[1:])]
+        path = f"/lots/{number}/sheet"
+        page = sup.post(path, {"file": (io.BytesIO(workbook(filled)), "lots.xlsx")})
+        assert page.status_code == 200 and "10 lots of draw 1: 10 new or changed." in page.text
+        want = {(str(row[0]), int(str(row[1]))): str(row[2]) for row in filled[1:]}
+        cells = office.parts.lots.sheet(number)[1].cells()
+        assert {pair: text for (pair, _), text in cells.items()} == want
+        part = b"OAK;1;900\r\nOAK;2;901\r\n"
+        page = sup.post(path, {"file": (io.BytesIO(part), "x.csv")})
+        assert "2 lots of draw 1: 2 new or changed." in page.text
+        found = sup.client.get(f"/lots/{number}/sheet.xlsx", base_url=ORIGIN)
+        assert zipfile.is_zipfile(io.BytesIO(found.data))
+
+
+WRONG_SHEETS = {
+    "a duplicate": (b"OAK,1,5\nOAK,2,5\n", "row 2 has a lot that row 1 has at OAK: 5"),
+    "no number": (b"OAK,1,<b>\n", "row 1 has a lot that is no number: &lt;b&gt;"),
+    "another pair": (b"OAK,1,5\nOAK,99,6\n", "row 2 is none of the pairs: OAK 99"),
+    "a pair twice": (b"OAK,1,5\nOAK,1,6\n", "row 2 has a pair that row 1 has: OAK 1"),
+    "no lot": (b"OAK,1\nOAK,2\n", "the file has no lot of these pairs"),
+    "a web page": (b"<html><body>1</body></html>", "a web page (HTML)"),
+    "a register": (b"SQLite format 3\0" + bytes(200), "a register, or another database"),
+    "no archive": (b"PK\x03\x04" + bytes(200), "the file is no workbook that can be read"),
+    "nothing": (b"", "the file has no lot of these pairs"),
+    "an old workbook": (b"\xd0\xcf\x11\xe0" + bytes(200), "a workbook of the older kind"),
+    "too many columns": (b"x," * 100_000, "has too many columns"),
+}
+
+
+def test_wrong_sheets_are_refused(small: Machine) -> None:
+    """With each error and its row, and nothing is taken."""
+    with small.office() as office:
+        number = begun(office)
+        brought(office, number, "lots")
+        sup = at_lots(office)
+        for what, (data, said) in WRONG_SHEETS.items():
+            page = sup.post(f"/lots/{number}/sheet", {"file": (io.BytesIO(data), "<i>.csv")})
+            assert page.status_code == 409 and said in page.text, (what, page.text)
+        page = sup.post(f"/lots/{number}/sheet", {})
+        assert page.status_code == 409 and "choose a file" in page.text
+        assert not any(office.parts.lots.sheet(number)[1].cells().values())
+
+
+def test_a_sheet_that_fills_the_memory_is_refused() -> None:
+    """A workbook of a few kilobytes that would unpack to half a gigabyte, and a large file."""
+    out = io.BytesIO()
+    with zipfile.ZipFile(out, "w", zipfile.ZIP_DEFLATED) as archive:
+        archive.writestr("[Content_Types].xml", "<Types/>")
+        archive.writestr("xl/worksheets/sheet1.xml", b" " * 500_000_000)
+    assert len(out.getvalue()) < 1_000_000
+    for data in (out.getvalue(), b"OAK,1,5\n" * 2_000_000):
+        with pytest.raises(Refused):
+            draws_sheet.rows_of(data)
+
+
+def test_lots_are_read_with_the_pairs_that_the_register_says(small: Machine) -> None:
+    """The groups are those that class and metres of the register do not separate."""
+    with small.office() as office:
+        register = office.parts.desk.now()
+        pairs = sorted(register.pairs)
+        assert draws_lots.ties_in(register, pairs) == {
+            it: {"ELM": 1, "OAK": 2}[it[0]] if it[1] in (2, 3) else 0 for it in pairs}
+        assert pairs == [(code, it) for code in ("ELM", "OAK") for it in range(1, 6)]

@@ -1,0 +1,874 @@
+"""The draw with two persons: on the real program, with the outcome worked out here by deferred
+acceptance as Gale and Shapley described it.
+"""
+import dataclasses
+import datetime
+import hashlib
+import json
+import math
+import pathlib
+import random
+import re
+import shutil
+import sqlite3
+import sys
+from collections.abc import Iterator
+from typing import Any
+
+import pytest
+from applications import ORIGIN, Site
+from conftest import PROGRAM, apply, child, make, school
+from draw_site import (
+    HAL, JANE, NAME, OFFER_DAY, RAISED, SUP, Command, Fields, Machine, Person, after_round, begun,
+    brought, first_day, lot_of, machine_over, sealed, small_register, steps, typed, version,
+)
+from register_files import Refused
+from served import do_over
+
+from office import model
+from office.model import Pair
+from office.web import copies, draws_checks, draws_outcome, effects
+from office.web.draws_terms import Terms
+from office.web.rehearsal import Rehearsal
+
+CODES = "ABCD"
+
+
+class Town:
+    """A town of which everything is known here: four schools on a line, and children on a coarse
+    grid, so that distances are often equal.
+    """
+
+    def __init__(self, children: int, seed: int = 7) -> None:
+        chance = random.Random(seed)
+        self.pans = {code: 3 + at for at, code in enumerate(CODES)}
+        self.criteria: dict[str, list[str]] = {
+            "A": ["sibling", "within:900"], "B": [], "C": ["within:400"], "D": []}
+        self.places = {code: 400 * at for at, code in enumerate(CODES)}
+        self.homes = {it: 100 * chance.randrange(12) for it in range(1, children + 1)}
+        self.siblings = {it: ["A"] if it % 7 == 0 else [] for it in self.homes}
+        self.lists = {it: chance.sample(CODES, chance.randrange(1, 5)) for it in self.homes}
+
+    def commands(self) -> list[Command]:
+        """All of it as commands."""
+        found = [school(code, self.pans[code], self.places[code], self.criteria[code])
+                 for code in CODES]
+        names = ("Ann Abel", "=1+1", "O'Neil, \"Bo\"", "<script>alert(1)</script>", "محمد")
+        for it, home in self.homes.items():
+            found.append(child(it, home, f"{names[it % 5]} {it}", siblings=self.siblings[it]))
+            found.append(apply(it, self.lists[it]))
+        return found
+
+    def rank(self, code: str, number: int) -> tuple[int, int]:
+        """Class and metres of a child at a school."""
+        metres = math.isqrt((self.places[code] - self.homes[number]) ** 2)
+        met = [at for at, it in enumerate(self.criteria[code], 1)
+               if (it == "sibling" and code in self.siblings[number])
+               or (it.startswith("within:") and metres <= int(it.removeprefix("within:")))]
+        return min(met, default=len(self.criteria[code]) + 1), metres
+
+    def pairs(self) -> list[Pair]:
+        """Each school with each child that wants it."""
+        return sorted((code, it) for it, listed in self.lists.items() for code in listed)
+
+    def decided(self) -> set[Pair]:
+        """The pairs that only a lot can separate from another one of the same school."""
+        pairs = self.pairs()
+        return {it for it in pairs for other in pairs
+                if it != other and it[0] == other[0] and self.rank(*it) == self.rank(*other)}
+
+    def asks(self, own: dict[int, str], left: set[Pair]) -> dict[int, list[str]]:
+        """The schools that each child asks: of its list those that it did not leave, down to the
+        one that it has.
+        """
+        found = {}
+        for number, listed in self.lists.items():
+            has = own.get(number)
+            above = listed[:listed.index(has)] if has else listed
+            found[number] = [it for it in above if (it, number) not in left]
+            found[number] += [has] if has else []
+        return found
+
+    def allotted(
+        self, lots: dict[Pair, int], own: dict[int, str] | None = None,
+        left: frozenset[Pair] = frozenset(),
+    ) -> dict[int, str | None]:
+        """The school of each child by deferred acceptance: children ask the schools of their lists
+        in turn, and a school that has too many turns away the one that ranks last. A child that has
+        a place ranks first there.
+        """
+        had = own or {}
+        held: dict[str, list[int]] = {it: [] for it in CODES}
+        asks = self.asks(had, set(left))
+        turn, free = dict.fromkeys(asks, 0), list(asks)
+
+        def key(code: str, number: int) -> tuple[int, ...]:
+            if had.get(number) == code:
+                return (-1,)
+            return (*self.rank(code, number), lots[code, number])
+
+        while free:
+            number = free.pop()
+            if turn[number] == len(asks[number]):
+                continue
+            code = asks[number][turn[number]]
+            turn[number] += 1
+            held[code].append(number)
+            if len(held[code]) > self.pans[code]:
+                last = max(held[code], key=lambda it: key(code, it))
+                held[code].remove(last)
+                free.append(last)
+        found = {number: code for code, there in held.items() for number in there}
+        return {it: found.get(it) for it in asks}
+
+
+def seeded(seed: str, draw: int, pair: Pair) -> int:
+    """The lot of a pair by a seed, as the page says it."""
+    text = f"{seed}\n{draw}\n{pair[0]}\n{pair[1]}\n"
+    return int(hashlib.sha256(text.encode()).hexdigest()[:8], 16)
+
+
+@pytest.fixture(name="town", scope="module")
+def town_fixture() -> Town:
+    """A town of 40 children."""
+    return Town(40)
+
+
+@pytest.fixture(name="machine")
+def machine_fixture(
+    tmp_path: pathlib.Path, town: Town, monkeypatch: pytest.MonkeyPatch
+) -> Iterator[Machine]:
+    """A machine with the register of that town, before its first round."""
+    make(tmp_path / "reg.db", town.commands())
+    with machine_over(tmp_path, tmp_path / "reg.db", monkeypatch) as found:
+        yield found
+
+
+@pytest.fixture(name="register", scope="module")
+def register_fixture(tmp_path_factory: pytest.TempPathFactory) -> pathlib.Path:
+    """The file of a small register."""
+    return small_register(tmp_path_factory)
+
+
+@pytest.fixture(name="small")
+def small_fixture(
+    tmp_path: pathlib.Path, register: pathlib.Path, monkeypatch: pytest.MonkeyPatch
+) -> Iterator[Machine]:
+    """A machine with a small register."""
+    with machine_over(tmp_path, register, monkeypatch) as found:
+        yield found
+
+
+def test_a_round_by_five_hands(machine: Machine, town: Town) -> None:
+    """From the begin to the end through the screens: the schools are those of deferred acceptance
+    with the lots that were typed and drawn by a seed.
+    """
+    decided, lots = town.decided(), {it: seeded("05 17 23", 1, it) for it in town.pairs()}
+    assert 4 < len(decided) < len(lots)
+    chance = random.Random(3)
+    numbers = chance.sample(range(1000), len(decided))
+    lots.update(zip(sorted(decided), numbers))
+    with machine.office() as office:
+        first_day(office)
+        hal, jane = Person(office, "hal", "head"), Person(office, "jane", "officer")
+        sup = Person(office, "sup", "supervisor").browser
+        hal.browser.get("/draws/")
+        found = hal.browser.post("/draws/", {"kind": "round", "day": OFFER_DAY})
+        assert (found.status_code, found.location) == (303, "/draws/1")
+        page = hal.browser.get("/draws/1").text
+        assert "Monday 3 March 2025." in page and "Is this right?" not in page
+        assert f"{len(lots)} pairs of 40 children and 4 schools." in page
+        assert hal.step(1, "close").status_code == 303
+        assert hal.step(1, "copy").status_code == 303
+        page = sup.get("/lots/")
+        assert page.status_code == 200 and "Draw 1: a round" not in page.text
+        assert hal.step(1, "give").status_code == 303
+        assert sup.get("/").location == "/lots/"
+        assert 'href="/lots/1"' in sup.get("/lots/").text
+        first = Fields(sup.get("/lots/1").text)
+        fields = [it for it in first.values if it.startswith("lot-")]
+        parts = [it.split("-") for it in fields[:len(decided)]]
+        assert {(it[1], int(it[2])) for it in parts} == decided
+        given = {f"lot-{code}-{it}-0": str(lots[code, it]) for code, it in sorted(decided)}
+        assert "Abel" not in sup.get("/lots/1").text
+        assert f"{len(decided)} lots saved." in sup.post("/lots/1", given).text
+        page = sup.post("/lots/1/seed", {"seed": " 05 17 23"})
+        assert f"{len(lots) - len(decided)} lots are drawn by the seed." in page.text
+        values = Fields(sup.get("/lots/1/seal").text).values
+        text = "".join([f"draw 1: a round, {OFFER_DAY}\n",
+                        *(f"{code} {it} {lots[code, it]}\n" for code, it in sorted(lots))])
+        assert values["digest"] == hashlib.sha256(text.encode()).hexdigest()
+        given = {"seen": values["seen"], "digest": values["digest"]}
+        assert sup.post("/lots/1/seal", given).status_code == 303
+        assert sup.get("/lots/1/sealed.txt").text == text
+        assert hal.browser.get("/draws/1/sealed.txt").text == text
+        assert hal.step(1, "rehearse").status_code == 303
+        wanted = town.allotted(lots)
+        shown = hal.browser.get("/draws/1").text
+        placed = sum(it is not None for it in wanted.values())
+        assert f"<dt>A new place</dt><dd>{placed} children</dd>" in shown
+        assert f"<dt>No place</dt><dd>{40 - placed} children</dd>" in shown
+        assert "<bdi>&lt;script&gt;alert(1)&lt;/script&gt; 3</bdi>" in shown
+        assert hal.step(1, "confirm").status_code == 409
+        assert jane.step(1, "confirm").status_code == 303
+        assert office.parts.desk.now().draws == []
+        assert hal.step(1, "send").status_code == 303
+        assert hal.step(1, "audit").status_code == 303
+        assert hal.step(1, "open").status_code == 303
+        register = office.parts.desk.now()
+        assert register.outcomes[1] == wanted
+        assert register.lots(1) == lots
+        assert {it: place.school for it, place in register.places.items()} == {
+            it: code for it, code in wanted.items() if code}
+        draw = office.parts.draws.get(1)
+        assert [(it.state, it.who) for it in draw.done] == [
+            ("begun", "hal"), ("closed", "hal"), ("copied", "hal"), ("lots", "hal"),
+            ("sealed", "sup"), ("rehearsed", "hal"), ("confirmed", "jane"), ("sending", "hal"),
+            ("audited", "hal"), ("opened", "hal")]
+        whats = [it.what for it in office.parts.history.entries if it.about.get("id") == 1]
+        assert whats == [
+            "closed the register", "copied the register", "gave the pairs to the supervisor",
+            "saved lots", "saved lots", "sealed the lots", "rehearsed", "confirmed", "held",
+            "copied the register", "audited", "opened the register"]
+        names = [it.name for it in office.parts.copies.listed()]
+        purposes = [it.purpose for it in office.parts.copies.listed()]
+        assert purposes == ["after draw 1", "before draw 1"]
+        assert all(re.fullmatch(r"office-00000[12]-\d{4}-\d\d-\d\dT\d{6}\.db", it) for it in names)
+        assert [(machine.backups / NAME / it).stat().st_mode & 0o777 for it in names] == [0o640] * 2
+
+
+def test_a_second_round(machine: Machine, town: Town) -> None:
+    """Each child keeps its place or moves to a school that it prefers; by new lots."""
+    with machine.office() as office:
+        number = begun(office)
+        brought(office, number, "opened")
+        first = town.allotted({it: lot_of(it, 0) for it in town.pairs()})
+        assert office.parts.desk.now().outcomes[1] == first
+        own = {it: code for it, code in first.items() if code}
+        left = frozenset((own[it], it) for it in sorted(own)[::3])
+        do_over(machine.address, [{"cmd": "decline", "child": it, "school": code}
+                                  for code, it in sorted(left)])
+        own = {it: code for it, code in own.items() if (code, it) not in left}
+        number = begun(office, day="2025-05-12")
+        brought(office, number, "lots")
+        pairs = [(code, it) for it, asks in town.asks(own, set(left)).items() for code in asks
+                 if own.get(it) != code]
+        _, sheet = office.parts.lots.sheet(number)
+        assert sorted(row.pair for row in sheet.rows) == sorted(pairs)
+        lots = dict(zip(sorted(pairs), random.Random(5).sample(range(10_000), len(pairs))))
+        typed(office, number, lambda pair, _: lots[pair])
+        sealed(office, number)
+        brought(office, number, "opened")
+        wanted = town.allotted(lots, own, left)
+        register = office.parts.desk.now()
+        assert register.outcomes[2] == wanted and register.lots(2) == lots
+        found = [draws_outcome.of_child(it)
+                 for it in office.parts.draws.get(number).rehearsal["outcomes"]]
+        assert {it.child: (it.had or None, it.has or None) for it in found} == {
+            it: (own.get(it), wanted[it]) for it in town.lists}
+        counts = draws_outcome.counts(office.parts.draws.get(number).rehearsal["outcomes"])
+        moved = [it for it in own if wanted[it] != own[it]]
+        assert moved and counts == {
+            "a new place": sum(bool(code) for it, code in wanted.items() if it not in own),
+            "moves": len(moved), "keeps its place": len(own) - len(moved),
+            "no place": sum(code is None for code in wanted.values())}
+        schools = {it.school: it for it in draws_outcome.by_school(
+            register, office.parts.draws.get(number).rehearsal["outcomes"])}
+        for code in CODES:
+            new = [it for it in wanted if wanted[it] == code and own.get(it) != code]
+            assert (schools[code].offers, schools[code].moves, schools[code].kept,
+                    schools[code].gone) == (
+                len(new), sum(it in own for it in new),
+                sum(own[it] == wanted[it] == code for it in own),
+                sum(own[it] == code != wanted[it] for it in own))
+
+
+def test_three_fills_in_one_closure(small: Machine) -> None:
+    """Each offers a place to the first by class, metres and the lot of its own draw; who has a
+    place by an earlier fill of the row takes no part in the next.
+    """
+    with small.office() as office:
+        after_round(small, office)
+        number = begun(office, "OAK", 3, "2025-04-07")
+        brought(office, number, "lots")
+        _, sheet = office.parts.lots.sheet(number)
+        assert [(row.pair, row.tie) for row in sheet.rows] == [
+            (("OAK", 2), 1), (("OAK", 3), 1), (("OAK", 4), 0), (("OAK", 5), 0)]
+        # (at 200 metres the lots of each draw decide: first child 3, and then child 2 is alone)
+        lots = {2: (9, 8, 1), 3: (5, 9, 2), 4: (1, 1, 3), 5: (2, 2, 4)}
+        typed(office, number, lambda pair, at: lots[pair[1]][at])
+        sealed(office, number)
+        brought(office, number, "opened")
+        register = office.parts.desk.now()
+        assert [(it.number, it.school, str(it.day)) for it in register.draws[1:]] == [
+            (2, "OAK", "2025-04-07"), (3, "OAK", "2025-04-07"), (4, "OAK", "2025-04-07")]
+        assert [register.outcomes[it] for it in (2, 3, 4)] == [{3: "OAK"}, {2: "OAK"}, {4: "OAK"}]
+        assert register.lots(3) == {("OAK", 2): 8, ("OAK", 4): 1, ("OAK", 5): 2}
+        assert register.lots(4) == {("OAK", 4): 3, ("OAK", 5): 4}
+        draw = office.parts.draws.get(number)
+        assert draw.terms.in_words == "draws 2 to 4: 3 fills at OAK"
+        assert [it[:4] for it in draw.rehearsal["outcomes"]] == [
+            [2, 3, "ELM", "OAK"], [3, 2, "ELM", "OAK"], [4, 4, "ELM", "OAK"]]
+        command = {"cmd": "fill", "draw": 3, "school": "OAK", "day": "2025-04-07",
+                   "lots": [8, 1, 2]}
+        assert effects.is_done(register, command)
+        others: list[dict[str, Any]] = [
+            {"school": "ELM"}, {"day": "2025-04-08"}, {"lots": [8, 2, 1]}, {"draw": 5}]
+        for other in others:
+            assert not effects.is_done(register, {**command, **other}), other
+        whole = {name: it for name, it in command.items() if name != "school"}
+        assert not effects.is_done(register, {**whole, "cmd": "round"})
+
+
+def test_nobody_else_records_while_it_is_closed(small: Machine) -> None:
+    """From the close to the end, by whatever way; and what is closed is said, by whom and since
+    when.
+    """
+    with small.office() as office:
+        number, jane = begun(office), office.browser("jane")
+        command = {"cmd": "raise_pan", "school": "ELM", "pan": 10}
+        for state in ("closed", "copied", "lots", "sealed", "rehearsed", "confirmed", "sending",
+                      "audited"):
+            brought(office, number, state)
+            found = jane.command(command)
+            assert found.status_code == 503
+            assert re.fullmatch(r"Closed for draw 1 by hal since \d\d:\d\d\.", found.json["reason"])
+            rows: Any = jane.client.post(
+                "/import", base_url=ORIGIN, headers={"Origin": ORIGIN}, data="child\n",
+                content_type="text/csv")
+            assert rows.status_code == 503 and "Closed for draw 1" in rows.json["reason"]
+        assert "Closed for draw 1 by hal since" in jane.get("/").text
+        assert office.parts.desk.now().schools["ELM"].pan == 9
+        brought(office, number, "opened")
+        assert jane.command(command).json == {"done": True}
+
+
+def test_a_round_cannot_be_sent_as_a_command(small: Machine) -> None:
+    """Neither by who may record nor by who may hold draws."""
+    with small.office() as office:
+        for name, role in (("jane", "officer"), ("hal", "head")):
+            for command in ({"cmd": "round", "draw": 1, "day": OFFER_DAY, "lots": list(range(10))},
+                            {"cmd": "fill", "draw": 1, "day": OFFER_DAY, "school": "OAK",
+                             "lots": [1]}):
+                found = office.browser(name, role).command(command)
+                assert found.status_code == 503 and "a second person" in found.json["reason"]
+        assert office.parts.desk.now().draws == []
+
+
+RIGHTS = [
+    ("GET /draws/", "head officer reader"), ("GET /draws/1", "head officer reader"),
+    ("GET /draws/1/sealed.txt", "head officer reader"), ("POST /draws/", "head"),
+    *((f"POST /draws/1/{it}", "head") for it in (
+        "close", "copy", "give", "rehearse", "send", "audit", "open", "give-up", "ask-restore",
+        "keep")),
+    ("POST /draws/1/second/confirm", "head officer"),
+    ("POST /draws/1/second/restore", "head officer"),
+    *((f"GET /lots/{it}", "supervisor") for it in (
+        "", "1", "1/seal", "1/sealed.txt", "1/sheet.csv", "1/sheet.xlsx")),
+    *((f"POST /lots/{it}", "supervisor") for it in ("1", "1/seed", "1/sheet", "1/seal")),
+]
+
+
+def test_each_role_may_do_what_is_its_own(small: Machine) -> None:
+    """The head holds draws, the head and officers confirm, and only the supervisor sees lots
+    before they are sealed.
+    """
+    with small.office() as office:
+        number = begun(office)
+        brought(office, number, "lots")
+        for role in ("head", "officer", "supervisor", "reader", "administrator", "school-OAK"):
+            browser = office.browser(f"kim.{role.lower()}", role)
+            for what, roles in RIGHTS:
+                method, path = what.split()
+                found = browser.client.open(
+                    path, method=method, base_url=ORIGIN, headers={"Origin": ORIGIN},
+                    data={"form": browser.secret, "seen": "0"} if method == "POST" else None)
+                assert (found.status_code == 403) == (role not in roles.split()), (role, what)
+        assert office.parts.draws.get(number).state == "lots"
+
+
+def test_the_second_person_is_another(small: Machine) -> None:
+    """Who began the draw does not confirm it, nor does who sealed the lots; and who began it does
+    not seal them, whatever their role is now.
+    """
+    with small.office() as office:
+        number = begun(office)
+        brought(office, number, "lots")
+        typed(office, number, lot_of)
+        digest = office.parts.lots.sheet(number)[1].digest()
+        at = version(office, number)
+        with pytest.raises(Refused, match="hal began this draw: somebody else seals the lots"):
+            office.parts.lots.seal(HAL, number, at, digest)
+        brought(office, number, "rehearsed")
+        at = version(office, number)
+        with pytest.raises(Refused, match="hal began this draw: somebody else confirms it"):
+            office.parts.draws.confirm(HAL, number, at)
+        with pytest.raises(Refused, match="sup sealed the lots: somebody else confirms the draw"):
+            office.parts.draws.confirm(SUP, number, at)
+        office.parts.draws.confirm(JANE, number, at)
+        assert office.parts.draws.get(number).state == "confirmed"
+
+
+def test_a_stale_page_does_nothing(small: Machine) -> None:
+    """A page that was shown before the draw changed confirms nothing, and says who changed it."""
+    with small.office() as office:
+        jane = Person(office, "jane", "officer")
+        number = begun(office)
+        brought(office, number, "rehearsed")
+        seen = Fields(jane.browser.get(f"/draws/{number}").text).values["seen"]
+        office.parts.draws.give_up(HAL, number, version(office, number))
+        found = jane.press(number, seen, "confirm")
+        assert found.status_code == 409
+        assert "hal brought it to the state &#39;given up&#39; at " in found.text
+        other = begun(office)
+        brought(office, other, "rehearsed")
+        assert jane.press(other, "1", "confirm").status_code == 409
+        assert office.parts.draws.get(other).state == "rehearsed"
+        assert jane.press(other, "x", "confirm").status_code == 400
+        assert jane.press(other, seen, "no-step").status_code in (403, 404)
+
+
+def behind(office: Site, machine: Machine, number: int, state: str, command: Command) -> None:
+    """Brings a draw to a state, and has a command done behind it."""
+    brought(office, number, state)
+    do_over(machine.address, [command])
+
+
+LEFT = {"cmd": "name_plan", "child": 5, "school": "ELM"}
+
+
+def test_a_register_that_changed_behind_is_refused(small: Machine) -> None:
+    """After the seal by other pairs, or anything else; after the confirmation, before it is sent;
+    and between two fills.
+    """
+    with small.office() as office:
+        number = begun(office)
+        behind(office, small, number, "sealed", LEFT)
+        with pytest.raises(Refused, match=r"wants no lot any more for ELM 5 and OAK 5\. The draw"):
+            office.parts.draws.rehearse(HAL, number, version(office, number))
+        office.parts.draws.give_up(HAL, number, version(office, number))
+        number = begun(office)
+        behind(office, small, number, "sealed", RAISED)
+        with pytest.raises(Refused, match=r"the register has changed since it was copied\. The dr"):
+            office.parts.draws.rehearse(HAL, number, version(office, number))
+        office.parts.draws.give_up(HAL, number, version(office, number))
+        number = begun(office)
+        behind(office, small, number, "confirmed", {**RAISED, "pan": 3})
+        with pytest.raises(Refused, match="is not as it was rehearsed. The draw must be given up"):
+            office.parts.draws.send(HAL, number, version(office, number))
+        assert office.parts.desk.now().draws == []
+        assert office.parts.draws.get(number).state == "confirmed"
+        office.parts.draws.give_up(HAL, number, version(office, number))
+        assert office.parts.desk.closed() == ""
+
+
+def test_the_very_round_sent_by_somebody_else_is_refused(small: Machine) -> None:
+    """A draw that the register has already is not sent, and not taken for this one."""
+    with small.office() as office:
+        number = begun(office)
+        brought(office, number, "confirmed")
+        lots = office.parts.lots.sheet(number)[1].lots()
+        do_over(small.address, [{"cmd": "round", "draw": 1, "day": OFFER_DAY,
+                                 "lots": [lots[it][0] for it in sorted(lots)]}])
+        with pytest.raises(Refused, match="the register has the draw already"):
+            office.parts.draws.send(HAL, number, version(office, number))
+        assert not office.parts.history.open_requests()
+        assert not any(it.what == "sends" for it in office.parts.history.entries)
+
+
+def test_a_draw_with_other_lots_is_not_taken_for_this_one(
+    small: Machine, monkeypatch: pytest.MonkeyPatch
+) -> None:
+    """Where the application ended before it had sent anything, and somebody else held the draw with
+    other lots, which lead to the same outcome.
+    """
+    with small.office() as office:
+        number = begun(office)
+        brought(office, number, "confirmed")
+        lots = office.parts.lots.sheet(number)[1].lots()
+        with monkeypatch.context() as patch:
+            crashing(office.parts.desk, "send", False, patch)
+            with pytest.raises(Crash):
+                office.parts.draws.send(HAL, number, version(office, number))
+    do_over(small.address, [{"cmd": "round", "draw": 1, "day": OFFER_DAY,
+                             "lots": [1000 + lots[it][0] for it in sorted(lots)]}])
+    with small.office() as office:
+        draw = office.parts.draws.get(number)
+        register = office.parts.desk.now()
+        assert draw.state == "sending"
+        assert [it[1:4:2] for it in draw.rehearsal["outcomes"]] == [
+            [child, code] for child, code in register.outcomes[1].items()]
+        for step in (office.parts.draws.send, office.parts.draws.audit):
+            with pytest.raises(Refused, match="not as it was rehearsed. The draw cannot go on"):
+                step(HAL, number, version(office, number))
+
+
+class Crash(BaseException):
+    """The application ends here."""
+
+
+def crashing(target: Any, name: str, is_after: bool, patch: pytest.MonkeyPatch,
+             times: int = 1) -> None:
+    """Has a method end the application at one of its calls: before it does anything, or after."""
+    real, left = getattr(target, name), [times]
+
+    def called(*given: Any, **more: Any) -> Any:
+        left[0] -= 1
+        if left[0]:
+            return real(*given, **more)
+        if is_after:
+            real(*given, **more)
+        raise Crash
+
+    patch.setattr(target, name, called)
+
+
+STATES = ("closed", "copied", "lots", "sealed", "rehearsed", "confirmed", "sending", "audited",
+          "opened")
+
+
+@pytest.mark.parametrize("is_after", (False, True))
+def test_a_crash_in_each_state(
+    small: Machine, monkeypatch: pytest.MonkeyPatch, is_after: bool
+) -> None:
+    """Before or after the record of a step, the application that comes then goes on where it was,
+    and every round is held once.
+    """
+    with small.office() as office:
+        number = begun(office)
+    for state in STATES:
+        with small.office() as office, monkeypatch.context() as patch:
+            first_day(office)
+            if state == "sealed":
+                typed(office, number, lot_of)
+            before = office.parts.draws.get(number).state
+            crashing(office.parts.history, "add", is_after, patch)
+            with pytest.raises(Crash):
+                steps(office, number)[state]()
+            assert office.parts.draws.get(number).state == before
+        with small.office() as office:
+            first_day(office)
+            assert bool(office.parts.desk.closed()) == (before != "begun")
+            brought(office, number, state)
+    with small.office() as office:
+        assert len(office.parts.desk.now().draws) == 1
+        assert len([it for it in office.parts.history.entries if it.what == "sends"]) == 1
+        assert office.parts.desk.closed() == ""
+
+
+@pytest.mark.parametrize("when", ("before the second", "in the second", "after the second"))
+def test_a_crash_between_fills(
+    small: Machine, monkeypatch: pytest.MonkeyPatch, when: str
+) -> None:
+    """A row of fills goes on where it stopped: what was sent is seen in the register, and no fill
+    is sent twice.
+    """
+    with small.office() as office:
+        after_round(small, office)
+        number = begun(office, "OAK", 3, "2025-04-07")
+        brought(office, number, "confirmed")
+        with monkeypatch.context() as patch:
+            if when == "before the second":
+                crashing(office.parts.desk, "send", False, patch, 2)
+            elif when == "in the second":
+                crashing(office.parts.desk.sender, "send", True, patch, 2)
+            else:
+                crashing(office.parts.desk, "send", True, patch, 2)
+            with pytest.raises(Crash):
+                office.parts.draws.send(HAL, number, version(office, number))
+    with small.office() as office:
+        draw = office.parts.draws.get(number)
+        held = {"before the second": 1}.get(when, 2)
+        assert draw.state == "sending" and len(office.parts.desk.now().draws) == 1 + held
+        assert "Closed for draws 2 to 4" in office.parts.desk.closed()
+        page = Person(office, "hal", "head").browser.get(f"/draws/{number}").text
+        assert f"the register has {held} of 3 draws" in page and "Go on, and hold the" in page
+        with pytest.raises(Refused, match="not all is held yet"):
+            office.parts.draws.audit(HAL, number, version(office, number))
+        office.parts.draws.send(HAL, number, version(office, number))
+        brought(office, number, "opened")
+        assert [it.number for it in office.parts.desk.now().draws] == [1, 2, 3, 4]
+        sends = [it for it in office.parts.history.entries if it.what == "sends"]
+        assert [it.about["command"]["draw"] for it in sends] == [1, 2, 3, 4]
+
+
+SWAPS = """#!{python}
+import sqlite3, subprocess, sys
+ran = subprocess.run([{program!r}, *sys.argv[1:]], stdin=sys.stdin)
+if sys.argv[1] == "do" and ran.returncode == 0:
+    conn = sqlite3.connect(sys.argv[2])
+    if conn.execute("SELECT draws FROM meta").fetchone()[0]:
+        for table in ("offer", "place"):
+            conn.execute("UPDATE " + table + " SET child = 1 - child WHERE child IN (1, 4)"
+                         " AND school IS NOT NULL")
+            conn.execute("UPDATE " + table + " SET child = 1 WHERE child = -3")
+            conn.execute("UPDATE " + table + " SET child = 4 WHERE child = 0")
+        conn.commit()
+sys.exit(ran.returncode)
+"""
+
+
+def test_a_difference_of_the_audit_stops_it(
+    small: Machine, monkeypatch: pytest.MonkeyPatch
+) -> None:
+    """A program that gives two children each other's places is found out before anything is sent.
+    """
+    stand_in = small.folder / "swaps"
+    stand_in.write_text(SWAPS.format(python=sys.executable, program=PROGRAM), "utf-8")
+    stand_in.chmod(0o755)
+    with small.office() as office:
+        number = begun(office)
+        brought(office, number, "sealed")
+        with monkeypatch.context() as patch:
+            patch.setenv("ADMISSIONS", str(stand_in))
+            office.parts.draws.rehearse(HAL, number, version(office, number))
+        draw = office.parts.draws.get(number)
+        assert draw.state == "sealed" and any("not best" in it for it in draw.rehearsal["wrong"])
+        hal = Person(office, "hal", "head")
+        page = hal.browser.get(f"/draws/{number}").text
+        assert "the draw cannot go on" in page and "not best: child 1" in page
+        found = hal.step(number, "rehearse")
+        assert found.status_code == 409 and "The rehearsal has found a difference." in found.text
+        for name in ("confirm", "send"):
+            assert hal.step(number, name).status_code == 409
+        assert office.parts.desk.now().draws == []
+        assert hal.step(number, "give-up").status_code == 303
+        assert office.parts.desk.closed() == ""
+
+
+# what is done to a register after its draws, and what the comparison of the copies says
+SPOILED = {
+    "UPDATE school SET pan = pan + 1 WHERE code = 'ELM'": "a row of school of AFTER was not in",
+    "UPDATE lot SET lot = lot + 500 WHERE draw = 3": "the lots of draw 3 are not those",
+    "UPDATE lot SET lot = lot + 500 WHERE draw = 4": "the lots of draw 4 are not those",
+    "UPDATE offer SET child = 5 WHERE draw = 3": "not the first: child 3 is, and child 5 OAK",
+    "UPDATE place SET kind = 2, day = NULL WHERE child = 3": "by BEFORE and the fill, and not in",
+    "UPDATE child SET name = 'Another' WHERE child = 1": "a row of child of AFTER was not in",
+    "UPDATE draw SET day = day + 1 WHERE draw = 4": "the register is not as it was rehearsed",
+}
+
+
+def test_each_change_after_the_draws_is_found(small: Machine) -> None:
+    """By the audits of a row of fills, each with the register that it saw; and by the lots and the
+    whole of the register, which are compared with the rehearsal.
+    """
+    with small.office() as office:
+        after_round(small, office)
+        number = begun(office, "OAK", 3, "2025-04-07")
+        brought(office, number, "opened")
+        draw = office.parts.draws.get(number)
+        lots = office.parts.lots.sheet(number)[1].lots()
+        assert draw.before and draw.after
+        held = office.parts.copies.path(draw.after)
+        with Rehearsal(office.parts.copies.path(draw.before), draw.terms, lots) as found:
+            found.hold(True)
+            right = found.compared(held)
+            assert (right.wrong, len(right.lines)) == ([], 3) and found.has_outcome(draw.rehearsal)
+            assert [it[1] for it in found.outcomes] == [2, 3, 4]
+            for at, (change, said) in enumerate(SPOILED.items()):
+                spoiled = small.folder / f"spoiled-{at}.db"
+                shutil.copy(held, spoiled)
+                conn = sqlite3.connect(spoiled)
+                assert conn.execute(change).rowcount > 0
+                conn.commit()
+                conn.close()
+                wrong = found.compared(spoiled).wrong
+                assert any(said in it for it in wrong), (change, wrong)
+
+
+def test_an_audit_that_differs_after_the_draw_leads_to_a_restore(
+    small: Machine, monkeypatch: pytest.MonkeyPatch
+) -> None:
+    """The register is not opened; two persons restore the copy, and it is then as it was."""
+    with small.office() as office:
+        before = office.parts.desk.now()
+        number = begun(office)
+        brought(office, number, "sending")
+        hal, jane = Person(office, "hal", "head"), Person(office, "jane", "officer")
+        with monkeypatch.context() as patch:
+            patch.setattr("office.web.rehearsal.audit.audit",
+                          lambda *_: (["not best: child 1"], False))
+            assert hal.step(number, "audit").status_code == 303
+        draw = office.parts.draws.get(number)
+        assert (draw.state, draw.audit["wrong"]) == ("sending", ["not best: child 1"])
+        assert "Inform no family" in jane.browser.get(f"/draws/{number}").text
+        assert hal.step(number, "open").status_code == 409
+        seen = str(version(office, number))
+        assert jane.press(number, seen, "restore").status_code == 409
+        assert hal.step(number, "ask-restore").status_code == 303
+        assert hal.step(number, "restore").status_code == 409
+        assert hal.step(number, "audit").status_code == 409
+        assert jane.step(number, "restore").status_code == 303
+        assert copies.is_same(office.parts.desk.now(), before)
+        draw = office.parts.draws.get(number)
+        assert draw.state == "restored" and office.parts.desk.closed() == ""
+        kept = list((small.lib / NAME).glob("reg.db.replaced-*"))
+        assert len(kept) == 1
+        assert [it.number for it in model.read(str(kept[0])).draws] == [1]
+        again = begun(office)
+        brought(office, again, "opened")
+        assert len(office.parts.desk.now().draws) == 1
+
+
+def test_a_restore_is_taken_back(small: Machine) -> None:
+    """As long as the register has the draw; the draw goes on then."""
+    with small.office() as office:
+        number = begun(office)
+        brought(office, number, "sending")
+        office.parts.draws.ask_restore(HAL, number, version(office, number))
+        for step in (office.parts.draws.send, office.parts.draws.audit):
+            with pytest.raises(Refused, match="hal has asked to restore|in which this cannot"):
+                step(HAL, number, version(office, number))
+        office.parts.draws.keep(HAL, number, version(office, number))
+        brought(office, number, "opened")
+        with pytest.raises(Refused, match="in which this cannot be done"):
+            office.parts.draws.ask_restore(HAL, number, version(office, number))
+
+
+def test_a_crash_in_a_restore(small: Machine, monkeypatch: pytest.MonkeyPatch) -> None:
+    """Once the copy is there, the draw is not held again: the restore is confirmed once more."""
+    with small.office() as office:
+        number = begun(office)
+        brought(office, number, "sending")
+        office.parts.draws.ask_restore(HAL, number, version(office, number))
+        with monkeypatch.context() as patch:
+            crashing(office.parts.copies, "restore", True, patch)
+            with pytest.raises(Crash):
+                office.parts.draws.restore(JANE, number, version(office, number))
+    with small.office() as office:
+        assert office.parts.desk.closed() and office.parts.desk.now().draws == []
+        with pytest.raises(Refused, match="hal has asked to restore"):
+            office.parts.draws.send(HAL, number, version(office, number))
+        with pytest.raises(Refused, match="the register is that of the copy"):
+            office.parts.draws.keep(HAL, number, version(office, number))
+        office.parts.draws.restore(JANE, number, version(office, number))
+        assert office.parts.draws.get(number).state == "restored"
+        assert office.parts.desk.now().draws == []
+
+
+def test_a_draw_is_given_up_before_it_is_sent_alone(small: Machine) -> None:
+    """From each state before it; then another one begins with the same number."""
+    with small.office() as office:
+        for state in ("begun", *STATES[:6]):
+            number = begun(office)
+            with pytest.raises(Refused, match="draw 1 is in progress"):
+                begun(office)
+            brought(office, number, state)
+            office.parts.draws.give_up(HAL, number, version(office, number))
+            draw = office.parts.draws.get(number)
+            assert (draw.state, draw.done[-1].said) == ("given up", f"In the state '{state}'.")
+            assert office.parts.desk.closed() == ""
+        number = begun(office)
+        brought(office, number, "sending")
+        with pytest.raises(Refused, match="in which this cannot be done"):
+            office.parts.draws.give_up(HAL, number, version(office, number))
+
+
+def test_what_looks_wrong_is_read_before_it_closes(small: Machine) -> None:
+    """A day that is not the offer day, a Saturday, a day to come: each is agreed to, and on record.
+    """
+    with small.office() as office:
+        hal = Person(office, "hal", "head")
+        number = begun(office, day="2025-03-08")
+        page = hal.browser.get(f"/draws/{number}").text
+        for said in ("It is not right for a first round: the offer day is 3 March 2025.",
+                     "It is 5 days after today.", "It is a Saturday.", "Saturday 8 March 2025."):
+            assert said in page, said
+        found = hal.step(number, "close")
+        assert found.status_code == 409 and "something looks wrong" in found.text.lower()
+        assert office.parts.desk.closed() == ""
+        assert hal.step(number, "close", agreed="yes").status_code == 303
+        entries = office.parts.history.entries
+        about = [it.about for it in entries if it.what == "closed the register"]
+        assert len(about) == 1 and "It is a Saturday." in about[0]["agreed"]
+
+
+def test_the_checks_have_all_that_a_file_is_asked(small: Machine) -> None:
+    """Days, holidays, who takes part, offers without an answer, and the vacancies of a fill."""
+    with small.office() as office:
+        after_round(small, office)
+        found = {(it.title, it.is_risk): it.said for it in draws_checks.checks(
+            office.parts.desk.now(), Terms(2, "OAK", 4, datetime.date(2025, 4, 7)),
+            datetime.date(2025, 4, 7))}
+        assert found == {
+            ("Day", False): "Monday 7 April 2025.",
+            ("Before it", False): "The register has 1 round and 0 fills.",
+            ("Season", False): "Applications closed on 31 October 2024; the offer day is 3 March"
+                               " 2025; the lists close on 31 December 2025.",
+            ("Holidays", False): "None.",
+            ("School", False): "OAK OAK School has 3 vacancies, and 4 children on its waiting"
+                               " list.",
+            ("School", True): "There are fewer vacancies than 4.",
+            ("Lots", False): "4 pairs of 4 children and 1 school, 4 lots for each.",
+            ("Offers", False): "5 offers have no answer yet; of these none had a reminder.",
+        }
+
+
+def test_a_holiday_and_late_applications_are_named(small: Machine) -> None:
+    """Each as a fact of its own; a holiday is also asked about, and only the day decides."""
+    do_over(small.address, [child(6), apply(6, ["OAK"], "2024-11-20")])
+    day, other = datetime.date(2025, 3, 3), datetime.date(2025, 12, 25)
+    with small.office() as office:
+        for holidays, is_risk, said in (((day, other), True, "3 March 2025 and 25 December 2025."),
+                                        ((other,), False, "25 December 2025.")):
+            register = dataclasses.replace(office.parts.desk.now(), holidays=holidays)
+            found = draws_checks.checks(register, Terms(1, None, 1, day), day)
+            assert [it.said for it in found if it.title == "Holidays"] == [said]
+            assert [it.said for it in found if it.is_risk] == (
+                ["It is a holiday of this season."] if is_risk else [])
+            assert [it.said for it in found if it.title in ("Late", "Lots")] == [
+                "10 pairs of 5 children and 2 schools.",
+                "1 late application takes no part in this round."]
+
+
+def test_a_draw_that_the_register_refuses_gets_no_lots(small: Machine) -> None:
+    """A day before the offer day, and more fills than vacancies: before the supervisor draws."""
+    with small.office() as office:
+        number = begun(office, day="2025-03-01")
+        brought(office, number, "copied")
+        with pytest.raises(Refused, match="the register refuses draw 1: .*TooSoon"):
+            office.parts.draws.give(HAL, number, version(office, number))
+        office.parts.draws.give_up(HAL, number, version(office, number))
+        after_round(small, office)
+        number = begun(office, "OAK", 4, "2025-04-07")
+        brought(office, number, "copied")
+        with pytest.raises(Refused, match="the register refuses draw 5: .*NoVacancy"):
+            office.parts.draws.give(HAL, number, version(office, number))
+
+
+NOT_BEGUN = [
+    # (what is typed, and why nothing is begun)
+    ({"kind": "fill", "school": "OAK", "fills": "1", "day": OFFER_DAY}, "nobody waits at OAK"),
+    ({"kind": "fill", "school": "NONE", "fills": "1", "day": OFFER_DAY}, "there is no school NONE"),
+    ({"kind": "fill", "school": "", "fills": "1", "day": OFFER_DAY}, "choose the school"),
+    ({"kind": "fill", "school": "OAK", "fills": "99", "day": OFFER_DAY}, "from 1 to 50"),
+    ({"kind": "fill", "school": "OAK", "fills": "-1", "day": OFFER_DAY}, "from 1 to 50"),
+    ({"kind": "fill", "school": "OAK", "fills": "٣", "day": OFFER_DAY}, "from 1 to 50"),
+    ({"kind": "round", "fills": "2", "day": "2025-02-30"}, "choose the day"),
+    ({"kind": "round", "fills": "<b>", "day": "<b>"}, "choose the day"),
+]
+
+
+def test_a_draw_that_cannot_be(small: Machine) -> None:
+    """Is not begun, and what was typed is still there."""
+    with small.office() as office:
+        hal = office.browser("hal", "head")
+        for given, said in NOT_BEGUN:
+            found = hal.post("/draws/", given)
+            assert found.status_code == 409 and said in found.text, given
+            assert "<b>" not in found.text
+            assert Fields(found.text).values["fills"] == given["fills"]
+        assert office.parts.draws.listed() == []
+
+
+def test_the_file_of_the_store_keeps_no_name(small: Machine) -> None:
+    """What is kept of a draw are numbers and codes."""
+    with small.office() as office:
+        number = begun(office)
+        brought(office, number, "opened")
+        kept = json.dumps(office.parts.draws.get(number).rehearsal)
+        assert "Child" not in kept and '[1, 1, null, "OAK", true]' in kept
+    conn = sqlite3.connect(small.state / "office.db")
+    rows = conn.execute("SELECT rehearsal, audit FROM draw").fetchall()
+    conn.close()
+    assert len(rows) == 1 and not any("Child " in it or "OAK School" in it for it in rows[0])

@@ -1,0 +1,921 @@
+"""The staging table: files in, each fault at its cell and corrected there, duplicates, forms; and
+one import, of what was shown and nothing else.
+"""
+import datetime
+import io
+import pathlib
+import sqlite3
+import threading
+from collections.abc import Callable, Iterator
+from typing import Any
+
+import hostile
+import openpyxl
+import pytest
+from applications import ORIGIN, Site, office_over, site
+from conftest import ROOT, apply, child, make, school
+from register_files import Refused
+from served import served
+from staged import COLUMNS, Screens, Seen, csv_of, workbook
+
+from office import check, sheet, sheet_apart
+from office.model import Register
+from office.senders import Ended
+from office.web import staging_check, staging_commit, staging_form, store
+from office.web.staging_rows import COMMITTED, OPEN, SENDING, WITHDRAWN
+
+TOWN = [school("OAK", name="Oak School"), school("ELM", name="Elm School", east=500),
+        child(7, name="Old Hand", east=9000), apply(7, ["ELM"])]
+# the cells of rows in which nothing is wrong
+GOOD = [
+    ["101", "Ada Abbot", "1000", "2000", "no", "", "OAK", "2024-10-01", "OAK;ELM", "PRIM7"],
+    ["102", "Ben Brook", "1100", "2100", "no", "2;5", "", "2024-10-02", "ELM", ""],
+    ["103", "Cleo Carver", "1200", "2200", "yes", "", "", "2024-10-03", "OAK", ""],
+    ["104", "Dov Drake", "1300", "2300", "no", "", "", "2024-10-04", "ELM;OAK", ""],
+    ["105", "Eve Ellis", "1400", "2400", "no", "0", "", "2024-10-05", "OAK", ""],
+    ["106", "Finn Fenwick", "1500", "2500", "no", "", "OAK;ELM", "2024-10-06", "OAK", "PRIM8"],
+    ["107", "Gus Grant", "1600", "2600", "no", "", "", "2024-10-07", "ELM", ""],
+    ["108", "Hana Hurst", "1700", "2700", "yes", "", "", "2024-10-08", "ELM", ""],
+    ["109", "Ivo Ings", "1800", "2800", "no", "", "", "2024-10-09", "OAK", ""],
+    ["110", "June Jarvis", "1900", "2900", "no", "", "", "2024-10-10", "OAK;ELM", ""],
+    ["111", "Kit Keane", "2000", "3000", "no", "", "", "2024-10-11", "ELM", ""],
+    ["112", "Lou Lamb", "2100", "3100", "no", "", "", "2024-11-01", "OAK", ""],
+]
+# in each row of these one cell is wrong: the place of the column, and what it has
+FAULTS = [(0, "12a"), (1, ""), (2, "4150.5"), (3, "3,620"), (4, "maybe"), (5, "16"), (6, "ZZZ"),
+          (7, "2024-02-30"), (8, "OAK;OAK"), (9, "St. Ann"), (0, "102")]
+
+
+@pytest.fixture(name="office")
+def office_fixture(tmp_path: pathlib.Path) -> Iterator[Site]:
+    """The application over a register with two schools and a child."""
+    with office_over(tmp_path, TOWN) as found:
+        yield found
+
+
+@pytest.fixture(name="screens")
+def screens_fixture(office: Site) -> Screens:
+    """The screens of an officer."""
+    return Screens(office.browser("jane"))
+
+
+def lines(rows: list[list[str]]) -> bytes:
+    """Rows as a CSV."""
+    return sheet.csv_bytes([COLUMNS, *rows])
+
+
+def changed(row: list[str], at: int, text: str) -> list[str]:
+    """A row with another cell."""
+    return [*row[:at], text, *row[at + 1:]]
+
+
+def codes(text: str) -> tuple[str, ...]:
+    """The items of a list."""
+    return tuple(text.split(";")) if text else ()
+
+
+def expected(rows: list[list[str]]) -> dict[int, tuple[Any, ...]]:
+    """What a register must have of these rows, worked out here."""
+    found: dict[int, tuple[Any, ...]] = {}
+    for it in rows:
+        found[int(it[0])] = (
+            it[1], int(it[2]), int(it[3]), it[4] == "yes", tuple(map(int, codes(it[5]))),
+            codes(it[6]), it[9], datetime.date.fromisoformat(it[7]), codes(it[8]))
+    return found
+
+
+def has(register: Register, without: tuple[int, ...] = (7,)) -> dict[int, tuple[Any, ...]]:
+    """What a register has, but for some children."""
+    found: dict[int, tuple[Any, ...]] = {}
+    for number, it in register.children.items():
+        if number not in without:
+            applied = register.applications[number]
+            found[number] = (it.name, it.east, it.north, it.looked_after, it.flags, it.siblings,
+                             it.present, applied.day, applied.preferences)
+    return found
+
+
+def imports(office: Site) -> list[dict[str, Any]]:
+    """The imports that were sent, as the history has them."""
+    return [it.about for it in office.parts.history.entries
+            if it.what == "sends" and "import" in it.about]
+
+
+def states(office: Site) -> dict[str, int]:
+    """How many rows the store has in each state."""
+    found = office.parts.store.rows("SELECT state, count(*) AS many FROM staged_row GROUP BY state")
+    return {it["state"]: it["many"] for it in found}
+
+
+def typed(row: list[str]) -> list[object]:
+    """A row as a spreadsheet keeps it: numbers and days as such."""
+    days = [datetime.datetime.fromisoformat(row[7]) if row[7] != "2024-02-30" else row[7]]
+    numbers = [int(it) if it.isdigit() else it for it in row[:4]]
+    return [it if it != "" else None for it in [*numbers, *row[4:7], *days, *row[8:]]]
+
+
+def test_each_fault_is_found_and_corrected_at_its_cell(office: Site, screens: Screens) -> None:
+    """Eleven kinds in one workbook. The register then has what the corrected table says."""
+    rows = [changed(GOOD[at], *fault) for at, fault in enumerate(FAULTS)] + [GOOD[11]]
+    assert screens.add(("autumn.xlsx", workbook([typed(it) for it in rows]))).status_code == 303
+    seen = screens.see()
+    where = {at: seen.row(f"row {at + 2} of autumn.xlsx") for at in range(12)}
+    places = [COLUMNS[at] for at, _ in FAULTS]
+    assert seen.wrong() == {(where[at], column) for at, column in enumerate(places)}
+    assert seen.rows()[:11] == [where[at] for at in range(11)], "rows with errors are first"
+    for at, column in enumerate(places):
+        assert seen.said(where[at], column).startswith("expected "), (column, seen.text)
+    assert "is none of its schools" in seen.said(where[6], "siblings")
+    assert "each child once: row 3 of autumn.xlsx" in seen.said(where[10], "child")
+    page = screens.see("commit/")
+    assert not any(it.startswith("Store") for it in page.buttons) and "11 rows must" in page.text
+    assert screens.store().status_code == 409 and not imports(office)
+    for at, (place, _) in enumerate(FAULTS):
+        found = screens.save(where[at], **{COLUMNS[place]: GOOD[at][place]})
+        assert found.status_code == 303 and f"#row-{where[at]}" in found.location
+        assert "nothing is wrong in it" in screens.see(f"?row={where[at]}").texts["answer"]
+    assert not screens.see().wrong()
+    page = screens.see("commit/")
+    assert page.buttons.count("Store 12 applications") == 1
+    assert screens.store().status_code == 303
+    assert has(office.parts.desk.now()) == expected(GOOD)
+    assert len(imports(office)) == 1 and states(office) == {COMMITTED: 12}
+    number = next(it.number for it in office.parts.history.entries if "import" in it.about)
+    entries = office.parts.store.rows("SELECT DISTINCT entry FROM staged_row")
+    assert [it["entry"] for it in entries] == [number]
+    assert not screens.see().rows()
+
+
+def test_the_counts_are_those_of_the_rows(office: Site, screens: Screens) -> None:
+    """By hand: 12 of which one is late; 7 want OAK first and 5 ELM; 2 are looked after."""
+    screens.add(("a.csv", lines(GOOD)))
+    seen = screens.see("commit/")
+    text = " ".join(seen.texts["counts"].split())
+    assert text == ("Children 12 Applications 12 In time 11, up to 31 October 2024 Late 1"
+                    " Looked after 2")
+    assert "OAK Oak School 7" in " ".join(seen.text.split())
+    assert "ELM Elm School 5" in " ".join(seen.text.split())
+    assert "11 in time and 1 late" in seen.text
+    assert "to look at Day 1" in " ".join(seen.text.split())
+    assert office.parts.desk.now().children.keys() == {7}
+
+
+def test_what_admissions_check_finds_is_found(office: Site, screens: Screens) -> None:
+    """Each finding of the command is at its cell, and there is no other."""
+    rows = [changed(GOOD[at], *fault) for at, fault in enumerate(FAULTS[:10])]
+    rows += [
+        changed(GOOD[10], 0, "102"), changed(GOOD[11], 4, "No"),
+        changed(changed(GOOD[0], 0, "301"), 1, "Abbot, Ada"),
+        ["302", "Far Away", "900000", "0", "no", "", "", "2024-10-20", "OAK", ""],
+        ["303", "Early Bird", "40", "0", "no", "", "", "2023-10-20", "oak", ""],
+        ["304", "Late Bloom", "80", "900", "no", "", "", "2026-01-01", "Oak School", ""]]
+    screens.add(("a.csv", lines(rows)))
+    found = check.Check(sheet.of_bytes("a.csv", lines(rows), None, ""),
+                        office.parts.desk.now(), False)
+    found.run()
+    must = {(it.row, it.column, it.kind, it.value) for it in found.findings}
+    tools = office.app.extensions["staging"]
+    table = tools.checker.table(tools.staging.rows(OPEN), office.parts.desk.now())
+    has_found = {(table.rows[at].staged.number, it.column, it.kind, it.value)
+                 for at, them in table.findings.items() for it in them}
+    assert has_found == must and len(must) == 19
+
+
+def test_equal_changes_are_summed(screens: Screens) -> None:
+    """A change of many rows is one line, and one of a single row is at its cell."""
+    rows = [[str(at), f"Child{at * 7919 % 10007} Surname", str(at), "0", "No", "", "", "2024-10-20",
+             "OAK", ""] for at in range(201, 349)]
+    rows[5] = changed(rows[5], 8, "elm")
+    screens.add(("a.csv", lines(rows)))
+    seen = screens.see()
+    assert '148 × "No" read as "no" (Looked after)' in seen.texts["changes"]
+    row = screens.see("?find=206").row("row 7 of a.csv")
+    seen = screens.see(f"?row={row}")
+    assert seen.said(row, "preferences") == 'read as "ELM"' and not seen.said(row, "looked_after")
+    assert len(screens.see().rows()) == 50 and len(screens.see("?page=3").rows()) == 48
+    assert screens.see("?show=errors").rows() == [] and "148 rows" in seen.texts["counts"]
+    assert screens.see("?find=206").rows() == [row]
+    assert screens.see("?find=SURNAME, " + rows[5][1].split()[0]).rows() == [row]
+
+
+def test_several_files_and_their_names(office: Site, screens: Screens) -> None:
+    """Each row knows its file, its row there, and who added it; one that is refused keeps none out.
+    """
+    screens.add(("a.csv", lines(GOOD[:2])), ("C:\\Temp\\b\u202e.csv", lines(GOOD[2:4])))
+    bo = Screens(office.browser("bo"))
+    found = bo.add(("a.csv", lines(GOOD[4:6])), ("notes.pdf", b"%PDF-1.4"))
+    assert found.status_code == 409
+    seen = Seen(found.text)
+    assert "notes.pdf is a PDF" in seen.texts["answer"]
+    assert "Added: a.csv (2)" in seen.texts["answer"]
+    assert {seen.row(it) for it in ("row 2 of a.csv", "row 3 of b\\u202e.csv",
+                                    "row 3 of a.csv (2)")} <= set(seen.rows())
+    assert "bo," in seen.texts[f"row-{seen.row('row 2 of a.csv (2)')}"]
+    again = bo.add(("other.csv", lines(GOOD[:2])))
+    assert again.status_code == 409 and "was added already by jane, as a.csv" in again.text
+    assert states(office) == {OPEN: 6}
+    told = [it.about for it in office.parts.history.entries if it.what == "added applications"]
+    assert [(it["file"], it["rows"]) for it in told] == [
+        ("a.csv", 2), ("b\\u202e.csv", 2), ("a.csv (2)", 2)]
+
+
+WRONG_KINDS = [
+    ("empty.csv", b"", "empty.csv is empty"), ("blank.csv", b"\n\n", "expected a header"),
+    ("a.pdf", b"%PDF-1.4", "a PDF"), ("a.png", b"\x89PNG\r\n\x1a\n", "a picture"),
+    ("a.html", b"<html><script>alert(1)</script>", "a web page"),
+    ("a.xls", b"\xd0\xcf\x11\xe0junk", "a workbook of the older kind"),
+    ("a.db", b"SQLite format 3\0", "a register"), ("a.xlsx", b"PK\x03\x04junk", "no workbook"),
+    ("zero.csv", b"\0" * 50, "no text"), ("bad.csv", b"child\x81\n\x81", "neither in UTF-8"),
+    ("lots.csv", b"school,child,lot\nOAK,1,5\n", "column name: expected a column of this name"),
+    ("sibs.csv", b"child,name,east,north,looked_after,flags,sibs,day,preferences\n1,A,0,0,no,,,"
+     b"2024-10-20,OAK\n", 'column siblings: expected a column of this name in the header'),
+    ("twice.csv", csv_of().replace(b"name", b"name,name"), "each column once"),
+    ("head.csv", csv_of(), "no applications below its header"),
+    ("", b"x", "choose a file"),
+]
+
+
+@pytest.mark.parametrize("name, data, said", WRONG_KINDS)
+def test_a_file_of_another_kind_is_refused(
+    office: Site, screens: Screens, name: str, data: bytes, said: str
+) -> None:
+    """By name, with what it is, and nothing of it is kept."""
+    found = screens.add((name, data))
+    assert found.status_code == 409 and said in Seen(found.text).texts["answer"], found.text
+    assert states(office) == {}
+
+
+@pytest.mark.parametrize("name", [
+    "shared.xlsx", "million.xlsx", "rows.xlsx", "merges.xlsx", "parts.xlsx", "columns.csv",
+    "lines.csv", "rows.csv", "cells.csv", "quote.csv"])
+def test_a_file_that_is_too_much_is_refused(
+    office: Site, screens: Screens, tmp_path: pathlib.Path, name: str
+) -> None:
+    """As the command refuses it."""
+    made, said = hostile.SHEETS[name]
+    made(tmp_path / name)
+    # (what is larger than any request may be is not read at all)
+    found = screens.add((name, (tmp_path / name).read_bytes()[:12 << 20]))
+    assert found.status_code == 409 and said in Seen(found.text).texts["answer"], found.text
+    assert states(office) == {}
+
+
+@pytest.mark.parametrize("name", ["coloured.xlsx", "corner.xlsx", "merged.xlsx", "formats.xlsx"])
+def test_a_file_that_seems_large_is_read(
+    office: Site, screens: Screens, tmp_path: pathlib.Path, name: str
+) -> None:
+    """It has one application."""
+    hostile.SHEETS[name][0](tmp_path / name)
+    assert screens.add((name, (tmp_path / name).read_bytes())).status_code == 303
+    assert states(office) == {OPEN: 1}
+
+
+def test_a_sheet_that_takes_too_long_ends_alone(monkeypatch: pytest.MonkeyPatch) -> None:
+    """The process that reads it is ended by its limits, and that is said."""
+    for begin in ("import time; time.sleep(60)", "import os, signal; os.kill(os.getpid(), 24)"):
+        monkeypatch.setattr(sheet_apart, "BEGIN", begin)
+        monkeypatch.setattr(sheet_apart, "MOST_SECONDS", 1)
+        with pytest.raises(Refused, match="reading a.csv takes more than 20 seconds"):
+            sheet_apart.read("a.csv", csv_of(), None, "")
+    monkeypatch.setattr(sheet_apart, "BEGIN", "raise SystemExit(3)")
+    with pytest.raises(Refused, match="a.csv cannot be read: its reading ended with status 3"):
+        sheet_apart.read("a.csv", csv_of(), None, "")
+
+
+def test_a_workbook_is_read_in_any_thread(office: Site, screens: Screens) -> None:
+    """The application answers in threads, in which the time of a command cannot be limited."""
+    came: list[int] = []
+    data = workbook([typed(it) for it in GOOD[:2]])
+    run = threading.Thread(target=lambda: came.append(screens.add(("a.xlsx", data)).status_code))
+    run.start()
+    run.join()
+    assert came == [303] and states(office) == {OPEN: 2}
+
+
+def test_a_sheet_of_several_is_named(office: Site, screens: Screens) -> None:
+    """What is said names the field of the form, and no option of a command."""
+    book = openpyxl.load_workbook(io.BytesIO(workbook([typed(GOOD[0])])))
+    book.active.title = "Autumn"
+    book.create_sheet("Spring").append(["x"])
+    made = io.BytesIO()
+    book.save(made)
+    found = screens.add(("a.xlsx", made.getvalue()))
+    assert "has the sheets Autumn, Spring: write the name" in Seen(found.text).texts["answer"]
+    assert screens.add(("a.xlsx", made.getvalue()), sheet="Autumn").status_code == 303
+
+
+HOSTILE = [
+    "<script>alert(1)</script>", "\"><img src=x onerror=alert(1)>", "=1+1", "@SUM(A1)",
+    "O'Neil \"Bo\"", "محمد علي", "\u202eevil", "{{ 7*7 }}", "a,b;c", "'; DROP TABLE staged_row; --",
+]
+
+
+def test_hostile_cells_are_text(office: Site, screens: Screens) -> None:
+    """On each screen, in the store and in the register they are what they were."""
+    rows = [changed(GOOD[at], 1, it) for at, it in enumerate(HOSTILE)]
+    screens.add(("<b>.csv", lines(rows)))
+    seen = screens.see()
+    where = {at: seen.row(f"row {at + 2} of <b>.csv") for at in range(len(HOSTILE))}
+    assert {at: seen.values(it)["name"] for at, it in where.items()} == dict(enumerate(HOSTILE))
+    for path in ("", "commit/", "duplicates", f"?row={where[0]}"):
+        tags = screens.see(path).tags
+        assert not {"script", "img", "b"} & set(tags), path
+    for at, it in where.items():
+        assert screens.save(it, north=str(5000 + at)).status_code == 303
+    rows = [changed(it, 3, str(5000 + at)) for at, it in enumerate(rows)]
+    assert screens.store().status_code == 303
+    assert has(office.parts.desk.now()) == expected(rows)
+    assert "script" not in screens.see("withdrawn").tags
+    assert "<script>alert" not in screens.browser.get("/activity/").text
+
+
+def test_lines_within_a_cell_are_kept(office: Site, screens: Screens) -> None:
+    """A field of one line would drop them, and join two codes into one."""
+    row = changed(changed(GOOD[0], 8, "OAK\nELM"), 1, "Ada\nAbbot")
+    screens.add(("a.csv", lines([row])))
+    at = screens.see().row("row 2 of a.csv")
+    assert screens.see().values(at)["preferences"] == "OAK;ELM"
+    assert screens.see().wrong() == {(at, "name")}
+    screens.save(at)
+    assert not screens.see().wrong()
+    screens.store()
+    assert has(office.parts.desk.now()) == expected([changed(GOOD[0], 8, "OAK;ELM")])
+
+
+def test_a_row_of_another_form_is_kept_and_confirmed(office: Site, screens: Screens) -> None:
+    """Too many or too few fields, a total, doubtful letters: nothing is dropped, and a person says
+    that it is right.
+    """
+    text = "\n".join([
+        ",".join(COLUMNS), "5,Abel, Ann,4150,3620,no,,,2024-10-20,OAK,",
+        "6,Bo Bell,4250,3620,no,,,2024-10-20", "8,Cy Cole,4350,3620,no,,,2024-10-20,OAK,,x,y",
+        "Total,3,,,,,,,,", "9,Siân Dow,4450,3620,no,,,2024-10-20,OAK,"])
+    screens.add(("a.csv", text.encode("cp1252")))
+    seen = screens.see()
+    rows = [seen.row(f"row {at} of a.csv") for at in range(2, 7)]
+    assert seen.wrong() == {(rows[0], "name"), (rows[1], "preferences"), (rows[2], "present"),
+                            (rows[3], "child")}
+    assert seen.values(rows[0])["name"] == "Abel, Ann" and seen.values(rows[0])["east"] == "4150"
+    assert 'what is too much: "x", "y"' in seen.said(rows[2], "present")
+    assert "the row looks like a total" in seen.said(rows[3], "child")
+    assert "read as Windows-1252" in seen.said(rows[4], "name")
+    screens.save(rows[0])
+    screens.save(rows[1], preferences="ELM")
+    screens.save(rows[2])
+    screens.do(rows[3], "withdraw")
+    screens.save(rows[4])
+    assert not screens.see().wrong() and "Windows-1252" not in screens.see().said(rows[4], "name")
+    screens.store()
+    assert {number: it[0] for number, it in has(office.parts.desk.now()).items()} == {
+        5: "Abel, Ann", 6: "Bo Bell", 8: "Cy Cole", 9: "Siân Dow"}
+    confirmed = [it.about["row"] for it in office.parts.history.entries
+                 if it.what == "confirmed an application"]
+    assert confirmed == ["row 2 of a.csv", "row 4 of a.csv", "row 6 of a.csv"]
+
+
+def test_what_only_a_workbook_has(screens: Screens) -> None:
+    """A formula that was never calculated is an error at its cell until the row is saved."""
+    cells = [hostile.row_of(2, ["1", "Ann", "1"]).removesuffix("</row>"), '<c r="D2"><f>A2</f></c>',
+             '<c r="E2" t="inlineStr"><is><t>no</t></is></c>'
+             '<c r="H2" t="inlineStr"><is><t>2024-10-20</t></is></c>'
+             '<c r="I2" t="inlineStr"><is><t>OAK</t></is></c></row>']
+    file = pathlib.Path(ROOT / "out")
+    file.mkdir(exist_ok=True)
+    path = file / "formula.xlsx"
+    hostile.workbook(path, hostile.GOOD.split('<row r="2">')[0] + "".join(cells))
+    data = path.read_bytes()
+    path.unlink()
+    screens.add(("w.xlsx", data))
+    seen = screens.see()
+    row = seen.row("row 2 of w.xlsx")
+    assert seen.said(row, "north") == (
+        "expected a value (D2 is a formula that was never calculated: open the file in a"
+        " spreadsheet and save it)")
+    screens.save(row, north="5")
+    assert not screens.see().wrong()
+
+
+def test_days_of_a_file_in_one_reading(screens: Screens) -> None:
+    """Asked for, and said once for the file."""
+    row = changed(GOOD[0], 7, "03/04/2024")
+    screens.add(("a.csv", lines([row])))
+    at = screens.see().row("row 2 of a.csv")
+    said = screens.see().said(at, "day")
+    assert "is it 4 March 2024 or 3 April 2024?" in said and "--uk-days" not in screens.see().text
+    assert "say so in the list of files" in said
+    assert screens.browser.post("/applications/file/1", {"what": "uk"}).status_code == 303
+    assert screens.see().said(at, "day").startswith('read as "2024-04-03"')
+    screens.do(at, "withdraw")
+    screens.add(("b.csv", lines([changed(row, 0, "102")])), uk="yes")
+    assert screens.see().said(screens.see().row("row 2 of b.csv"), "day").startswith(
+        'read as "2024-04-03"')
+
+
+def test_other_columns_are_kept_beside_the_rows(office: Site, screens: Screens) -> None:
+    """An address is no column of an application; letters need it later."""
+    rows = [["address", *COLUMNS], ["1 High St, Wells", *GOOD[0]]]
+    screens.add(("a.csv", sheet.csv_bytes(rows)))
+    assert "no column of an application: it is kept beside the rows" in screens.see().text
+    found = office.app.extensions["staging"].staging.rows(OPEN)
+    assert [it.others for it in found] == [{"address": "1 High St, Wells"}]
+    screens.store()
+    found = office.app.extensions["staging"].staging.rows(COMMITTED)
+    assert [it.others for it in found] == [{"address": "1 High St, Wells"}]
+
+
+def test_a_row_is_withdrawn_and_brought_back(office: Site, screens: Screens) -> None:
+    """One, all of a file, and all that were withdrawn."""
+    screens.add(("a.csv", lines(GOOD[:3])))
+    row = screens.see().row("row 3 of a.csv")
+    assert screens.do(row, "withdraw").status_code == 303
+    assert screens.see().rows() == [it for it in (1, 2, 3) if it != row]
+    assert "Withdrawn 1 row" in " ".join(screens.see("commit/").texts["left-out"].split())
+    assert screens.do(row, "back", "withdrawn").status_code == 303
+    assert states(office) == {OPEN: 3}
+    refused = screens.browser.post("/applications/file/1", {"what": "withdraw", "many": "2"})
+    assert refused.status_code == 409 and states(office) == {OPEN: 3}
+    screens.browser.post("/applications/file/1", {"what": "withdraw", "many": "3"})
+    assert states(office) == {WITHDRAWN: 3}
+    screens.browser.post("/applications/withdrawn", {"many": "3"})
+    assert states(office) == {OPEN: 3}
+    told = [(it.what, it.about) for it in office.parts.history.entries][-3:]
+    assert told == [("brought back applications", {"rows": "3 of a.csv"}),
+                    ("withdrew applications", {"rows": "2 to 4 of a.csv"}),
+                    ("brought back applications", {"rows": "2 to 4 of a.csv"})]
+
+
+def test_duplicates_are_side_by_side_and_merged(office: Site, screens: Screens) -> None:
+    """The same number, a similar name at one home, and a child of the register."""
+    again = changed(changed(GOOD[0], 9, ""), 6, "")
+    rows = [again, changed(GOOD[0], 7, "2024-10-09"), changed(changed(GOOD[1], 0, "201"), 1,
+            "Brook, Ben"), GOOD[1], ["202", "Old Hands", "9000", "0", "no", "", "", "2024-10-20",
+                                     "OAK", ""]]
+    screens.add(("a.csv", lines(rows)))
+    seen = screens.see("duplicates")
+    text = " ".join(seen.text.split())
+    assert "Pair 1: the same number" in text and text.count("a similar name at the same home") == 2
+    assert "child 7 of the register" in text and "Old Hand " in text
+    at = [screens.see().row(f"row {it} of a.csv") for it in range(2, 7)]
+    both = {"one": at[0], "one-version": 1, "other": at[1], "other-version": 1}
+    assert screens.browser.post("/applications/duplicates",
+                                {**both, "what": "merge"}).status_code == 303
+    staging = office.app.extensions["staging"].staging
+    # (the day of the row that is kept stays, and what it had not is filled)
+    wanted = dict(zip(COLUMNS, changed(again, 9, "PRIM7"))) | {"siblings": "OAK"}
+    assert staging.row(at[0]).cells == wanted
+    assert staging.row(at[1]).state == WITHDRAWN
+    stale = screens.browser.post("/applications/duplicates", {**both, "what": "merge"})
+    assert stale.status_code == 409 and "was changed meanwhile, by jane" in stale.text
+    for it in (at[2], at[4]):
+        screens.browser.post("/applications/duplicates",
+                             {"one": it, "one-version": 1, "what": "withdraw"})
+    assert "No row may be of the same child" in screens.see("duplicates").text
+    screens.store()
+    assert has(office.parts.desk.now()) == expected(
+        [[wanted[it] for it in COLUMNS], GOOD[1]])
+
+
+def test_rows_that_the_register_has(office: Site, screens: Screens) -> None:
+    """Equal ones are left out, and ones that differ are shown with both values and refused."""
+    screens.add(("a.csv", lines(GOOD[:3])))
+    screens.store()
+    screens.add(("b.csv", lines([GOOD[0], changed(GOOD[1], 2, "999"), changed(GOOD[2], 8, "ELM"),
+                                 GOOD[3]])))
+    seen = screens.see()
+    row = seen.row("row 3 of b.csv")
+    assert 'the register has for child 102, "1100"' in seen.said(row, "east")
+    page = screens.see("commit/")
+    text = " ".join(page.text.split())
+    assert "row 3 of b.csv 102 East 999 1100" in text
+    assert "row 4 of b.csv 103 Preferences ELM OAK" in text
+    assert "1 row with equal values" in text and "2 rows must be corrected or withdrawn" in text
+    assert screens.store().status_code == 409 and len(imports(office)) == 1
+    assert screens.browser.post("/applications/commit/wrong",
+                                {"digest": page.value("digest")}).status_code == 303
+    assert "Store 1 application" in screens.see("commit/").buttons
+    assert screens.store().status_code == 303
+    assert has(office.parts.desk.now()) == expected(GOOD[:4])
+    assert imports(office)[1]["import"].splitlines()[1:] == [",".join(GOOD[3])]
+    screens.add(("c.csv", lines(GOOD[:2])))
+    assert "Take 2 rows out of the table" in screens.see("commit/").buttons
+    assert screens.store().status_code == 303 and len(imports(office)) == 2
+    assert screens.see().rows() == []
+
+
+def test_a_child_without_an_application_differs(office: Site, screens: Screens) -> None:
+    """An import would refuse it: it was added by a command."""
+    office.browser("bo").command(child(9, name="No Form", east=77))
+    screens.add(("a.csv", csv_of("9,No Form,77,0,no,,,2024-10-20,OAK,")))
+    row = screens.see().row("row 2 of a.csv")
+    assert screens.see().wrong() == {(row, "day"), (row, "preferences")}
+
+
+def test_a_row_that_the_register_refuses_is_named(
+    office: Site, screens: Screens, monkeypatch: pytest.MonkeyPatch
+) -> None:
+    """Nothing is stored, the row is shown, and it is not sent again before a person saw it."""
+    screens.add(("a.csv", lines(GOOD[:3])))
+    sender = office.parts.desk.sender
+    real = sender.imported
+    # (what the program refuses and the check does not: by a fault that is put in on the way)
+    monkeypatch.setattr(sender, "imported", lambda rows: real(rows.replace(b",1100,", b",1e9,")))
+    found = screens.store()
+    assert found.status_code == 409
+    seen = Seen(found.text)
+    assert "Nothing was stored: the register does not take row 3 of a.csv" in seen.texts["answer"]
+    assert "is no whole number" in seen.texts["answer"] and "Ben Brook" in seen.text
+    assert office.parts.desk.now().children.keys() == {7} and states(office) == {OPEN: 3}
+    row = screens.see().row("row 3 of a.csv")
+    assert "the register does not take it" in screens.see().texts[f"row-{row}"]
+    monkeypatch.setattr(sender, "imported", real)
+    assert screens.store().status_code == 409
+    screens.save(row)
+    assert screens.store().status_code == 303
+    assert has(office.parts.desk.now()) == expected(GOOD[:3])
+
+
+def test_two_officers_store_at_once(office: Site, screens: Screens) -> None:
+    """One of them stores it, and the other is told; nothing is sent twice."""
+    screens.add(("a.csv", lines(GOOD)))
+    both = [screens, Screens(office.browser("bo"))]
+    digests = [it.digest() for it in both]
+    assert digests[0] == digests[1]
+    came: list[Any] = []
+    gate = threading.Barrier(2)
+
+    def run(at: int) -> None:
+        gate.wait()
+        came.append(both[at].store(digests[at]))
+
+    runs = [threading.Thread(target=run, args=(at,)) for at in range(2)]
+    for it in runs:
+        it.start()
+    for it in runs:
+        it.join()
+    assert sorted(it.status_code for it in came) == [303, 409]
+    told = next(it for it in came if it.status_code == 409)
+    assert "has changed since it was shown, and nothing was sent" in told.text
+    assert len(imports(office)) == 1 and has(office.parts.desk.now()) == expected(GOOD)
+
+
+def test_what_has_changed_is_not_stored(office: Site, screens: Screens) -> None:
+    """A row, one that was withdrawn, one more, a child in the register; and a reload after it."""
+    screens.add(("a.csv", lines(GOOD[:3])))
+    rows = screens.see().rows()
+    bo = office.browser("bo")
+    changes: list[Callable[[], Any]] = [
+        lambda: screens.save(rows[0], name="Ada Abbott"),
+        lambda: screens.do(rows[1], "withdraw"),
+        lambda: screens.do(rows[1], "back", "withdrawn"),
+        lambda: screens.add(("b.csv", lines(GOOD[3:4]))),
+        lambda: bo.command(child(9, name="New Face", east=77)),
+        lambda: bo.command(school("ASH")),
+    ]
+    for change in changes:
+        digest = screens.digest()
+        assert change().status_code in (200, 303)
+        found = screens.store(digest)
+        assert found.status_code == 409 and staging_commit.CHANGED in Seen(found.text).text
+        assert "Store " in " ".join(Seen(found.text).buttons), "the new counts are shown"
+    assert not imports(office)
+    digest = screens.digest()
+    assert screens.store(digest).status_code == 303 and screens.store(digest).status_code == 409
+    assert screens.store("").status_code == 409 and len(imports(office)) == 1
+
+
+def test_an_answer_to_an_offer_changes_nothing_of_it(office: Site, screens: Screens) -> None:
+    """Late applications are stored while answers are recorded."""
+    bo = office.browser("bo")
+    assert bo.command({"cmd": "round", "draw": 1, "day": "2025-03-03", "lots": [1]}).json["done"]
+    screens.add(("a.csv", lines(GOOD[:1])))
+    digest = screens.digest()
+    assert bo.command({"cmd": "accept", "child": 7, "school": "ELM"}).json == {"done": True}
+    assert screens.store(digest).status_code == 303
+
+
+class Crash(BaseException):
+    """The end of the application."""
+
+
+@pytest.mark.parametrize("when", ["before", "asked", "answered"])
+def test_a_crash_while_it_is_stored(
+    tmp_path: pathlib.Path, monkeypatch: pytest.MonkeyPatch, when: str
+) -> None:
+    """Before the sending nothing is stored, and the rows are there again; after it they are found
+    to be in the register. Nothing is sent twice, and nothing is lost.
+    """
+    make(tmp_path / "reg.db", TOWN)
+
+    def crash(*_: object) -> bytes:
+        raise Crash
+
+    def asked(rows: bytes) -> bytes:
+        real(rows)
+        return crash()
+
+    with served(tmp_path / "reg.db") as (address, _):
+        with site(tmp_path, address) as office, monkeypatch.context() as patch:
+            screens = Screens(office.browser("jane"))
+            screens.add(("a.csv", lines(GOOD)))
+            digest, desk = screens.digest(), office.parts.desk
+            real = desk.sender.imported
+            if when == "before":
+                patch.setattr(desk, "send_import", crash)
+            elif when == "asked":
+                patch.setattr(desk.sender, "imported", asked)
+            else:
+                patch.setattr(staging_commit.Committing, "ended", crash)
+            with pytest.raises(Crash):
+                screens.store(digest)
+            assert states(office) == {SENDING: 12}
+            passwords = office.passwords
+        with site(tmp_path, address) as office:
+            office.passwords = passwords
+            screens = Screens(office.browser("jane"))
+            if when == "before":
+                assert len(screens.see().rows()) == 12 and states(office) == {OPEN: 12}
+                assert screens.store().status_code == 303
+            else:
+                assert screens.see().rows() == [] and "nothing to store" in screens.see(
+                    "commit/").text
+            assert states(office) == {COMMITTED: 12} and len(imports(office)) == 1
+            entry = next(it.number for it in office.parts.history.entries if "import" in it.about)
+            found = office.parts.store.rows("SELECT DISTINCT entry FROM staged_row")
+            assert [it["entry"] for it in found] == [entry]
+            assert has(office.parts.desk.now()) == expected(GOOD)
+
+
+def test_a_crash_after_a_restore(tmp_path: pathlib.Path, monkeypatch: pytest.MonkeyPatch) -> None:
+    """The same rows were stored before, and the register was restored since: they are not taken for
+    stored.
+    """
+    make(tmp_path / "reg.db", TOWN)
+    (tmp_path / "copy.db").write_bytes((tmp_path / "reg.db").read_bytes())
+
+    def crash(*_: object) -> bytes:
+        raise Crash
+
+    with served(tmp_path / "reg.db") as (address, _), site(tmp_path, address) as office:
+        screens = Screens(office.browser("jane"))
+        screens.add(("a.csv", lines(GOOD)))
+        assert screens.store().status_code == 303
+    passwords = office.passwords
+    with served(tmp_path / "copy.db") as (address, _):
+        with site(tmp_path, address) as office, monkeypatch.context() as patch:
+            office.passwords = passwords
+            screens = Screens(office.browser("jane"))
+            assert screens.add(("a.csv", lines(GOOD))).status_code == 303
+            digest = screens.digest()
+            patch.setattr(office.parts.desk, "send_import", crash)
+            with pytest.raises(Crash):
+                screens.store(digest)
+        with site(tmp_path, address) as office:
+            office.passwords = passwords
+            screens = Screens(office.browser("jane"))
+            assert len(screens.see().rows()) == 12 and screens.store().status_code == 303
+            assert has(office.parts.desk.now()) == expected(GOOD)
+
+
+def test_what_became_of_it_is_not_known(
+    office: Site, screens: Screens, monkeypatch: pytest.MonkeyPatch
+) -> None:
+    """Where the register does not answer after the sending, the rows wait; then they are found."""
+    screens.add(("a.csv", lines(GOOD[:2])))
+    digest, sender = screens.digest(), office.parts.desk.sender
+    real_import, real_read = sender.imported, sender.read
+
+    def broken(rows: bytes) -> bytes:
+        real_import(rows)
+        monkeypatch.setattr(sender, "read", refused)
+        raise Ended("the connection broke")
+
+    def refused(_: str) -> bytes:
+        raise Refused("it does not answer")
+
+    monkeypatch.setattr(sender, "imported", broken)
+    found = screens.store(digest)
+    assert found.status_code == 409 and "There was no certain answer" in found.text
+    assert states(office) == {SENDING: 2}
+    assert "are stored is not known yet" in screens.browser.get("/applications/").text
+    monkeypatch.setattr(sender, "read", real_read)
+    monkeypatch.setattr(sender, "imported", real_import)
+    assert screens.see().rows() == [] and states(office) == {COMMITTED: 2}
+    assert len(imports(office)) == 1
+
+
+def test_a_closed_register_keeps_the_table(office: Site, screens: Screens) -> None:
+    """While a draw is held nothing is sent, and the rows are as they were."""
+    screens.add(("a.csv", lines(GOOD[:2])))
+    digest = screens.digest()
+    office.parts.desk.closed = lambda: "Closed for draw 5 by hal since 10:02."
+    seen = screens.see("commit/")
+    assert "Closed for draw 5" in seen.text and not any("Store" in it for it in seen.buttons)
+    found = screens.store(digest)
+    assert found.status_code == 409 and "Closed for draw 5" in Seen(found.text).texts["answer"]
+    assert states(office) == {OPEN: 2} and not imports(office)
+
+
+def test_a_register_that_does_not_answer(tmp_path: pathlib.Path) -> None:
+    """The table is shown and corrected all the same; it is checked without the register."""
+    with site(tmp_path, "http://127.0.0.1:1") as office:
+        screens = Screens(office.browser("jane"))
+        screens.add(("a.csv", lines([changed(GOOD[0], 8, "ZZZ"), changed(GOOD[1], 2, "x")])))
+        seen = screens.see()
+        assert "does not answer, and the rows are checked without it" in seen.text
+        assert seen.wrong() == {(seen.row("row 3 of a.csv"), "east")}
+        assert screens.save(seen.row("row 3 of a.csv"), east="5").status_code == 303
+        assert not screens.see().wrong()
+        assert screens.browser.get("/applications/commit/").status_code == 409
+        assert screens.store("x").status_code == 409
+
+
+def test_what_was_typed_is_not_lost(office: Site, screens: Screens) -> None:
+    """Where a colleague changed the row, both are shown; where it is gone, what was typed is."""
+    screens.add(("a.csv", lines(GOOD[:1])))
+    row = screens.see().rows()[0]
+    old = screens.see().values(row)
+    Screens(office.browser("bo")).save(row, name="Ada Abbott", east="1")
+    late = screens.browser.post(f"/applications/row/{row}",
+                                {**old, "name": "Ada Abbot-Day", "what": "save"})
+    assert late.status_code == 409
+    seen = Seen(late.text)
+    assert "was changed meanwhile, by bo" in seen.texts["answer"]
+    assert seen.values(row)["name"] == "Ada Abbot-Day"
+    assert seen.said(row, "name") == "now: Ada Abbott"
+    again = {**seen.values(row), "what": "save"}
+    assert screens.browser.post(f"/applications/row/{row}", again).status_code == 303
+    kept = office.app.extensions["staging"].staging.row(row).cells
+    assert (kept["name"], kept["east"]) == ("Ada Abbot-Day", "1000")
+    Screens(office.browser("bo")).do(row, "withdraw")
+    gone = screens.browser.post(f"/applications/row/{row}", {**again, "name": "Ada Third"})
+    assert gone.status_code == 409 and "Ada Third" in Seen(gone.text).text
+
+
+def test_without_a_history_nothing_is_changed(office: Site, screens: Screens) -> None:
+    """A full disk: what was typed is shown again."""
+    screens.add(("a.csv", lines(GOOD[:1])))
+    row = screens.see().rows()[0]
+    values = screens.see().values(row)
+    office.parts.history.fd, kept = -1, office.parts.history.fd
+    found = screens.browser.post(f"/applications/row/{row}",
+                                 {**values, "name": "Ada Other", "what": "save"})
+    assert found.status_code == 409 and Seen(found.text).values(row)["name"] == "Ada Other"
+    assert screens.browser.post("/applications/add/", {"name": "New Face"}).status_code == 409
+    office.parts.history.fd = kept
+    assert office.app.extensions["staging"].staging.row(row).cells["name"] == "Ada Abbot"
+
+
+def test_a_table_that_cannot_be_written(
+    office: Site, screens: Screens, monkeypatch: pytest.MonkeyPatch
+) -> None:
+    """Before the sending nothing is sent; after it the rows are found to be stored later."""
+    screens.add(("a.csv", lines(GOOD[:2])))
+    digest, tools = screens.digest(), office.app.extensions["staging"]
+    real = office.parts.store.writing
+
+    def full() -> Any:
+        raise sqlite3.OperationalError("database or disk is full")
+
+    monkeypatch.setattr(office.parts.store, "writing", full)
+    found = screens.store(digest)
+    assert found.status_code == 409 and not imports(office)
+    assert "Nothing was stored: the table cannot be written: database or disk is full" in found.text
+    monkeypatch.setattr(office.parts.store, "writing", real)
+    ended = tools.committing.ended
+
+    def late(*_: object) -> None:
+        raise Refused("the table cannot be written")
+
+    monkeypatch.setattr(tools.committing, "ended", late)
+    assert screens.store(digest).status_code == 303 and states(office) == {SENDING: 2}
+    monkeypatch.setattr(tools.committing, "ended", ended)
+    assert screens.see().rows() == [] and states(office) == {COMMITTED: 2}
+    assert len(imports(office)) == 1
+
+
+FORM = {"name": "Mo Marsh", "east": "10", "north": "20", "looked_after": "no", "flags": "2, 5",
+        "siblings": "oak", "present": "prim7", "day": "20/10/2024", "preference-1": "Elm School",
+        "preference-2": "OAK"}
+
+
+def test_a_child_is_added_by_a_form(office: Site, screens: Screens) -> None:
+    """In the order of the keyboard, with the next number that is free."""
+    screens.add(("a.csv", lines(GOOD[:1])))
+    seen = screens.see("add/")
+    assert seen.order == ["name", "east", "north", "looked_after", "flags", "siblings", "present",
+                          "day", *[f"preference-{it}" for it in range(1, 11)], "child"]
+    assert [name for (_, name), it in seen.fields.items() if "autofocus" in it] == ["name"]
+    assert seen.value("child") == "102"
+    given = {**FORM, "child": "102", "proposed": "102"}
+    wrong = screens.browser.post("/applications/add/", {**given, "day": "31/02/2024",
+                                                        "preference-1": "ASH"})
+    assert wrong.status_code == 409
+    page = Seen(wrong.text)
+    assert page.value("name") == "Mo Marsh" and page.value("preference-1") == "ASH"
+    day = page.fields["", "day"]
+    assert (day["aria-invalid"], day["aria-describedby"]) == ("true", "about-day")
+    assert "autofocus" in day and "is none of its schools" in page.texts["about-preferences"]
+    assert states(office) == {OPEN: 1}
+    done = screens.browser.post("/applications/add/", given)
+    assert done.status_code == 303
+    assert "Mo Marsh is added with the number 102" in Seen(
+        screens.browser.get(done.location).text).texts["answer"]
+    # a colleague who had the same number proposed gets the next one; a number of one's own is kept
+    bo = office.browser("bo")
+    bo.get("/applications/add/")
+    assert bo.post("/applications/add/", {**given, "name": "Nia North", "east": "900"}
+                   ).status_code == 303
+    own = bo.post("/applications/add/", {**given, "name": "Oz Orr", "east": "1900", "child": "102",
+                                         "proposed": "104"})
+    assert own.status_code == 409 and "each child once" in own.text
+    assert screens.see().row("form 2") and "103" in screens.see().values(
+        screens.see().row("form 2"))["child"]
+    screens.store()
+    assert has(office.parts.desk.now()) == expected([
+        GOOD[0], ["102", "Mo Marsh", "10", "20", "no", "2;5", "OAK", "2024-10-20", "ELM;OAK",
+                  "PRIM7"],
+        ["103", "Nia North", "900", "20", "no", "2;5", "OAK", "2024-10-20", "ELM;OAK", "PRIM7"]])
+    assert screens.see("add/").value("child") == "104"
+
+
+def test_the_next_free_number() -> None:
+    """After the greatest; where that is the last there is, the least that is free."""
+    assert staging_form.next_free([]) == 1
+    assert staging_form.next_free([3, 8]) == 9
+    assert staging_form.next_free([1, 2, 9_999_999]) == 3
+
+
+def test_each_role_sees_what_is_its_own(office: Site, screens: Screens) -> None:
+    """A reader looks, and changes nothing; others see nothing."""
+    screens.add(("a.csv", lines(GOOD[:1])))
+    reader = office.browser("rea", "reader")
+    for path in ("", "commit/", "duplicates", "withdrawn"):
+        seen = Seen(reader.get(f"/applications/{path}").text)
+        assert set(seen.buttons) <= {"Sign out", "Show"}, path
+    assert "Ada Abbot" in reader.get("/applications/").text
+    posts = ("files", "row/1", "file/1", "withdrawn", "duplicates", "add/", "commit/",
+             "commit/wrong")
+    for path in posts:
+        assert reader.post(f"/applications/{path}", {"what": "save"}).status_code == 403, path
+    for role in ("supervisor", "administrator", "school-OAK"):
+        other = office.browser(f"kim-{role.lower()}", role)
+        for path in ("", "commit/", "duplicates", "withdrawn", "add/"):
+            assert other.get(f"/applications/{path}").status_code == 403, (role, path)
+    found = screens.browser.client.post(
+        "/applications/commit/", base_url=ORIGIN, headers={"Origin": "https://evil.example"},
+        data={"form": screens.browser.secret, "digest": screens.digest()})
+    assert found.status_code == 403 and states(office) == {OPEN: 1}
+
+
+def test_one_row_is_checked_where_one_was_changed(
+    office: Site, screens: Screens, monkeypatch: pytest.MonkeyPatch
+) -> None:
+    """The others are as they were; another school means that all are checked."""
+    screens.add(("a.csv", lines(GOOD)))
+    read: list[int] = []
+    real = staging_check.checked
+
+    def counted(it: Any, register: Any) -> Any:
+        read.append(it.id)
+        return real(it, register)
+
+    monkeypatch.setattr(staging_check, "checked", counted)
+    rows = screens.see().rows()
+    assert len(read) in (0, 12)
+    read.clear()
+    screens.save(rows[3], name="Dov Drakes")
+    screens.see()
+    assert read == [rows[3]]
+    read.clear()
+    office.browser("bo").command(school("ASH"))
+    screens.see()
+    assert sorted(read) == sorted(rows)
+
+
+def test_the_table_has_a_limit(office: Site, screens: Screens) -> None:
+    """As many rows as one import takes: more are refused, whether new or brought back."""
+    def rows(first: int, count: int) -> bytes:
+        return lines([[str(it), f"C{it} {it * 7919 % 10007}", str(it * 3), "0", "no", "", "",
+                       "2024-10-20", "OAK", ""] for it in range(first, first + count)])
+
+    assert screens.add(("a.csv", rows(1001, 2000))).status_code == 303
+    found = screens.add(("b.csv", rows(4001, 1)))
+    assert "the table would have 2,001 rows" in Seen(found.text).texts["answer"]
+    assert screens.browser.post("/applications/add/", FORM).status_code == 409
+    page = screens.see("commit/")
+    assert "a register has at most 2,000 children: it has 1, and 2,000 are new" in page.text
+    assert screens.store(page.texts.get("", "x")).status_code == 409
+    screens.browser.post("/applications/file/1", {"what": "withdraw", "many": "2000"})
+    screens.add(("b.csv", rows(4001, 1)))
+    refused = screens.browser.post("/applications/withdrawn", {"many": "2000"})
+    assert refused.status_code == 409 and states(office) == {OPEN: 1, WITHDRAWN: 2000}
+
+
+def test_a_store_of_the_first_version_is_taken_on(tmp_path: pathlib.Path) -> None:
+    """The tables are added to a file that has people alone."""
+    path = str(tmp_path / "office.db")
+    with sqlite3.connect(path) as db:
+        db.executescript(store.STEPS[0] + "PRAGMA user_version=1;")
+    found = store.Store(path)
+    assert found.rows("SELECT * FROM staged_row") == []
+    found.close()

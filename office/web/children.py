@@ -1,0 +1,174 @@
+"""What can be recorded of a child, each as a question: whom it concerns, what becomes of it, and
+what looks wrong.
+"""
+import dataclasses
+import datetime
+from collections.abc import Callable, Mapping
+from typing import Any
+
+from register_files import Refused
+
+from office import days, model, risks, rules, texts
+from office.model import Child, Place, Register
+from office.days import NOTICE
+
+from . import wording
+
+Command = dict[str, Any]
+
+
+@dataclasses.dataclass(frozen=True)
+class Action:
+    """What can be recorded: its command, its title, the words of its button, what becomes of it;
+    whether it has a day, and whether it can never be undone.
+    """
+
+    command: str
+    title: str
+    button: str
+    becomes: str
+    is_dated: bool = False
+    is_final: bool = True
+
+
+ACTIONS = {
+    "accept": Action(
+        "accept", "Accept a place", "Accept {school} for {child}",
+        "The place is accepted. It can be declined later, but it can never be an open offer again.",
+        is_final=False),
+    "decline": Action(
+        "decline", "Decline a place", "Decline {school} for {child}",
+        f"The place is vacant. {wording.FOREVER}"),
+    "remind": Action(
+        "remind", "Record a reminder", "Record the reminder of {child} about {school}",
+        "The offer may be withdrawn from {withdrawn} on, if it is not answered. A reminder cannot"
+        " be taken back.", True, False),
+    "lapse": Action(
+        "lapse", "Withdraw an offer", "Withdraw the offer of {school} from {child}",
+        f"The offer ends, and the place is vacant. {wording.FOREVER}", True),
+    "leave": Action(
+        "leave_list", "Leave a waiting list", "Take {child} off the list of {school}",
+        f"The child does not return to this list. {wording.FOREVER}"),
+    "plan": Action(
+        "name_plan", "Record an EHC plan", "Give {child} a place at {school} by a plan",
+        "The child is admitted, also above the admission number. Its application ends: it waits"
+        " nowhere any more, and a place elsewhere is vacant. Nothing ends or changes a plan."),
+}
+
+
+@dataclasses.dataclass(frozen=True)
+class Question:
+    """What is asked before it is recorded."""
+
+    action: Action
+    command: Command
+    title: str
+    button: str
+    becomes: str
+    warnings: tuple[str, ...]
+
+
+def possible(register: Register, number: int) -> list[tuple[str, str]]:
+    """What can be recorded of a child now, each with the code of its school, or "" where it is
+    chosen.
+    """
+    place, found = register.places.get(number), []
+    if place and place.kind == model.OFFERED:
+        found = [("accept", place.school), ("decline", place.school),
+                 ("lapse" if place.reminded else "remind", place.school)]
+    elif place and place.kind == model.ACCEPTED:
+        found = [("decline", place.school)]
+    application = register.applications.get(number)
+    listed = application.listed.items() if application else ()
+    found += [("leave", code) for code, it in listed if it.state == model.WAITS]
+    if place is None or place.kind != model.PLAN:
+        found.append(("plan", ""))
+    return found
+
+
+def see_possible(register: Register, number: int, name: str, code: str) -> None:
+    """Refuses what cannot be recorded of a child now."""
+    now = possible(register, number)
+    if (name, code) in now or (name == "plan" and (name, "") in now and code in register.schools):
+        return
+    if name == "leave":
+        raise Refused(f"the child does not wait at {code or 'any school'}")
+    if name == "plan" and (name, "") in now:
+        raise Refused(f"there is no school {code}")
+    place = wording.place(register, register.places.get(number))
+    raise Refused(f"this cannot be recorded: {place}")
+
+
+def school_of(register: Register, number: int, name: str, given: str) -> str:
+    """The school that an action concerns: that of the place, or the one that was chosen."""
+    place = register.places.get(number)
+    if name in ("leave", "plan"):
+        return given
+    return place.school if place else ""
+
+
+def question(
+    register: Register, number: int, name: str, code: str, day: datetime.date,
+    today: datetime.date,
+) -> Question:
+    """The question of an action, or a refusal where it cannot be recorded now."""
+    see_possible(register, number, name, code)
+    action, child, school = ACTIONS[name], register.children[number], register.schools[code]
+    command: Command = {"cmd": action.command, "child": number, "school": code}
+    warnings = list(warnings_of(action, register.places.get(number)))
+    if action.is_dated:
+        command["day"] = day.isoformat()
+        warnings += day_warnings(register, command, day, today)
+    words = {"school": school.name, "child": child.name}
+    withdrawn = days.in_words(day + NOTICE)
+    return Question(
+        action, command, action.title, filled(action.button, words),
+        action.becomes.replace("{withdrawn}", withdrawn), tuple(warnings))
+
+
+def filled(text: str, words: Mapping[str, str]) -> str:
+    """The words of a button with names, whatever these have."""
+    before, _, after = text.partition("{school}")
+    parts = (it.replace("{child}", words["child"]) for it in (before, after))
+    return words["school"].join(parts)
+
+
+def warnings_of(action: Action, place: Place | None) -> list[str]:
+    """What looks wrong in an action."""
+    if action.command == "decline" and place and place.kind == model.ACCEPTED:
+        return ["The family had accepted this place."]
+    if action.command == "name_plan" and place:
+        return [f"The place at {place.school}, {wording.KINDS[place.kind]}, ends with it."]
+    return []
+
+
+def day_warnings(
+    register: Register, command: Command, day: datetime.date, today: datetime.date,
+) -> list[str]:
+    """What looks wrong in a day."""
+    found = []
+    line = risks.Line(1, b"", command)
+    if said := risks.season_risk(line, day, register, False):
+        found.append(f"The day is {said}.")
+    if day > today or (today - day).days > risks.FAR_FROM_TODAY:
+        count = texts.count(abs((day - today).days), "day")
+        found.append(f"The day is {count} {'after' if day > today else 'before'} today.")
+    return found
+
+
+FIELDS = tuple(it for it in rules.COMMANDS["amend"].values() if it.name != "child")
+
+
+def facts_of(child: Child, flag_words: Callable[[tuple[int, ...]], str]) -> list[tuple[str, str]]:
+    """The data of a child, with its flags in words."""
+    found = []
+    for field in FIELDS:
+        value = child.data[field.name]
+        if isinstance(value, bool):
+            text = "yes" if value else "no"
+        elif field.kind == rules.LIST + "flag":
+            text = flag_words(tuple(value))
+        else:
+            text = ", ".join(map(str, value)) if isinstance(value, list) else str(value)
+        found.append((wording.label(field.name), text or "none"))
+    return found

@@ -1,0 +1,190 @@
+"""Copies of the register, which a unit of the machine makes and restores: it is asked by a file
+that holds a number and nothing else, and answers by a file beside it.
+"""
+import contextlib
+import dataclasses
+import json
+import os
+import pathlib
+import re
+import stat
+import tempfile
+import time
+from collections.abc import Callable
+from typing import Any
+
+from register_files import Refused
+
+from office import model
+from office.model import Register
+
+from .desk import Desk
+from .history import now
+from .store import Store
+
+# what is asked for; the answer has the same name with DONE
+COPY, RESTORE, DONE = "copy", "restore", ".done"
+NAME = re.compile(r"office-([0-9]{6,9})-[0-9]{4}-[0-9]{2}-[0-9]{2}T[0-9]{6}\.db")
+# for so long the machine may take, and the register until it answers again
+ANSWER_SECONDS, BACK_SECONDS, PAUSE = 60.0, 30.0, 0.05
+MOST_BYTES = 4096
+# the errors of the machine that have words of their own; for others it has given them
+ERRORS = {
+    "NoNumber": "the machine does not take the request for a number",
+    "NoFile": "the machine does not take the request for a file",
+}
+
+
+@dataclasses.dataclass(frozen=True)
+class Copy:
+    """A copy that was compared with the register: its number, when it was asked for (UTC), what it
+    is for, the name of its file, and its bytes.
+    """
+
+    number: int
+    at: str
+    purpose: str
+    name: str
+    size: int
+
+
+def is_same(one: Register, other: Register) -> bool:
+    """Whether two registers show the same, whatever they are called."""
+    return dataclasses.replace(one, name="") == dataclasses.replace(other, name="")
+
+
+class Copies:
+    """The copies of one register. Nobody sends anything while one is made or restored, and who
+    reads the register waits.
+    """
+
+    def __init__(
+        self, requests: pathlib.Path, folder: pathlib.Path, store: Store, desk: Desk,
+        clock: Callable[[], float] = time.monotonic,
+    ) -> None:
+        self.requests, self.folder, self.store, self.desk = requests, folder, store, desk
+        self.clock = clock
+        requests.mkdir(mode=0o700, exist_ok=True)
+
+    def make(self, purpose: str) -> int:
+        """Makes a copy of the register as it is now, compares the two, and returns its number."""
+        with self.desk.lock:
+            self.desk.settle()
+            number = self.next_number(purpose)
+            try:
+                name = str(self.asked(COPY, number).get("copy", ""))
+                found = NAME.fullmatch(name)
+                if not found or int(found[1]) != number:
+                    raise Refused("the machine has named another copy than was asked for")
+                size = self.compared(self.folder / name)
+            except Refused as error:
+                self.change("failed=?", str(error), number)
+                raise Refused(f"there is no copy: {error}") from error
+            self.change("name=?, size=?", name, size, number)
+            return number
+
+    def next_number(self, purpose: str) -> int:
+        """The number of a new copy, which no file of the folder has."""
+        there = (NAME.fullmatch(it.name) for it in self.folder.glob("office-*.db"))
+        last = max((int(it[1]) for it in there if it), default=0)
+        with self.store.writing() as db:
+            known = db.execute("SELECT max(number) FROM copy").fetchone()[0] or 0
+            number = max(known, last) + 1
+            db.execute("INSERT INTO copy (number, purpose, asked) VALUES (?, ?, ?)",
+                       (number, purpose, now()))
+        return number
+
+    def change(self, query: str, *values: object) -> None:
+        """Stores what came of a copy."""
+        with self.store.writing() as db:
+            db.execute(f"UPDATE copy SET {query} WHERE number=?", values)
+
+    def compared(self, path: pathlib.Path) -> int:
+        """The size of a copy, or a refusal where it is not the register as it is now."""
+        if not is_same(model.read_stored(str(path)), self.back()):
+            raise Refused("the copy differs from the register")
+        return path.stat().st_size
+
+    def back(self) -> Register:
+        """The register, once it answers again."""
+        end = self.clock() + BACK_SECONDS
+        while True:
+            try:
+                return self.desk.now()
+            except Refused as error:
+                if self.clock() > end:
+                    raise Refused(f"the register does not answer any more: {error}") from error
+                time.sleep(PAUSE)
+
+    def path(self, number: int) -> pathlib.Path:
+        """The file of a copy."""
+        row = self.store.row("SELECT name FROM copy WHERE number=? AND name IS NOT NULL", number)
+        path = self.folder / str(row["name"] if row else "")
+        if not row or not path.is_file():
+            raise Refused(f"there is no copy {number}")
+        return path
+
+    def register(self, number: int) -> Register:
+        """The register as a copy has it."""
+        return model.read_stored(str(self.path(number)))
+
+    def listed(self) -> list[Copy]:
+        """The copies, the last first."""
+        rows = self.store.rows("SELECT * FROM copy WHERE name IS NOT NULL ORDER BY number DESC")
+        return [Copy(it["number"], it["asked"], it["purpose"], it["name"], it["size"])
+                for it in rows]
+
+    def restore(self, number: int) -> None:
+        """Makes the register that of a copy. What was there is kept by the machine."""
+        with self.desk.lock:
+            wanted = self.register(number)
+            with contextlib.suppress(Refused):
+                # (a register that does not answer is restored too)
+                self.desk.settle()
+            self.asked(RESTORE, number)
+            if not is_same(wanted, self.back()):
+                raise Refused("the register is not that of the copy")
+
+    def asked(self, what: str, number: int) -> dict[str, Any]:
+        """The answer of the machine to a request, or a refusal."""
+        answer = self.requests / f"{what}{DONE}"
+        with self.desk.reading:
+            answer.unlink(missing_ok=True)
+            self.put(self.requests / what, f"{number}\n")
+            end = self.clock() + ANSWER_SECONDS
+            while (found := read(answer)).get("number") != number:
+                if "error" in found and not found.get("number"):
+                    break
+                if self.clock() > end:
+                    # (so that it is not done at a moment when nobody expects it)
+                    (self.requests / what).unlink(missing_ok=True)
+                    raise Refused("the machine has not answered: tell whoever maintains it")
+                time.sleep(PAUSE)
+        if "error" in found:
+            raise Refused(ERRORS.get(str(found["error"]), str(found.get("why", ""))))
+        return found
+
+    def put(self, path: pathlib.Path, text: str) -> None:
+        """Writes a file in one step."""
+        handle, new = tempfile.mkstemp(prefix=".", dir=path.parent)
+        with open(handle, "w", encoding="ascii") as file:
+            file.write(text)
+            file.flush()
+            os.fsync(file.fileno())
+        os.rename(new, path)
+
+
+def read(path: pathlib.Path) -> dict[str, Any]:
+    """What a file of the machine says; nothing where it is not there, or not yet whole."""
+    try:
+        fd = os.open(path, os.O_RDONLY | os.O_NOFOLLOW | os.O_NONBLOCK | os.O_CLOEXEC)
+    except OSError:
+        return {}
+    with open(fd, "rb") as file:
+        if not stat.S_ISREG(os.fstat(fd).st_mode):
+            return {}
+        try:
+            found = json.loads(file.read(MOST_BYTES))
+        except ValueError:
+            return {}
+    return found if isinstance(found, dict) else {}

@@ -1,0 +1,71 @@
+"""A correction of a child's data: what is typed in a form, and how it differs from the register."""
+import dataclasses
+from collections.abc import Iterator, Mapping
+from typing import Any
+
+from office import fields, persons, risks, rules, texts
+from office.model import Child, Register, School
+
+from .children import FIELDS
+from .wording import label
+
+Command = dict[str, Any]
+Cells = dict[str, str]
+
+
+@dataclasses.dataclass(frozen=True)
+class Context:
+    """What the readers of fields know: the schools of the register, and how days are typed."""
+
+    schools: Mapping[str, School]
+    is_uk: bool = True
+
+
+def cells_of(child: Child) -> Cells:
+    """The present data of a child as a form has them."""
+    return {it.name: persons.cell_of(child.data[it.name]) for it in FIELDS}
+
+
+def read(register: Register, number: int, cells: Cells) -> tuple[Command, dict[str, str]]:
+    """The command of a correction, and what is expected in which field."""
+    context, wrong = Context(register.schools), {}
+    command: Command = {"cmd": "amend", "child": number}
+    for it in FIELDS:
+        found = fields.read(it.name, cells.get(it.name, ""), context)
+        if found.expected:
+            wrong[it.name] = found.expected
+        else:
+            command[it.name] = persons.value_of(it.kind, found.text)
+    return command, wrong
+
+
+def changes(child: Child, command: Command) -> list[tuple[str, str, str]]:
+    """The fields that a correction changes: the label, the present value and the new one."""
+    pairs = ((it.name, persons.cell_of(child.data[it.name]), persons.cell_of(command[it.name]))
+             for it in FIELDS)
+    return [(label(name), one or "none", other or "none") for name, one, other in pairs
+            if one != other]
+
+
+def warnings(child: Child, command: Command) -> Iterator[str]:
+    """What looks wrong in a correction: another person, a home far away, a priority that changes.
+    """
+    if not texts.is_alike(child.name, command["name"]):
+        yield "The names are not alike: is it this child?"
+    far = texts.metres(command["east"] - child.east, command["north"] - child.north)
+    if far > risks.FAR_MOVE_METRES:
+        yield f"The home moves by {far // 1000:,} km: are east and north right?"
+    if command["looked_after"] != child.looked_after:
+        yield "Children who are or were looked after are first in every list: is this right?"
+    if child.present and not command["present"]:
+        yield f"The present school {child.present} is removed, and with it perhaps a priority."
+
+
+def is_choice(kind: str) -> bool:
+    """Whether a field is yes or no."""
+    return kind == "truth"
+
+
+def is_flags(kind: str) -> bool:
+    """Whether a field is a list of flags."""
+    return kind == rules.LIST + "flag"

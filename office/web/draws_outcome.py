@@ -1,0 +1,65 @@
+"""The outcome of a draw as it is read by people: offers, moves, places that were kept, and children
+without one, by school and by child.
+"""
+import dataclasses
+from collections.abc import Sequence
+
+from office.model import Register
+
+from .rehearsal import Outcome
+
+OFFER, MOVE, KEPT, NONE = "a new place", "moves", "keeps its place", "no place"
+
+
+@dataclasses.dataclass(frozen=True)
+class OfChild:
+    """What a draw did for a child: the schools that it had and has, or "", and that in words."""
+
+    draw: int
+    child: int
+    had: str
+    has: str
+    what: str
+
+
+@dataclasses.dataclass(frozen=True)
+class OfSchool:
+    """What the draws did at a school: how many new places, those of them for children who move from
+    another school, how many kept theirs, and how many left for another.
+    """
+
+    school: str
+    offers: int
+    moves: int
+    kept: int
+    gone: int
+
+
+def of_child(found: Outcome) -> OfChild:
+    """An outcome in words."""
+    draw, child, had, has, is_fresh = found
+    what = NONE if has is None else KEPT if not is_fresh else MOVE if had else OFFER
+    return OfChild(draw, child, had or "", has or "", what)
+
+
+def by_child(found: Sequence[Outcome]) -> list[OfChild]:
+    """The outcomes of all children, those first whose place is new."""
+    order = (OFFER, MOVE, NONE, KEPT)
+    return sorted(map(of_child, found), key=lambda it: (it.draw, order.index(it.what), it.child))
+
+
+def by_school(register: Register, found: Sequence[Outcome]) -> list[OfSchool]:
+    """The outcomes of all schools of a register."""
+    rows = list(map(of_child, found))
+    return [OfSchool(
+        code, sum(it.has == code and it.what in (OFFER, MOVE) for it in rows),
+        sum(it.has == code and it.what == MOVE for it in rows),
+        sum(it.has == code and it.what == KEPT for it in rows),
+        sum(it.had == code and it.what == MOVE for it in rows),
+    ) for code in sorted(register.schools)]
+
+
+def counts(found: Sequence[Outcome]) -> dict[str, int]:
+    """How many children have each outcome."""
+    rows = list(map(of_child, found))
+    return {it: sum(row.what == it for row in rows) for it in (OFFER, MOVE, KEPT, NONE)}

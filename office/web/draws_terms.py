@@ -1,0 +1,167 @@
+"""What a draw of the office is: its terms, the states that it goes through, and who did each step.
+
+A draw is a round, or a row of fills at one school that are held in one closure.
+"""
+import dataclasses
+import datetime
+import json
+import sqlite3
+from typing import Any
+
+from office import texts
+from office.model import Pair, Register
+
+Command = dict[str, Any]
+BEGUN, CLOSED, COPIED, LOTS, SEALED = "begun", "closed", "copied", "lots", "sealed"
+REHEARSED, CONFIRMED, SENDING, AUDITED = "rehearsed", "confirmed", "sending", "audited"
+OPENED, GIVEN_UP, RESTORED = "opened", "given up", "restored"
+# the states of a draw that is held to its end, in their order
+IN_ORDER = (BEGUN, CLOSED, COPIED, LOTS, SEALED, REHEARSED, CONFIRMED, SENDING, AUDITED, OPENED)
+ENDED = (OPENED, GIVEN_UP, RESTORED)
+# in these nobody else may send anything to the register, and before the first of the second nothing
+# of the draw was sent
+CLOSING = IN_ORDER[1:-1]
+SENT = (SENDING, AUDITED)
+UNSENT = IN_ORDER[:7]
+MOST_FILLS = 50
+
+
+@dataclasses.dataclass(frozen=True)
+class Terms:
+    """What is drawn: the number of the first draw in the register, the school of fills and how many
+    there are, or one round; and the day.
+    """
+
+    first: int
+    school: str | None
+    fills: int
+    day: datetime.date
+
+    @property
+    def kind(self) -> str:
+        """The name of the commands."""
+        return "fill" if self.school else "round"
+
+    @property
+    def numbers(self) -> str:
+        """The draws by their numbers."""
+        last = self.first + self.fills - 1
+        return f"draws {self.first} to {last}" if self.fills > 1 else f"draw {self.first}"
+
+    @property
+    def in_words(self) -> str:
+        """What is drawn."""
+        what = texts.count(self.fills, "fill") if self.school else "a round"
+        return f"{self.numbers}: {what}{f' at {self.school}' if self.school else ''}"
+
+    @property
+    def path(self) -> str:
+        """Where the register says the pairs of the next of these draws."""
+        return f"/pairs/{self.school}" if self.school else "/pairs"
+
+    def pairs_in(self, register: Register) -> list[Pair]:
+        """The pairs of the next of these draws, in the order of their lots."""
+        found = register.pairs_of_fill(self.school) if self.school else register.pairs
+        return sorted(found)
+
+    def command(self, at: int, lots: list[int]) -> Command:
+        """The command of the draw at this place of the row, from 0 on."""
+        there = {"school": self.school} if self.school else {}
+        return {"cmd": self.kind, "draw": self.first + at, **there, "day": self.day.isoformat(),
+                "lots": lots}
+
+
+@dataclasses.dataclass(frozen=True)
+class Done:
+    """A step that was done: to which state, by whom, at which moment (UTC), and what came of it."""
+
+    state: str
+    who: str
+    at: str
+    said: str
+
+
+@dataclasses.dataclass(frozen=True)
+class Draw:
+    """A draw as it is in the store. Its version grows with each step: who decides names the one
+    that they saw.
+    """
+
+    number: int
+    terms: Terms
+    state: str
+    version: int
+    # the numbers of the copies from before and after it
+    before: int | None
+    after: int | None
+    # the digest of the sealed lots
+    digest: str
+    # what the rehearsal and the audit found
+    rehearsal: dict[str, Any]
+    audit: dict[str, Any]
+    restore_by: str
+    done: tuple[Done, ...]
+
+    def came_to(self, state: str) -> Done:
+        """Who brought it to a state, and when; nobody where it has not been there."""
+        return next((it for it in self.done if it.state == state), Done(state, "", "", ""))
+
+    def who(self, state: str) -> str:
+        """Who brought it to a state, or ""."""
+        return self.came_to(state).who
+
+    @property
+    def is_ended(self) -> bool:
+        """Whether nothing more is to be done."""
+        return self.state in ENDED
+
+
+def of_rows(row: sqlite3.Row, steps: list[sqlite3.Row]) -> Draw:
+    """A draw of the store."""
+    terms = Terms(row["first"], row["school"], row["fills"],
+                  datetime.date.fromisoformat(row["day"]))
+    return Draw(
+        row["id"], terms, row["state"], row["version"], row["copy_before"],
+        row["copy_after"], row["digest"] or "", json.loads(row["rehearsal"] or "{}"),
+        json.loads(row["audit"] or "{}"), row["restore_by"] or "",
+        tuple(Done(it["state"], it["who"], it["at"], it["said"]) for it in steps))
+
+
+@dataclasses.dataclass(frozen=True)
+class Step:
+    """A step: the state that it leads to, its title, what it does, and the text of its button."""
+
+    state: str
+    title: str
+    does: str
+    button: str = ""
+
+
+STEPS = (
+    Step(BEGUN, "What is drawn, and for which day", "Nothing is closed yet."),
+    Step(CLOSED, "Closed for all others",
+         "Nobody can record anything from then on until the draw is opened or given up. All can"
+         " still read, and what somebody has typed stays.", "Close for all others"),
+    Step(COPIED, "Copy of the register",
+         "The register is copied, and the copy is compared with it. For some seconds nobody can"
+         " read it. The copy can be restored if the draw goes wrong.", "Make the copy"),
+    Step(LOTS, "Pairs for the supervisor",
+         "The register names each pair of a school and a child for which a lot is drawn, and the"
+         " supervisor finds them on the screen of lots.", "Give the pairs to the supervisor"),
+    Step(SEALED, "Lots of the supervisor",
+         "The supervisor draws the lots, and seals them on the screen of lots. After that nobody"
+         " changes them."),
+    Step(REHEARSED, "Rehearsal on a scratch copy",
+         "The draw is held on a scratch copy, and audited by a second program. Nothing is sent. The"
+         " outcome is shown here.", "Rehearse"),
+    Step(CONFIRMED, "Confirmed by a second person",
+         "Somebody other than the person who began the draw has read the outcome, and says that it"
+         " may be held.", "Confirm"),
+    Step(SENDING, "Held",
+         "The lots are sent to the register, which allots the places. Only a restore of the copy"
+         " undoes it.", "Hold"),
+    Step(AUDITED, "Audit",
+         "The register is copied once more. A second program works out the draw from the two"
+         " copies, and the outcome is compared with that of the rehearsal.", "Audit"),
+    Step(OPENED, "Open for all", "Everybody can record again.", "Open for all"),
+)

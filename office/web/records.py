@@ -1,0 +1,165 @@
+"""What the history has of a child, in words: who recorded what and when, and what came of it; with
+the draws in which the child took part.
+"""
+import csv
+import dataclasses
+import io
+from collections.abc import Callable, Iterable, Iterator, Mapping
+from typing import Any
+
+from office import commands, days, persons, rules
+from office.model import Register
+
+from .history import ANSWER, SENDS, SETTLED, Entry, History
+from .wording import draw_in_words, label, sentence
+
+Command = Mapping[str, Any]
+DRAWS = ("round", "fill")
+# with the data of a child
+WHOLE = ("add_child", "amend")
+
+
+@dataclasses.dataclass(frozen=True)
+class Record:
+    """What was recorded: the moment in UTC, or the day of a draw that the history has not; by whom;
+    what, and what came of it.
+    """
+
+    at: str
+    who: str
+    what: str
+    came: str
+    is_done: bool
+
+    @property
+    def has_moment(self) -> bool:
+        """Whether the moment is known, and not the day alone."""
+        return "T" in self.at
+
+
+def day_in(command: Command) -> str:
+    """The day of a command."""
+    found = days.read(str(command.get("day", "")))
+    return days.in_words(found) if found else str(command.get("day", ""))
+
+
+WORDS: dict[str, Callable[[Command], str]] = {
+    "accept": lambda it: f"accepted the place at {it['school']}",
+    "decline": lambda it: f"declined the place at {it['school']}",
+    "remind": lambda it: f"reminded on {day_in(it)} of the offer of {it['school']}",
+    "lapse": lambda it: f"offer of {it['school']} withdrawn on {day_in(it)}",
+    "leave_list": lambda it: f"left the waiting list of {it['school']}",
+    "name_plan": lambda it: f"plan that names {it['school']}",
+    "apply": lambda it: f"application of {day_in(it)}: {', '.join(it['preferences'])}",
+}
+
+
+def in_words(command: Command, before: Command | None) -> str:
+    """What a command records of a child, with what it changes of the data that were known before.
+    """
+    name = command["cmd"]
+    if name in WORDS:
+        return WORDS[name](command)
+    if name == "amend" and before:
+        return "data corrected: " + ("; ".join(changes(before, command)) or "nothing changed")
+    return "child added" if name == "add_child" else "data corrected"
+
+
+def changes(before: Command, now: Command) -> Iterator[str]:
+    """The fields in which the data of a child differ."""
+    for it in rules.COMMANDS["amend"]:
+        one, other = (persons.cell_of(data.get(it, "")) for data in (before, now))
+        if one != other:
+            yield f"{label(it)} {one or 'none'} → {other or 'none'}"
+
+
+def came_of(entry: Entry, ends: Mapping[int, Entry]) -> tuple[str, bool]:
+    """What came of a request, and whether it is done."""
+    end = ends.get(entry.number)
+    if end is None:
+        return "no answer yet", False
+    if end.what != ANSWER:
+        is_done = bool(end.about["done"])
+        return ("done, as the register shows" if is_done else "not done"), is_done
+    answer = end.about["answer"]
+    if commands.is_done(answer):
+        return "done", True
+    return sentence(commands.in_words(answer, entry.about.get("command"))), False
+
+
+def has_row(rows: str, number: int) -> bool:
+    """Whether an import has a child. Its number is the first of a row."""
+    return f"\n{number}," in rows.replace("\r", "")
+
+
+def row_in(rows: str, number: int) -> dict[str, str]:
+    """The row of a child in an import."""
+    return next(it for it in csv.DictReader(io.StringIO(rows)) if it.get("child") == str(number))
+
+
+def ends_of(entries: Iterable[Entry]) -> dict[int, Entry]:
+    """What came of the requests, by their numbers."""
+    return {it.about["of"]: it for it in entries if it.what in (ANSWER, SETTLED)}
+
+
+def of_child(history: History, register: Register, number: int) -> list[Record]:
+    """The records of a child, the last first."""
+    entries = list(history.entries)
+    ends, found = ends_of(entries), []
+    draws: dict[int, Entry] = {}
+    before: Command | None = None
+    for it in entries:
+        if it.what != SENDS:
+            continue
+        came, is_done = came_of(it, ends)
+        command = it.about.get("command", {})
+        if command.get("cmd") in DRAWS and is_done:
+            draws[command["draw"]] = it
+        elif command.get("child") == number:
+            found.append(Record(it.at, it.who, in_words(command, before), came, is_done))
+            before = command if is_done and command["cmd"] in WHOLE else before
+        elif "import" in it.about and has_row(it.about["import"], number):
+            row = row_in(it.about["import"], number)
+            words = f"imported, with the application of {day_in(row)}: {row.get('preferences')}"
+            found.append(Record(it.at, it.who, words.replace(";", ", "), came, is_done))
+    found += [of_draw(register, at, number, draws.get(at)) for at, outcomes
+              in register.outcomes.items() if number in outcomes]
+    return sorted(found, key=lambda it: it.at, reverse=True)
+
+
+def of_draw(register: Register, at: int, number: int, entry: Entry | None) -> Record:
+    """What a draw gave a child."""
+    draw, code = register.draws[at - 1], register.outcomes[at][number]
+    came = "no place"
+    if code is not None:
+        came = f"{'offered' if register.fresh[at][number] else 'kept'} the place at {code}"
+    # (of another draw of this number, before a copy was restored, nothing is said)
+    is_this = entry is not None and entry.about["command"]["day"] == draw.day.isoformat()
+    when = entry.at if entry and is_this else draw.day.isoformat()
+    who = entry.who if entry and is_this else ""
+    words = f"{draw_in_words(draw)}, {days.in_words(draw.day)}"
+    return Record(when, who, words, came, True)
+
+
+def last_of(history: History, who: str, number: int) -> str:
+    """What somebody recorded of a child last, in a sentence, or ""."""
+    entries = list(history.entries)
+    ends = ends_of(entries)
+    for it in reversed(entries):
+        command = it.about.get("command", {})
+        if it.what == SENDS and it.who == who and command.get("child") == number:
+            came, is_done = came_of(it, ends)
+            said = in_words(command, None)
+            return f"Recorded: {said}." if is_done else f"Not recorded: {said}. {came}"
+    return ""
+
+
+def ended_by(history: History, number: int, code: str) -> str:
+    """How a child gave up a school: declined, lapsed or left, as the history has it, or ""."""
+    kinds = {"decline": "declined", "lapse": "lapsed", "leave_list": "left"}
+    for it in history.done():
+        command = it.about.get("command", {})
+        if (command.get("child"), command.get("school")) == (number, code):
+            if command["cmd"] in kinds:
+                return kinds[command["cmd"]]
+    return ""

@@ -1,0 +1,123 @@
+"""The draft of schools: what is typed or uploaded is kept until it is stored in the register, and
+shown whole before, since a school is final.
+"""
+import dataclasses
+import hashlib
+import json
+from collections.abc import Iterable
+
+from register_files import Refused
+
+from office.rules import LIMITS
+
+from . import schools
+from .desk import DIFFERS, DONE, LOST, UNSENT, Desk, Result, seen_of
+from .flags import Words
+from .people import Person
+from .schools import Cells, Line
+from .store import Store
+
+MOST = LIMITS["schools"].most
+THERE = Result(DONE, "The register has it already, with the same data.")
+
+
+@dataclasses.dataclass(frozen=True)
+class Outcome:
+    """A school that was to be stored, and what came of it."""
+
+    code: str
+    name: str
+    result: Result
+
+
+class Draft:
+    """The draft of one application, which its officers share."""
+
+    def __init__(self, store: Store) -> None:
+        self.store = store
+
+    def rows(self) -> list[tuple[int, Cells]]:
+        """The cells of its lines, by their numbers."""
+        rows = self.store.rows("SELECT number, cells FROM school_draft ORDER BY number")
+        return [(row["number"], json.loads(row["cells"])) for row in rows]
+
+    def cells(self, number: int) -> Cells | None:
+        """The cells of a line, if it is there."""
+        row = self.store.row("SELECT cells FROM school_draft WHERE number=?", number)
+        return dict(json.loads(row["cells"])) if row else None
+
+    def add(self, given: Iterable[Cells]) -> None:
+        """Adds lines, all or none."""
+        with self.store.writing() as db:
+            db.executemany("INSERT INTO school_draft (cells) VALUES (?)",
+                           [(json.dumps(it),) for it in given])
+            count = db.execute("SELECT count(*) FROM school_draft").fetchone()[0]
+            if count > MOST:
+                raise Refused(f"a register has at most {MOST} schools, and the draft would have"
+                              f" {count}")
+
+    def change(self, number: int, cells: Cells) -> None:
+        """Replaces a line."""
+        with self.store.writing() as db:
+            changed = db.execute("UPDATE school_draft SET cells=? WHERE number=?",
+                                 (json.dumps(cells), number))
+            if not changed.rowcount:
+                raise Refused("this line is not in the draft any more: it was stored or removed"
+                              " meanwhile")
+
+    def remove(self, *numbers: int) -> None:
+        """Removes lines."""
+        with self.store.writing() as db:
+            db.executemany("DELETE FROM school_draft WHERE number=?", [(it,) for it in numbers])
+
+
+def digest(lines: Iterable[Line]) -> str:
+    """What lines are, in short: only those that were shown are stored."""
+    text = json.dumps([[it.number, it.command] for it in lines])
+    return hashlib.sha256(text.encode()).hexdigest()
+
+
+def is_ready(lines: list[Line]) -> bool:
+    """Whether each line can be stored."""
+    return bool(lines) and all(it.command is not None for it in lines)
+
+
+def store_all(desk: Desk, who: Person, draft: Draft, words: Words, shown: str) -> list[Outcome]:
+    """Stores the schools of a draft as it was shown, in its order. One that is stored leaves the
+    draft, so that after an interruption the others go on; one that the register has with the same
+    data is stored.
+    """
+    known = desk.now().schools
+    lines = schools.lines_of(draft.rows(), known, words)
+    if digest(lines) != shown:
+        raise Refused("the draft was changed since it was shown: look at it again. Nothing was"
+                      " stored")
+    if not is_ready(lines):
+        raise Refused("the draft has lines that are not right. Nothing was stored")
+    schools.see_count(lines, known)
+    found = []
+    for line in lines:
+        assert line.command is not None
+        result = store_one(desk, who, line)
+        found.append(Outcome(line.command["school"], line.command["name"], result))
+        if result.is_done:
+            draft.remove(line.number)
+        if result.outcome in (UNSENT, LOST):
+            break
+    return found
+
+
+def store_one(desk: Desk, who: Person, line: Line) -> Result:
+    """Stores a school, unless the register has it."""
+    assert line.command is not None
+    register = desk.register()
+    there = register.schools.get(line.command["school"])
+    if there is None:
+        result = desk.send(who, line.command, seen_of(register, line.command))
+        if result.outcome != DIFFERS:
+            return result
+        there = desk.now().schools[line.command["school"]]
+    if other := schools.differences(there, line.command):
+        return Result(DIFFERS, f"The register has this school with other data: {other}. Nothing"
+                      " was sent for it.")
+    return THERE

@@ -1,0 +1,177 @@
+"""Answers of families: a pile that grows by a number or a name and Enter, by a sheet or a pasted
+column, and is recorded at once.
+"""
+from typing import cast
+
+import flask
+from register_files import Refused
+from werkzeug.wrappers import Response
+
+from office import sheet, texts
+from office.model import Register
+
+from .. import answers, guard, piles, uploads
+from ..answers import WORDS, Entry, Names
+from ..guard import needs, parts, person
+from ..people import RECORD
+from ..piles import DONE, Piles, Shown
+from ..wording import sentence
+
+screen = flask.Blueprint("answers", __name__, url_prefix="/answers")
+Answer = str | Response | tuple[str, int]
+# so long the answer to 'Record' waits for the end; after it the page shows how far it is
+WAIT_SECONDS = 20.0
+MOST_PASTED = 200_000
+
+
+def all_piles() -> Piles:
+    """The piles of this application."""
+    made = Piles(parts().store, parts().desk)
+    return cast(Piles, flask.current_app.extensions.setdefault("piles", made))
+
+
+def page(said: str = "", status: int = 200, pasted: str = "", typed: str = "") -> Answer:
+    """The pile, with the field for the next answer."""
+    who, found = person().name, all_piles()
+    register: Register | None = None
+    try:
+        register = parts().desk.register()
+        found.settle(who)
+    except Refused as error:
+        said, status = f"{said} {sentence(str(error))}".strip(), max(status, 503)
+    shown = found.shown(who, register) if register else []
+    ready = [it for it in shown if it.is_ready]
+    done = [it for it in found.of(who) if it.state == DONE]
+    names = {it.number: it.name for it in register.children.values()} if register else {}
+    failed = sum(bool(it.entry.said) for it in shown)
+    if failed and not said:
+        said = f"{texts.count(failed, 'answer was', 'answers were')} not recorded: see the results."
+    elif "recorded" in flask.request.args and not said and who in found.came:
+        said = "{} of {} recorded.".format(found.came[who][0], texts.count(
+            found.came[who][1], "answer is", "answers are"))
+    return flask.render_template(
+        "answers.html", shown=shown, ready=ready, digest=piles.digest(ready), done=done,
+        names=names, words=WORDS, said=said, is_bad=status != 200 or bool(failed), pasted=pasted,
+        typed=typed, is_running=found.is_running(who), is_away=register is None,
+        waiting=found.of(who) if register is None else []), status
+
+
+@screen.get("/")
+@needs(RECORD)
+def show() -> Answer:
+    """The pile."""
+    return page()
+
+
+def back() -> Response:
+    """Leads to the pile."""
+    return flask.redirect(flask.url_for("answers.show"), 303)
+
+
+@screen.post("/")
+@needs(RECORD)
+def add() -> Answer:
+    """An answer that was typed."""
+    typed = flask.request.form.get("entry", "").strip()
+    if not typed:
+        return page("Enter a number or a name.", 400)
+    try:
+        register = parts().desk.register()
+        meant = answers.read(Names(register), typed)
+        all_piles().add(person().name, register, [meant])
+    except Refused as error:
+        return page(f"{typed[:answers.MOST_TYPED]} was not added: {sentence(str(error))}", 409,
+                    typed=typed)
+    return back()
+
+
+@screen.post("/several")
+@needs(RECORD)
+def several() -> Answer:
+    """A column that was pasted, or a sheet."""
+    pasted, given = flask.request.form.get("pasted", ""), flask.request.files.get("sheet")
+    try:
+        if pasted.strip() and given and given.filename:
+            raise Refused("paste a text or choose a file, and not both")
+        if len(pasted) > MOST_PASTED:
+            raise Refused("that is too much to be pasted: upload it as a sheet")
+        if pasted.strip():
+            rows = sheet.text_sheet("the text", pasted.strip().encode()).rows
+        else:
+            rows = uploads.rows_of(given)
+        register = parts().desk.register()
+        all_piles().add(person().name, register, answers.of_rows(Names(register), rows))
+    except Refused as error:
+        return page(f"Nothing was added: {sentence(str(error))}", 400, pasted)
+    return back()
+
+
+def entry_of_form() -> Entry | None:
+    """The entry that a button of the pile concerns."""
+    number = flask.request.form.get("number", "")
+    return next((it for it in all_piles().of(person().name) if str(it.number) == number), None)
+
+
+@screen.post("/remove")
+@needs(RECORD)
+def remove() -> Answer:
+    """Removes an entry, all that wait, or the list of those that were recorded."""
+    given, found = flask.request.form.get("number", ""), all_piles()
+    chosen = [it for it in found.of(person().name)
+              if given == str(it.number) or given == "done" and it.state == DONE
+              or given == "all" and it.state != DONE]
+    found.remove(person().name, (it.number for it in chosen))
+    return back()
+
+
+@screen.post("/choose")
+@needs(RECORD)
+def choose() -> Answer:
+    """Says which child a name means, or that the name of an entry is right."""
+    entry, child = entry_of_form(), flask.request.form.get("child", "")
+    register = parts().desk.now()
+    if entry is not None:
+        meant = entry.meant
+        if child.isdecimal() and int(child) in register.children:
+            meant = answers.with_school(
+                register, answers.Meant(meant.typed, meant.kind, int(child)))
+            all_piles().replace(entry, register, meant)
+        elif not child:
+            meant = answers.Meant(meant.typed, meant.kind, meant.child, meant.school)
+            all_piles().replace(entry, register, meant)
+    return back()
+
+
+@screen.post("/record")
+@needs(RECORD)
+def record() -> Answer:
+    """Records what was shown, one answer after another; where something is final, after a question
+    that names whom it concerns.
+    """
+    form, found, who = flask.request.form, all_piles(), person()
+    register = parts().desk.now()
+    found.settle(who.name)
+    ready = [it for it in found.shown(who.name, register) if it.is_ready]
+    if piles.digest(ready) != form.get("digest", ""):
+        return page("The pile has changed since it was shown. Nothing was recorded: look at it"
+                    " again.", 409)
+    if not ready:
+        return page("There is nothing to record.", 409)
+    final = [it for it in ready if it.entry.is_final]
+    if final and form.get("sure") != "yes":
+        return ask(ready, final, register)
+    guard.record("records a pile", answers=len(ready))
+    try:
+        found.record(who, [it.entry for it in ready], WAIT_SECONDS)
+    except Refused as error:
+        return page(sentence(str(error)), 409)
+    return flask.redirect(flask.url_for("answers.show", recorded="yes"), 303)
+
+
+def ask(ready: list[Shown], final: list[Shown], register: Register) -> Answer:
+    """The question before what is final."""
+    schools = {code: it.name for code, it in register.schools.items()}
+    return flask.render_template(
+        "record_answers.html", ready=ready, final=final, digest=piles.digest(ready),
+        schools=schools, words=WORDS,
+        places={it.entry.number: register.places.get(it.entry.meant.child or 0) for it in final})

@@ -1,0 +1,215 @@
+"""Applications before they are in the register: files are added, cells corrected, and rows
+withdrawn and merged.
+"""
+from collections.abc import Mapping
+from typing import Any, BinaryIO, cast
+
+import flask
+from register_files import Refused
+from werkzeug.wrappers import Response
+
+from office import inputs, persons, texts
+from office.check import ERROR
+
+from .. import staging_files, staging_page, staging_tools
+from ..guard import needs, person
+from ..people import READ, RECORD
+from ..staging import Meanwhile
+from ..staging_check import Table
+from ..staging_rows import OPEN, WITHDRAWN
+from ..staging_tools import number_in, table_now, tools
+
+screen = flask.Blueprint("applications", __name__, url_prefix="/applications")
+screen.record(staging_tools.begin)
+Answer = str | Response | tuple[str, int]
+# what the address of the table keeps from one page to the next
+KEPT = ("show", "find", "page")
+
+
+def page(text: str = "", is_bad: bool = False, first: int | None = None,
+         typed: Mapping[str, str] | None = None) -> Answer:
+    """The table. A row that was saved, or could not be, is the first."""
+    table, reason = table_now()
+    if first is not None and not text:
+        text = saved(table, first)
+    args = flask.request.args
+    which = args.get("show", staging_page.ALL)
+    asked = {"show": which if which in staging_page.FILTERS else staging_page.ALL,
+             "find": args.get("find", "")}
+    shown = staging_page.page_of(
+        table, asked["show"], asked["find"], number_in(args, "page", 1), first, typed)
+    changes, more = staging_page.changes(table)
+    lost = {} if typed is None or first in table.rows else {
+        title: typed[it] for it, title in staging_page.columns() if typed.get(it)}
+    body = flask.render_template(
+        "applications.html", said=text, is_bad=is_bad, reason=reason, page=shown, asked=asked,
+        filters=staging_page.FILTERS, counts=staging_page.counts(table), changes=changes,
+        more_changes=more, files=tools().staging.files(), pairs=len(table.pairs), lost=lost,
+        columns=staging_page.columns(), uk=staging_page.uk_files(table),
+        withdrawn=tools().staging.count(WITHDRAWN), focus=staging_page.focus_of(shown, first))
+    return body, 409 if is_bad else 200
+
+
+def to_table(**more: Any) -> Response:
+    """The way back to the page of the table that was seen."""
+    kept: dict[str, Any] = {it: flask.request.args.get(it) for it in KEPT}
+    anchor = f"row-{more['row']}" if "row" in more else None
+    return flask.redirect(
+        flask.url_for("applications.show", _anchor=anchor, **kept, **more), 303)
+
+
+@screen.get("/")
+@needs(READ)
+def show() -> Answer:
+    """The table, and what was done last."""
+    args, staging = flask.request.args, tools().staging
+    entry, out = number_in(args, "done"), number_in(args, "out")
+    if entry or out:
+        many = texts.count(staging.stored(entry), "application")
+        said = [f"Stored in the register: {many} (entry {entry} of the activity)."] if entry else []
+        left = [f"{texts.count(out, 'row')} that the register had are out of the table."]
+        return page(" ".join(said + left if out else said))
+    if number := number_in(args, "row"):
+        return page(first=number)
+    if number := number_in(args, "withdrew"):
+        return page(f"Withdrawn: {staging.row(number).where}. It can be brought back from the"
+                    " withdrawn rows.")
+    added = [it for it in staging.files() if str(it.id) in args.getlist("added")]
+    return page(" ".join(f"{it.name} is added: {texts.count(sum(it.counts.values()), 'row')}."
+                         for it in added))
+
+
+def saved(table: Table, number: int) -> str:
+    """What is said of a row that was saved."""
+    found = table.rows.get(number)
+    if found is None:
+        return ""
+    many = sum(it.kind == ERROR for it in table.findings[number])
+    left = f"{texts.count(many, 'error')} left" if many else "nothing is wrong in it"
+    return f"Saved: {found.staged.where}; {left}."
+
+
+@screen.post("/files")
+@needs(RECORD)
+def add_files() -> Answer:
+    """Files that were dropped in. One that is refused does not keep the others out."""
+    form = flask.request.form
+    added: list[int] = []
+    refused: list[str] = []
+    for it in flask.request.files.getlist("files"):
+        name = staging_files.name_of(it.filename)
+        try:
+            if not name:
+                raise Refused("choose a file")
+            data = inputs.taken(name, cast(BinaryIO, it.stream))
+            read = staging_files.read(name, data, form.get("sheet", ""))
+            added.append(tools().staging.add_file(person().name, name, data, "uk" in form, read))
+        except Refused as error:
+            refused.append(str(error))
+    if not added and not refused:
+        refused = ["choose a file"]
+    if refused:
+        names = [it.name for it in tools().staging.files() if it.id in added]
+        done = f" Added: {texts.listed(names)}." if names else ""
+        return page(f"Not added: {'; '.join(refused)}.{done}", True)
+    return to_table(added=added)
+
+
+@screen.post("/row/<int:number>")
+@needs(RECORD)
+def change(number: int) -> Answer:
+    """One row: saved, withdrawn, or brought back."""
+    form, staging, who = flask.request.form, tools().staging, person().name
+    what, version = form.get("what", "save"), number_in(form, "version")
+    try:
+        if what == "withdraw":
+            staging.move(who, [(number, version)], WITHDRAWN)
+            return to_table(withdrew=number)
+        if what == "back":
+            staging.move(who, [(number, version)], OPEN)
+            return to_table(row=number)
+        staging.save(who, number, version, staging_page.sent(staging.row(number), form))
+        return to_table(row=number)
+    except Refused as error:
+        more = ". What you typed is kept below" if isinstance(error, Meanwhile) else ""
+        return page(f"Nothing was changed: {error}{more}.", True, number, form)
+
+
+@screen.post("/file/<int:number>")
+@needs(RECORD)
+def change_file(number: int) -> Answer:
+    """All rows of a file: withdrawn, or their days read in one way."""
+    form, staging = flask.request.form, tools().staging
+    try:
+        if form.get("what") == "uk":
+            staging.read_uk(person().name, number)
+            return to_table()
+        rows = [(it.id, it.version) for it in staging.rows(OPEN) if it.file == number]
+        if len(rows) != number_in(form, "many"):
+            raise Meanwhile("the table has changed meanwhile")
+        staging.move(person().name, rows, WITHDRAWN)
+        return to_table()
+    except Refused as error:
+        return page(f"Nothing was changed: {error}.", True)
+
+
+@screen.get("/withdrawn")
+@needs(READ)
+def withdrawn() -> Answer:
+    """The rows that were withdrawn."""
+    rows = tools().staging.rows(WITHDRAWN)
+    return flask.render_template(
+        "applications_withdrawn.html", columns=staging_page.columns(),
+        lines=[staging_page.line_of(it, None, {}) for it in rows])
+
+
+@screen.post("/withdrawn")
+@needs(RECORD)
+def bring_back() -> Answer:
+    """All of them, brought back."""
+    staging = tools().staging
+    rows = [(it.id, it.version) for it in staging.rows(WITHDRAWN)]
+    if len(rows) != number_in(flask.request.form, "many"):
+        raise Meanwhile("nothing was changed: the table has changed meanwhile")
+    staging.move(person().name, rows, OPEN)
+    return to_table()
+
+
+@screen.get("/duplicates")
+@needs(READ)
+def duplicates() -> Answer:
+    """Rows that may be of one child, side by side."""
+    return pairs_page()
+
+
+def pairs_page(text: str = "") -> Answer:
+    """The pairs, and why a change was not made."""
+    table, reason = table_now()
+    children = table.register.children if table.register else {}
+    applications = table.register.applications if table.register else {}
+    found = []
+    for it in table.pairs:
+        child = children.get(it.child or 0)
+        values = persons.cells_of(child, applications.get(child.number)) if child else {}
+        found.append((it.why, *staging_page.sides(it.one, it.other, it.child, values)))
+    body = flask.render_template(
+        "applications_duplicates.html", pairs=found, said=text, reason=reason,
+        columns=staging_page.columns())
+    return body, 409 if text else 200
+
+
+@screen.post("/duplicates")
+@needs(RECORD)
+def decide() -> Answer:
+    """One of two is withdrawn, alone or after its values went into the other."""
+    form, staging, who = flask.request.form, tools().staging, person().name
+    one, other = ((number_in(form, it), number_in(form, f"{it}-version"))
+                  for it in ("one", "other"))
+    try:
+        if form.get("what") == "merge":
+            staging.merge(who, one, other)
+        else:
+            staging.move(who, [one], WITHDRAWN)
+        return flask.redirect(flask.url_for("applications.duplicates"), 303)
+    except Refused as error:
+        return pairs_page(f"Nothing was changed: {error}.")

@@ -1,0 +1,76 @@
+"""A child that is typed into a form, and goes into the staging table."""
+import flask
+from register_files import Refused
+from werkzeug.wrappers import Response
+
+from office.check import LOOK
+from office.model import Register
+from office.rules import LIMITS
+
+from .. import staging_form, staging_page
+from ..guard import needs, person
+from ..people import RECORD
+from ..staging_check import Table, said
+from ..staging_rows import OPEN
+from ..staging_tools import number_in, register_now, table_now, tools
+
+screen = flask.Blueprint("applications_add", __name__, url_prefix="/applications/add")
+Answer = str | Response | tuple[str, int]
+
+
+def free_number(register: Register | None) -> int | None:
+    """The number that is proposed for the next child."""
+    return staging_form.next_free(
+        tools().staging.numbers() | set(register.children if register else ()))
+
+
+@screen.get("/")
+@needs(RECORD)
+def show() -> Answer:
+    """The form, and which child was added last."""
+    number, text = number_in(flask.request.args, "added"), ""
+    if number:
+        table, _ = table_now()
+        found = tools().staging.row(number)
+        looks = [said(it) for it in table.findings.get(number, []) if it.kind == LOOK]
+        text = " ".join([f"{found.cells['name']} is added with the number"
+                         f" {found.cells['child']}.", *(f"To look at: {it}." for it in looks)])
+    return page(None, text)
+
+
+def page(cells: dict[str, str] | None, text: str = "", table: Table | None = None) -> Answer:
+    """The form: empty, or with what was typed and what is wrong in it."""
+    register, reason = register_now()
+    free = free_number(register)
+    typed = cells or staging_form.cells_of({"child": str(free or "")})
+    row = staging_form.typed_row(typed, person().name)
+    found = {it.column: it for it in staging_page.cells_of(row, table, {})}
+    body = flask.render_template(
+        "applications_add.html", cells=found, said=text, is_bad=table is not None, reason=reason,
+        preferences=list(zip(staging_form.PREFERENCES, staging_form.preferences_of(typed))),
+        proposed=free or "", most_flag=LIMITS["flag"].most,
+        wrong=next((it.column for it in found.values() if it.is_wrong), "name"),
+        schools=[register.schools[it] for it in sorted(register.schools)] if register else [])
+    return body, 409 if table is not None else 200
+
+
+@screen.post("/")
+@needs(RECORD)
+def add() -> Answer:
+    """Adds a child. Where something is wrong the form is shown again, with what was typed."""
+    form, staging, who = flask.request.form, tools().staging, person().name
+    cells = staging_form.cells_of(form)
+    register, _ = register_now()
+    with staging.lock:
+        if cells["child"] in ("", form.get("proposed", "")):
+            # (which somebody else may have got meanwhile)
+            cells["child"] = str(free_number(register) or "")
+        table = tools().checker.table(
+            staging.rows(OPEN), register, staging_form.typed_row(cells, who))
+        if table.has_error(0):
+            return page(cells, "It is not added yet: see what is wrong.", table)
+        try:
+            number = staging.add_form(who, cells)
+        except Refused as error:
+            return page(cells, f"It is not added: {error}.", table)
+    return flask.redirect(flask.url_for("applications_add.show", added=number), 303)

@@ -1,0 +1,230 @@
+"""A child: its place, its list, its data and its history; and what can be recorded of it."""
+import dataclasses
+import datetime
+from typing import Any
+
+import flask
+from register_files import Refused
+from werkzeug.wrappers import Response
+
+from office import criteria, register_lists
+from office.model import Register
+
+from .. import children, corrections, flags, records, wording
+from ..children import ACTIONS, FIELDS, Question
+from ..desk import Seen, seen_of
+from ..guard import needs, parts, person
+from ..people import READ, RECORD
+from ..wording import sentence
+
+screen = flask.Blueprint("child", __name__, url_prefix="/children")
+Answer = str | Response | tuple[str, int]
+NAMES = f"any({', '.join(ACTIONS)})"
+
+
+def today() -> datetime.date:
+    """The day of today."""
+    return datetime.date.today()
+
+
+@screen.get("/")
+@needs(READ)
+def find() -> Answer:
+    """The children of a name or a number."""
+    text, rows, said = flask.request.args.get("find", "").strip(), [], ""
+    if text:
+        try:
+            rows = register_lists.find(parts().desk.register(), text)[1:]
+        except Refused as error:
+            said = sentence(str(error))
+    return flask.render_template("children.html", text=text, rows=rows, said=said)
+
+
+@dataclasses.dataclass(frozen=True)
+class Listed:
+    """A school of a child's list, as the screen has it."""
+
+    at: int
+    code: str
+    name: str
+    state: str
+    words: str
+    metres: int
+    waits: bool
+
+
+def listed(register: Register, number: int) -> list[Listed]:
+    """The schools of a child's list."""
+    application, place = register.applications.get(number), register.places.get(number)
+    words, found = flags.present(), []
+    for at, (code, it) in enumerate(application.listed.items() if application else (), 1):
+        school = register.schools[code]
+        state = wording.state(it, place)
+        if state == wording.STATES["left"]:
+            state = records.ended_by(parts().history, number, code) or state
+        found.append(Listed(at, code, school.name, state,
+                            criteria.in_words(school, it.number, words), it.metres,
+                            it.state == "waits"))
+    return found
+
+
+def shown(register: Register, number: int) -> dict[str, Any]:
+    """What each page about a child has."""
+    child, place = register.children[number], register.places.get(number)
+    application = register.applications.get(number)
+    return {
+        "child": child, "register": register, "listed": listed(register, number),
+        "place": wording.place(register, place), "deadline": wording.deadline(place),
+        "applied": application.day if application else None,
+        "is_late": application is not None and application.day > register.days[0],
+        "facts": children.facts_of(child, flags.flag_words),
+    }
+
+
+def child_in(number: int) -> Register:
+    """The register as it is now, which has the child."""
+    register = parts().desk.now()
+    if number not in register.children:
+        flask.abort(404)
+    return register
+
+
+@screen.get("/<int:number>")
+@needs(READ)
+def show(number: int) -> Answer:
+    """A child."""
+    return child_page(number)
+
+
+def child_page(number: int, said: str = "", status: int = 200) -> Answer:
+    """The page of a child."""
+    register, history = child_in(number), parts().history
+    if "recorded" in flask.request.args and not said:
+        said = records.last_of(history, person().name, number)
+    actions = [(name, code, ACTIONS[name].title, register.schools[code].name if code else "")
+               for name, code in children.possible(register, number)]
+    return flask.render_template(
+        "child.html", **shown(register, number), said=said, is_bad=status != 200,
+        actions=actions, records=records.of_child(history, register, number)), status
+
+
+def day_typed() -> tuple[datetime.date, str, str]:
+    """The day of an action: as it was typed, or today; and what is wrong with what was typed."""
+    text = flask.request.values.get("day")
+    if text is None:
+        return today(), today().isoformat(), ""
+    found = wording.day_of(text)
+    return found or today(), text, "" if found else "a day as 17 March 2025 or 17/3/2025"
+
+
+@screen.get(f"/<int:number>/<{NAMES}:name>")
+@needs(RECORD)
+def ask(number: int, name: str) -> Answer:
+    """What is asked before something is recorded."""
+    return ask_page(number, name)
+
+
+def ask_page(number: int, name: str, said: str = "", status: int = 200) -> Answer:
+    """The question, with the child as it is now."""
+    register = child_in(number)
+    given = flask.request.values.get("school", "")
+    code = children.school_of(register, number, name, given)
+    day, typed, wrong = day_typed()
+    found: Question | None = None
+    try:
+        if name != "plan" or code:
+            found = children.question(register, number, name, code, day, today())
+        else:
+            # (whether there can be one at all)
+            children.see_possible(register, number, name, next(iter(register.schools), ""))
+    except Refused as error:
+        # (what was recorded meanwhile is named first)
+        return child_page(number, f"{said} {sentence(str(error))}".strip(), 409)
+    seen = seen_of(register, found.command).text if found else ""
+    schools = [(it.code, f"{it.code} {it.name}") for it in register.schools.values()]
+    return flask.render_template(
+        "ask.html", **shown(register, number), action=ACTIONS[name], question=found, seen=seen,
+        code=code, day=day, typed=typed, wrong=wrong, said=said, schools=schools,
+        weekday=wording.weekday(day)), 400 if wrong and status == 200 else status
+
+
+@screen.post(f"/<int:number>/<{NAMES}:name>")
+@needs(RECORD)
+def record(number: int, name: str) -> Answer:
+    """Something that was confirmed."""
+    form = flask.request.form
+    action, day = ACTIONS[name], wording.day_of(form.get("day", ""))
+    command: dict[str, Any] = {
+        "cmd": action.command, "child": number, "school": form.get("school", "")}
+    if action.is_dated:
+        if day is None:
+            return ask_page(number, name)
+        command["day"] = day.isoformat()
+    result = parts().desk.send(person(), command, Seen(form.get("seen", "")))
+    if not result.is_done:
+        return ask_page(number, name, result.said, 409)
+    return flask.redirect(flask.url_for("child.show", number=number, recorded="yes"), 303)
+
+
+@screen.get("/<int:number>/correct")
+@needs(RECORD)
+def correct(number: int) -> Answer:
+    """The form of a correction, with the present data."""
+    return form_page(number, corrections.cells_of(child_in(number).children[number]))
+
+
+def form_page(
+    number: int, cells: dict[str, str], wrong: dict[str, str] | None = None, said: str = "",
+    status: int = 200,
+) -> Answer:
+    """The form, with what was typed."""
+    register = child_in(number)
+    words = flags.present()
+    return flask.render_template(
+        "correct.html", child=register.children[number], fields=FIELDS, cells=cells,
+        wrong=wrong or {}, said=said, is_bad=status != 200, label=wording.label,
+        is_choice=corrections.is_choice, is_flags=corrections.is_flags,
+        flags=[(it, flags.named(it, words)) for it in flags.NUMBERS]), status
+
+
+def cells_of_form() -> dict[str, str]:
+    """What was typed. Flags are boxes that are ticked."""
+    form = flask.request.form
+    return {it.name: ";".join(form.getlist(it.name)) if corrections.is_flags(it.kind)
+            else form.get(it.name, "") for it in FIELDS}
+
+
+@screen.post("/<int:number>/correct")
+@needs(RECORD)
+def do_correct(number: int) -> Answer:
+    """The question of a correction, with each field that it changes; or one that was confirmed."""
+    register, cells = child_in(number), cells_of_form()
+    command, wrong = corrections.read(register, number, cells)
+    what = flask.request.form.get("what", "")
+    if wrong or what == "edit":
+        said = "Nothing was sent: see the fields that are marked." if wrong else ""
+        return form_page(number, cells, wrong, said, 400 if wrong else 200)
+    said = ""
+    if what == "send":
+        seen = Seen(flask.request.form.get("seen", ""))
+        result = parts().desk.send(person(), command, seen)
+        if result.is_done:
+            return flask.redirect(flask.url_for("child.show", number=number, recorded="yes"), 303)
+        said, register = result.said, child_in(number)
+    return compare_page(register, number, cells, command, said)
+
+
+def compare_page(
+    register: Register, number: int, cells: dict[str, str], command: dict[str, Any], said: str,
+) -> Answer:
+    """What a correction changes of the data that the register has now."""
+    child = register.children[number]
+    changes = corrections.changes(child, command)
+    if not changes:
+        same = "The register has this data: there is nothing to send."
+        return form_page(number, cells, {}, f"{said} {same}".strip(), 409)
+    return flask.render_template(
+        "correction.html", child=child, changes=changes, cells=cells, said=said, fields=FIELDS,
+        warnings=list(corrections.warnings(child, command)),
+        seen=seen_of(register, command).text, is_flags=corrections.is_flags,
+    ), 409 if said else 200

@@ -1,0 +1,230 @@
+"""Lots, for the supervisor alone: a table to type them in, a sheet to upload, a seed for those that
+decide nothing, and the seal.
+"""
+import pathlib
+import re
+import tempfile
+from collections.abc import Sequence
+from typing import Any
+
+import flask
+from register_files import Refused
+from werkzeug.wrappers import Response
+
+from office import lot_sheets, texts
+
+from .. import draws_sheet
+from ..draws_drafts import Typed
+from ..draws_lots import MISSING, Cell, Sheet, errors_of_sheet
+from ..draws_terms import BEGUN, LOTS, Draw
+from ..guard import needs, parts, person
+from ..people import LOTS as RIGHT
+
+screen = flask.Blueprint("lots", __name__, url_prefix="/lots")
+Answer = str | Response | tuple[str, int]
+# so many cells are on a page, and so many errors of a sheet are shown
+CELLS, SHOWN = 300, 50
+FIELD = re.compile("lot-([A-Z0-9]{1,8})-([1-9][0-9]{0,6})-([0-9]{1,3})")
+KINDS = {"xlsx": "application/vnd.openxmlformats-officedocument.spreadsheetml.sheet",
+         "csv": "text/csv"}
+
+
+def field_of(cell: Cell) -> str:
+    """The name of a cell's field."""
+    (code, child), at = cell
+    return f"lot-{code}-{child}-{at}"
+
+
+def typed_now() -> dict[Cell, Typed]:
+    """What the form of a page has."""
+    form, found = flask.request.form, {}
+    for name, text in form.items():
+        if field := FIELD.fullmatch(name):
+            cell = (field[1], int(field[2])), int(field[3])
+            found[cell] = Typed(form.get(f"was-{name}", ""), text)
+    return found
+
+
+@screen.get("/")
+@needs(RIGHT)
+def show() -> Answer:
+    """The draws that have pairs."""
+    return flask.render_template("lots.html", draws=parts().lots.listed())
+
+
+def found_sheet(number: int) -> tuple[Draw, Sheet]:
+    """A draw and its lots, or the answer that there are none."""
+    try:
+        return parts().lots.sheet(number)
+    except Refused:
+        flask.abort(404)
+
+
+def whole_page(number: int, reason: str = "", status: int = 200) -> Answer:
+    """All lots, to be sealed, or as they were sealed."""
+    draw, sheet = found_sheet(number)
+    wrong = sheet.wrong()
+    text = "" if wrong else sheet.text()
+    return flask.render_template(
+        "lots_whole.html", draw=draw, sheet=sheet, reason=reason, wrong=wrong,
+        digest="" if wrong else sheet.digest(), head=text.split("\n")[0],
+        first=text.split("\n")[1:2], may_seal=draw.state == LOTS and not wrong,
+        is_own=draw.who(BEGUN) == person().name,
+    ), status
+
+
+def sheet_page(
+    number: int, said: str = "", reason: str = "", errors: Sequence[str] = (), status: int = 200,
+    shown: int | None = None,
+) -> Answer:
+    """A page of the table."""
+    draw, sheet = found_sheet(number)
+    if draw.state != LOTS:
+        return whole_page(number, reason, status)
+    wrong, typed = sheet.wrong(), typed_now() if reason else {}
+    per_page = max(1, CELLS // draw.terms.fills)
+    pages = max(1, -(-len(sheet.rows) // per_page))
+    at = max(1, min(pages, shown or page_asked()))
+    rows = sheet.rows[per_page * (at - 1):per_page * at]
+    return flask.render_template(
+        "lots_sheet.html", draw=draw, said=said, reason=reason, errors=errors,
+        rows=[row_of(it, wrong, typed) for it in rows], at=at, pages=pages, wrong=wrong,
+        missing=sum(it == MISSING for it in wrong.values()), seeds=sheet.seeds(),
+        ties=sum(it.tie > 0 for it in sheet.rows), count_all=len(sheet.rows),
+        free=free_cells(sheet),
+    ), status
+
+
+def free_cells(sheet: Sheet) -> int:
+    """How many lots may be drawn by a seed."""
+    return sum(not text for row in sheet.rows if not row.tie for text in row.typed)
+
+
+def row_of(row: Any, wrong: dict[Cell, str], typed: dict[Cell, Typed]) -> dict[str, Any]:
+    """A row as the page shows it: what was typed, also where it was not kept."""
+    cells = []
+    for at, stored in enumerate(row.typed):
+        cell = row.pair, at
+        given = typed.get(cell)
+        is_other = given is not None and given.text.strip() not in (stored, given.was)
+        cells.append({
+            "name": field_of(cell), "stored": stored, "seed": row.seeds[at],
+            "text": given.text if given and is_other else stored,
+            "wrong": wrong.get(cell, "") if not is_other else "",
+            "other": f"'{stored or 'nothing'}' is saved here" if is_other else "",
+        })
+    return {"school": row.pair[0], "child": row.pair[1], "tie": row.tie, "cells": cells}
+
+
+def page_asked() -> int:
+    """The page of the table that is asked for."""
+    text = flask.request.values.get("page", "1")
+    return int(text) if text.isascii() and text.isdigit() and len(text) < 6 else 1
+
+
+@screen.get("/<int:number>")
+@needs(RIGHT)
+def one(number: int) -> Answer:
+    """The lots of a draw."""
+    return sheet_page(number)
+
+
+@screen.post("/<int:number>")
+@needs(RIGHT)
+def save(number: int) -> Answer:
+    """Keeps what was typed on a page, and goes on to the one that was chosen."""
+    found_sheet(number)
+    try:
+        count = parts().lots.save(person(), number, typed_now())
+    except Refused as error:
+        return sheet_page(number, reason=f"Nothing was saved: {error}.", status=409)
+    to = flask.request.form.get("to", "")
+    shown = int(to) if to.isascii() and to.isdigit() and len(to) < 6 else None
+    return sheet_page(number, f"{texts.count(count, 'lot')} saved.", shown=shown)
+
+
+@screen.post("/<int:number>/seed")
+@needs(RIGHT)
+def seed(number: int) -> Answer:
+    """Draws by a seed those that decide nothing."""
+    found_sheet(number)
+    try:
+        count = parts().lots.draw_by_seed(person(), number, flask.request.form.get("seed", ""))
+    except Refused as error:
+        return sheet_page(number, reason=f"Nothing was drawn: {error}.", status=409)
+    return sheet_page(number, f"{texts.count(count, 'lot is', 'lots are')} drawn by the seed.")
+
+
+@screen.post("/<int:number>/sheet")
+@needs(RIGHT)
+def upload(number: int) -> Answer:
+    """Takes the lots of a sheet, if all its rows are right."""
+    draw, sheet = found_sheet(number)
+    text = flask.request.form.get("fill", "0")
+    fill = int(text) if text.isascii() and text.isdigit() and len(text) < 4 else -1
+    given = flask.request.files.get("file")
+    try:
+        if not given or not given.filename:
+            raise Refused("choose a file")
+        rows = draws_sheet.rows_of(given.read())
+        lots, errors = errors_of_sheet(draws_sheet.NAME, [it.pair for it in sheet.rows], rows)
+        if errors:
+            count = texts.count(len(errors), "error")
+            return sheet_page(number, reason=f"Nothing was taken: {count} in the file.",
+                              errors=errors[:SHOWN], status=409)
+        if not lots:
+            raise Refused("the file has no lot of these pairs")
+        changed = parts().lots.take(person(), number, fill, lots)
+    except Refused as error:
+        return sheet_page(number, reason=f"Nothing was taken: {error}.", status=409)
+    of = draw.terms.first + fill
+    return sheet_page(number, f"The file has {texts.count(len(lots), 'lot')} of draw {of}:"
+                              f" {changed} new or changed.")
+
+
+@screen.get("/<int:number>/sheet.<any(xlsx, csv):kind>")
+@needs(RIGHT)
+def sheet_file(number: int, kind: str) -> flask.Response:
+    """An empty sheet for one draw, to be filled in a spreadsheet."""
+    draw, sheet = found_sheet(number)
+    with tempfile.TemporaryDirectory(prefix="admissions-") as room:
+        path = pathlib.Path(room, f"lots.{kind}")
+        lot_sheets.write(str(path), [it.pair for it in sheet.rows])
+        data = path.read_bytes()
+    answer = flask.Response(data, mimetype=KINDS[kind])
+    name = f"lots-{draw.terms.first}.{kind}"
+    answer.headers["Content-Disposition"] = f"attachment; filename={name}"
+    return answer
+
+
+@screen.get("/<int:number>/seal")
+@needs(RIGHT)
+def whole(number: int) -> Answer:
+    """All lots, before they are sealed or after."""
+    return whole_page(number)
+
+
+@screen.post("/<int:number>/seal")
+@needs(RIGHT)
+def seal(number: int) -> Answer:
+    """Seals the lots that were shown."""
+    found_sheet(number)
+    seen, digest = (flask.request.form.get(it, "") for it in ("seen", "digest"))
+    if not (seen.isascii() and seen.isdigit() and len(seen) < 9):
+        flask.abort(400)
+    try:
+        parts().lots.seal(person(), number, int(seen), digest)
+    except Refused as error:
+        said = str(error)
+        return whole_page(number, f"{said[:1].upper()}{said[1:]}.", 409)
+    return flask.redirect(flask.url_for("lots.whole", number=number), 303)
+
+
+@screen.get("/<int:number>/sealed.txt")
+@needs(RIGHT)
+def sealed_text(number: int) -> flask.Response:
+    """The text of which the digest is."""
+    draw, sheet = found_sheet(number)
+    if not draw.digest:
+        flask.abort(404)
+    return flask.Response(sheet.text(), mimetype="text/plain")

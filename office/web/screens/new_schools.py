@@ -1,0 +1,191 @@
+"""Schools that are to be stored: typed, uploaded or taken from last year, shown whole in a draft,
+and stored by one confirmation.
+"""
+import flask
+from register_files import Refused
+from werkzeug.wrappers import Response
+
+from office import texts
+from office.rules import LIMITS
+
+from .. import flags, guard, school_drafts, schools, uploads
+from ..desk import DONE
+from ..guard import needs, parts, person
+from ..people import RECORD
+from ..school_drafts import Draft, Outcome
+from ..schools import COLUMNS, Cells, Line
+from ..wording import Order, classes, label, sentence
+
+screen = flask.Blueprint("new_schools", __name__, url_prefix="/schools/new")
+Answer = str | Response | tuple[str, int]
+NONE = {it: "" for it in COLUMNS}
+
+
+def draft() -> Draft:
+    """The draft of this application."""
+    return Draft(parts().store)
+
+
+def order_of(line: Line, words: flags.Words) -> list[tuple[str, str]]:
+    """The criteria of a line as they are stored, each with its words."""
+    given = line.command["criteria"] if line.command else []
+    return list(zip(given, classes(Order(tuple(given)), words)))
+
+
+def page(
+    cells: Cells | None = None, wrong: dict[str, str] | None = None, said: str = "",
+    status: int = 200, outcomes: list[Outcome] | None = None, number: int | None = None,
+) -> Answer:
+    """The draft, with the form of one school: a new one, or a line of the draft."""
+    words, known, is_away = flags.present(), {}, False
+    try:
+        known = parts().desk.register().schools
+    except Refused as error:
+        said, status, is_away = f"{said} {sentence(str(error))}".strip(), 503, True
+    lines = schools.lines_of(draft().rows(), known, words)
+    shown = schools.chosen((cells or NONE).get("criteria", ""), words)
+    rows = shown + [("", "")] * (LIMITS["criteria"].most - len(shown))
+    order = {it.number: order_of(it, words) for it in lines}
+    return flask.render_template(
+        "new_schools.html", lines=lines, order=order, digest=school_drafts.digest(lines),
+        is_ready=school_drafts.is_ready(lines) and not is_away, cells=cells or NONE,
+        wrong=wrong or {}, said=said, is_bad=status != 200, rows=rows, forms=schools.menu(words),
+        outcomes=outcomes or [], number=number, label=label, columns=COLUMNS, limits=LIMITS,
+    ), status
+
+
+def cells_of_form() -> Cells:
+    """The cells of the form: what was typed, as it was typed."""
+    form = flask.request.form
+    cells = {it: form.get(it, "").strip() for it in COLUMNS}
+    return cells | {"criteria": schools.of_menus(form.getlist("kind"), form.getlist("value"))}
+
+
+def to_draft(said: str) -> Response:
+    """Leads to the draft, with what was done."""
+    return flask.redirect(flask.url_for("new_schools.show", done=said), 303)
+
+
+DID = {"added": "The school is in the draft below.", "removed": "It is removed from the draft.",
+       "changed": "The line is changed."}
+
+
+@screen.get("/")
+@needs(RECORD)
+def show() -> Answer:
+    """The draft, with the form of a new school."""
+    done = flask.request.args.get("done", "")
+    if done.isdecimal() and len(done) < 4:
+        count = texts.count(int(done), "school is", "schools are")
+        return page(said=f"{count} in the draft below.")
+    return page(said=DID.get(done, ""))
+
+
+@screen.post("/")
+@needs(RECORD)
+def add() -> Answer:
+    """A school that was typed."""
+    cells = cells_of_form()
+    command, wrong = schools.read(cells, flags.present())
+    if command is None:
+        said = "It is not in the draft yet: see the fields that are marked."
+        return page(cells, wrong, said, 400)
+    try:
+        guard.record("added to the draft of schools", schools=[command["school"]])
+        draft().add([cells])
+    except Refused as error:
+        return page(cells, {}, sentence(str(error)), 409)
+    return to_draft("added")
+
+
+def add_many(given: list[Cells], source: str) -> Response:
+    """Schools of a file."""
+    guard.record("added to the draft of schools", schools=[it["school"] for it in given],
+                 source=source)
+    draft().add(given)
+    return to_draft(str(len(given)))
+
+
+@screen.post("/sheet")
+@needs(RECORD)
+def sheet() -> Answer:
+    """The schools of a workbook or a CSV."""
+    try:
+        rows = uploads.rows_of(flask.request.files.get("sheet"))
+        return add_many(schools.rows_of(rows), "a sheet")
+    except Refused as error:
+        return page(said=f"Nothing was added: {sentence(str(error))}", status=400)
+
+
+@screen.post("/last-year")
+@needs(RECORD)
+def last_year() -> Answer:
+    """The schools of last year's register that this one has not yet."""
+    try:
+        before = uploads.register_of(flask.request.files.get("copy"))
+        there = parts().desk.register().schools
+        known = {it["school"] for _, it in draft().rows()}
+        given = [schools.cells_of(it) for code, it in before.schools.items()
+                 if code not in there and code not in known]
+        if not given:
+            raise Refused("each of its schools is in the register or in the draft already")
+        return add_many(given, f"the register of {before.phase} entry in {before.year}")
+    except Refused as error:
+        return page(said=f"Nothing was added: {sentence(str(error))}", status=400)
+
+
+@screen.get("/<int:number>")
+@needs(RECORD)
+def edit(number: int) -> Answer:
+    """A line of the draft in the form."""
+    cells = draft().cells(number)
+    if cells is None:
+        flask.abort(404)
+    _, wrong = schools.read(cells, flags.present())
+    return page(cells, wrong, number=number)
+
+
+@screen.post("/<int:number>")
+@needs(RECORD)
+def change(number: int) -> Answer:
+    """A line of the draft that was corrected."""
+    cells = cells_of_form()
+    command, wrong = schools.read(cells, flags.present())
+    if command is None:
+        return page(cells, wrong, "The line is as before: see the fields that are marked.", 400,
+                    number=number)
+    try:
+        guard.record("changed the draft of schools", before=draft().cells(number), now=cells)
+        draft().change(number, cells)
+    except Refused as error:
+        return page(cells, {}, sentence(str(error)), 409)
+    return to_draft("changed")
+
+
+@screen.post("/remove")
+@needs(RECORD)
+def remove() -> Answer:
+    """Removes a line, or all."""
+    given = flask.request.form.get("number", "")
+    rows = [(it, cells) for it, cells in draft().rows() if given in ("all", str(it))]
+    guard.record("removed from the draft of schools", lines=[cells for _, cells in rows])
+    draft().remove(*(it for it, _ in rows))
+    return to_draft("removed")
+
+
+@screen.post("/store")
+@needs(RECORD)
+def store() -> Answer:
+    """Stores the draft that was confirmed."""
+    shown = flask.request.form.get("digest", "")
+    try:
+        found = school_drafts.store_all(
+            parts().desk, person(), draft(), flags.present(), shown)
+    except Refused as error:
+        return page(said=sentence(str(error)), status=409)
+    done = sum(it.result.outcome == DONE for it in found)
+    left = len(draft().rows())
+    said = f"{texts.count(done, 'school is', 'schools are')} stored."
+    if left:
+        said += f" {texts.count(left, 'line remains', 'lines remain')} in the draft."
+    return page(said=said, status=200 if done == len(found) else 409, outcomes=found)

@@ -1,0 +1,196 @@
+"""The check of the staging table: what admissions-check finds in its rows, each of which is read
+once in each of its versions; which rows may be of one child; and which the register has.
+"""
+import dataclasses
+import threading
+from collections.abc import Iterable, Sequence
+
+from office import across, check, fields, texts
+from office.check import ERROR, FIXED, LOOK, Context, Finding
+from office.model import PLAN, Register, School
+from office.rules import LIMITS
+
+from .staging_rows import Staged
+
+SAME_NUMBER, ALIKE = "the same number", "a similar name at the same home, or nearby"
+UK_DAYS = "if all days of the file are day/month/year, say so in the list of files"
+Differences = list[tuple[str, str]]
+
+
+@dataclasses.dataclass(frozen=True)
+class Checked:
+    """A row as it can be read, and what is found in it alone. A row that has a wrong form is not
+    read.
+    """
+
+    staged: Staged
+    row: check.Row
+    findings: tuple[Finding, ...]
+    is_read: bool
+
+
+@dataclasses.dataclass(frozen=True)
+class Pair:
+    """Two rows that may be of one child, or a row and a child of the register; and why."""
+
+    one: Staged
+    other: Staged | None
+    child: int | None
+    why: str
+
+
+class Checker:
+    """What is known of rows that were checked before, beside the same schools and season."""
+
+    def __init__(self) -> None:
+        self.lock = threading.Lock()
+        self.beside: tuple[dict[str, School], object] | None = None
+        self.known: dict[int, Checked] = {}
+
+    def table(self, rows: Sequence[Staged], register: Register | None,
+              typed: Staged | None = None) -> "Table":
+        """The table of these rows, and of one that is typed and not in it yet. Only rows that are
+        new or were changed are read.
+        """
+        beside = (register.schools, register.days) if register else None
+        with self.lock:
+            old = self.known if beside == self.beside else {}
+            found = [self.checked(it, old.get(it.id), register) for it in rows]
+            self.beside, self.known = beside, {it.staged.id: it for it in found}
+        return Table([*found, *([checked(typed, register)] if typed else [])], register)
+
+    def checked(self, it: Staged, old: Checked | None, register: Register | None) -> Checked:
+        """A row that was checked, now or before."""
+        return old if old and old.staged.version == it.version else checked(it, register)
+
+
+def checked(it: Staged, register: Register | None) -> Checked:
+    """A row with what is found in it."""
+    findings = [Finding(it.id, note.column, it.cells.get(note.column, ""), note.text, note.kind)
+                for note in it.notes]
+    row = check.Row(it.id, dict(it.cells), dict.fromkeys(fields.REQUIRED, ""), it.where)
+    if any(note.is_whole for note in it.notes):
+        return Checked(it, row, tuple(findings), False)
+
+    def add(number: int, column: str, value: str, text: str, kind: str = ERROR,
+            written: str | None = None) -> None:
+        findings.append(Finding(number, column, value, text, kind, written))
+
+    broken = {note.column for note in it.notes if note.kind == ERROR}
+    context = Context(register.schools if register else {}, it.is_uk)
+    for column in fields.COLUMNS:
+        check.read_field(row, column, it.cells[column], context, add, column in broken)
+    if register:
+        check.see_days([row], register, add)
+        check.see_homes([row], register, add)
+    return Checked(it, row, tuple(findings), True)
+
+
+class Table:
+    """Rows that were checked, also beside each other and beside the register."""
+
+    def __init__(self, rows: Iterable[Checked], register: Register | None) -> None:
+        self.rows = {it.staged.id: it for it in rows}
+        self.register = register
+        self.findings = {at: list(it.findings) for at, it in self.rows.items()}
+        self.pairs: list[Pair] = []
+        # the rows that the register has: as they are, and with other values
+        self.equal: set[int] = set()
+        self.differing: dict[int, Differences] = {}
+        read = [it.row for it in self.rows.values() if it.is_read]
+        self.again = self.see_repeated(read)
+        kept = [it for it in read if it.number not in self.again]
+        self.see_alike(kept)
+        if register is None:
+            check.see_days(kept, None, self.add)
+        else:
+            for row in kept:
+                if row.child in register.children and not self.has_error(row.number):
+                    self.see_known(row, register)
+
+    def add(self, row: int, column: str, value: str, text: str, kind: str = ERROR,
+            written: str | None = None) -> None:
+        """Adds a finding."""
+        self.findings[row].append(Finding(row, column, value, text, kind, written))
+
+    def see_repeated(self, rows: list[check.Row]) -> set[int]:
+        """Adds the rows with the number of another, and returns those that are equal to it."""
+        found = list(across.repeated(rows))
+        self.pairs += [
+            Pair(self.rows[row.number].staged, self.rows[first.number].staged, None, SAME_NUMBER)
+            for row, first, is_equal in found if not is_equal]
+        return check.see_repeated(found, self.add)
+
+    def see_alike(self, rows: list[check.Row]) -> None:
+        """Adds the rows that may be of one child."""
+        found = list(across.alike(rows, self.register))
+        for row, other in found:
+            one, number = self.rows[row.number].staged, other.number
+            child = int(other.fields["child"]) if number is None else None
+            self.pairs.append(
+                Pair(one, None if number is None else self.rows[number].staged, child, ALIKE))
+        check.see_alike(found, self.add)
+
+    def see_known(self, row: check.Row, register: Register) -> None:
+        """Adds that the register has the child of a row: with these values or with others."""
+        found, number = differing(row, register), row.child
+        if not found:
+            self.equal.add(row.number)
+            self.add(row.number, "", "", f"the register has child {number} with these values: the"
+                     " row is left out", FIXED)
+            return
+        self.differing[row.number] = found
+        for column, had in found:
+            self.add(row.number, column, row.given[column], "what the register has for child"
+                     f" {number}, {texts.shown(had)}: correct the child in the register, and"
+                     " withdraw this row")
+
+    def has_error(self, row: int) -> bool:
+        """Whether something is wrong with a row."""
+        return any(it.kind == ERROR for it in self.findings[row])
+
+    def has_look(self, row: int) -> bool:
+        """Whether something about a row is to be looked at."""
+        return any(it.kind == LOOK for it in self.findings[row])
+
+    def wrong(self) -> list[Staged]:
+        """The rows that have an error, and those with the number of another."""
+        twice = {it.id for pair in self.pairs if pair.why == SAME_NUMBER
+                 for it in (pair.one, pair.other) if it}
+        return [it.staged for at, it in self.rows.items() if self.has_error(at) or at in twice]
+
+    def shared(self) -> dict[tuple[object, ...], int]:
+        """The changes that several rows have, each with their number."""
+        counts: dict[tuple[object, ...], int] = {}
+        for found in self.findings.values():
+            for change in {it.change for it in found if it.column and it.change}:
+                counts[change] = counts.get(change, 0) + 1
+        return {change: many for change, many in counts.items() if many > 1}
+
+
+def differing(row: check.Row, register: Register) -> Differences:
+    """The columns in which the register has another value for the child of a row, each with what
+    it has. A child that was added without an application has no day and no preferences.
+    """
+    found, place = across.differing(row, register), register.places.get(row.child)
+    if row.child not in register.applications and not (place and place.kind == PLAN):
+        found += [("day", ""), ("preferences", "")]
+    return found
+
+
+def too_many(new: int, register: Register) -> str:
+    """Why so many children have no place in a register, or ""."""
+    most, has = LIMITS["children"].most, len(register.children)
+    if has + new <= most:
+        return ""
+    return f"a register has at most {most:,} children: it has {has:,}, and {new:,} are new"
+
+
+def said(finding: Finding) -> str:
+    """A finding as it is shown beside its cell."""
+    text = finding.text.replace(fields.UK_DAYS, UK_DAYS)
+    if finding.kind == ERROR and finding.column:
+        return f"expected {text}"
+    if finding.kind == FIXED and finding.written is not None:
+        return f"read as {texts.shown(finding.written)}"
+    return text

@@ -1,0 +1,159 @@
+"""Files of applications that are added to the staging table: read into rows by the header of each,
+with what is seen in the file alone.
+"""
+import dataclasses
+from collections.abc import Iterator
+
+from register_files import Refused
+
+from office import check, fields, sheet, sheet_apart, texts
+from office.check import ERROR, FIXED, LOOK, Check, Finding
+
+MOST_NAME = 80
+ADVICE = "write the name of the one that is meant into the field Sheet"
+NO_COLUMN = "no column of an application: it is kept beside the rows, and not stored"
+LEFT_OVER = "what is too much"
+
+
+@dataclasses.dataclass(frozen=True)
+class Note:
+    """What was found when a row was read, and cannot be seen in its cells: the column or "", and
+    whether the row is not read at all because of it. It ends when a person saves the row.
+    """
+
+    column: str
+    text: str
+    kind: str = ERROR
+    is_whole: bool = False
+
+
+@dataclasses.dataclass(frozen=True)
+class Given:
+    """A row of a file: its number there, its cells by the columns of an application, what other
+    columns have by their names, and what was found in the reading.
+    """
+
+    number: int
+    cells: dict[str, str]
+    others: dict[str, str]
+    notes: tuple[Note, ...]
+
+
+@dataclasses.dataclass(frozen=True)
+class Read:
+    """The rows of a file, and what was changed to read it, each as a sentence."""
+
+    rows: list[Given]
+    changes: list[str]
+
+
+def name_of(given: str | None) -> str:
+    """The name of a file as a browser sends it, without folders and what cannot be seen."""
+    name = (given or "").replace("\\", "/").rpartition("/")[2].strip()
+    return texts.visible(name)[:MOST_NAME]
+
+
+def read(name: str, data: bytes, wanted: str) -> Read:
+    """The rows of a file that was sent, or a refusal."""
+    if not data:
+        raise Refused(f"{name} is empty")
+    return rows_of(name, sheet_apart.read(name, data, wanted.strip() or None, ADVICE))
+
+
+def rows_of(name: str, found: sheet.Sheet) -> Read:
+    """The rows of a sheet. One whose header is wrong is refused: no row of it can be told."""
+    reading = Check(found, None, False)
+    below = reading.rows_below()
+    last = reading.header.number if reading.header else 0
+    wrong = [it for it in reading.findings if it.kind == ERROR and (it.row <= last or not last)]
+    if wrong:
+        raise Refused(f"{name} is no file of applications: {'; '.join(map(said_of_header, wrong))}")
+    if not below:
+        raise Refused(f"{name} has no applications below its header")
+    above, reading.findings = reading.findings, []
+    by_row: dict[int, list[Finding]] = {}
+    for it in above:
+        by_row.setdefault(it.row, []).append(it)
+    rows = [row_of(reading, row, by_row.get(row.number, [])) for row in below]
+    # (those of the whole file are the first)
+    changes = [it for it in (*above, *reading.findings) if it.kind == FIXED]
+    return Read(rows, [*found.changes, *summed(changes[len(found.changes):])])
+
+
+def said_of_header(finding: Finding) -> str:
+    """An error of a header as a sentence."""
+    if not finding.column:
+        return finding.text
+    return f"row {finding.row}, column {finding.column}: expected {finding.text}"
+
+
+def summed(changes: list[Finding]) -> Iterator[str]:
+    """What was changed in a file, the same in several rows once."""
+    rows: dict[tuple[str, str, str | None], list[int]] = {}
+    for it in changes:
+        text = NO_COLUMN if it.column and it.written is None else it.text
+        rows.setdefault((it.value if it.column else "", text, it.written), []).append(it.row)
+    for (value, text, written), numbers in rows.items():
+        if value:
+            yield f"column {texts.shown(value)}: " + (
+                text if written is None else f"read as {written}")
+        elif len(numbers) == 1:
+            yield f"row {numbers[0]}: {text}"
+        else:
+            yield f"{len(numbers):,} rows ({texts.spans(sorted(numbers))}): {text}"
+
+
+def row_of(reading: Check, row: sheet.Row, found: list[Finding]) -> Given:
+    """A row. What has a wrong number of fields is kept at the places where it may belong."""
+    before = len(reading.findings)
+    cells = reading.cells_of(row)
+    notes = [Note(it.column, it.text, it.kind) for it in found]
+    left_over = ""
+    if cells is None:
+        cells, left_over = placed(reading, row.cells)
+        notes += [Note(it.column, it.text + left_over, ERROR, True)
+                  for it in reading.findings[before:] if it.kind == ERROR]
+        reading.findings[before:] = [
+            it for it in reading.findings[before:] if it.kind != ERROR]
+    given = {it: cells[reading.columns[it]] if it in reading.columns else fields.OMITTED[it]
+             for it in fields.COLUMNS}
+    if not any(it.is_whole for it in notes):
+        notes += doubts(reading, given)
+    return Given(row.number, given, others_of(reading, cells), tuple(notes))
+
+
+def placed(reading: Check, cells: list[str]) -> tuple[list[str], str]:
+    """The cells of a row that has too many or too few, and what is said of those that have no
+    place.
+    """
+    more = len(cells) - reading.width
+    if reading.has_split_name(cells):
+        at = reading.columns["name"]
+        name = reading.sheet.separator.join(cells[at:at + 1 + more])
+        return [*cells[:at], name, *cells[at + 1 + more:]], ""
+    if more <= 0:
+        return cells + [""] * -more, ""
+    rest = [it for it in cells[reading.width:] if it.strip()]
+    said = f"; {LEFT_OVER}: {', '.join(map(texts.shown, rest))}" if rest else ""
+    return cells[:reading.width], said
+
+
+def doubts(reading: Check, given: dict[str, str]) -> Iterator[Note]:
+    """Which cells have letters that were read by an encoding that was guessed."""
+    for column, text in given.items():
+        if reading.is_doubtful(text):
+            row = check.Row(0, {}, {})
+            if check.read_field(row, column, text, reading.context, lambda *_: None):
+                yield Note(column, check.DOUBTFUL, LOOK)
+
+
+def others_of(reading: Check, cells: list[str]) -> dict[str, str]:
+    """What a row has in columns that an application has not, by their names."""
+    known = set(reading.columns.values())
+    names = reading.header.cells if reading.header else []
+    found: dict[str, str] = {}
+    for name, text in ((names[at].strip(), cells[at].strip())
+                       for at in range(min(len(names), len(cells))) if at not in known):
+        if name and text:
+            found[name] = f"{found[name]}; {text}" if name in found else text
+    return found

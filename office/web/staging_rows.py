@@ -1,0 +1,111 @@
+"""The rows of the staging table and its files, as the store keeps them and the history names them.
+"""
+import dataclasses
+import json
+import sqlite3
+from collections.abc import Iterable, Mapping
+
+from register_files import Refused
+
+from office import fields, inputs, texts
+
+from .staging_files import Note
+
+OPEN, WITHDRAWN, SENDING, COMMITTED = "open", "withdrawn", "sending", "committed"
+# so much of a cell is in the history
+MOST_TOLD = 300
+
+
+@dataclasses.dataclass(frozen=True)
+class Staged:
+    """A row of the table: its file and its number there, its cells by their columns, and those of
+    other columns; what was found in its reading; and who added and changed it, and when.
+    """
+
+    id: int
+    file: int
+    file_name: str
+    is_form: bool
+    is_uk: bool
+    number: int
+    cells: dict[str, str]
+    others: dict[str, str]
+    notes: tuple[Note, ...]
+    state: str
+    version: int
+    who: str
+    added: str
+    changed_by: str
+    changed: str
+    entry: int | None
+
+    @property
+    def where(self) -> str:
+        """How messages name it."""
+        return f"form {self.number}" if self.is_form else f"row {self.number} of {self.file_name}"
+
+
+@dataclasses.dataclass(frozen=True)
+class File:
+    """A file that was added: who added it and when, what was changed to read it, and how many of
+    its rows are in each state.
+    """
+
+    id: int
+    name: str
+    is_form: bool
+    is_uk: bool
+    changes: list[str]
+    who: str
+    added: str
+    counts: dict[str, int]
+
+
+def staged_of(row: sqlite3.Row) -> Staged:
+    """A row of the store."""
+    notes = tuple(Note(**it) for it in json.loads(row["notes"]))
+    return Staged(
+        row["id"], row["file"], row["name"], bool(row["is_form"]), bool(row["is_uk"]),
+        row["number"], whole(json.loads(row["cells"])), json.loads(row["others"]), notes,
+        row["state"], row["version"], row["who"], row["added"], row["changed_by"], row["changed"],
+        row["entry"])
+
+
+def whole(cells: Mapping[str, str]) -> dict[str, str]:
+    """Cells with each column that an application has."""
+    return {it: cells.get(it, fields.OMITTED.get(it, "")) for it in fields.COLUMNS}
+
+
+def packed(value: object) -> str:
+    """A value as the store keeps it."""
+    return json.dumps(value, ensure_ascii=False, separators=(",", ":"))
+
+
+def packed_notes(notes: Iterable[Note]) -> str:
+    """Notes as the store keeps them."""
+    return packed([dataclasses.asdict(it) for it in notes])
+
+
+def see_lengths(cells: Mapping[str, str]) -> None:
+    """Refuses what no cell of a sheet can have."""
+    if any(len(it) > inputs.MOST_TEXT for it in cells.values()):
+        raise Refused(f"a cell has at most {inputs.MOST_TEXT:,} characters")
+
+
+def named(found: Staged) -> dict[str, str]:
+    """How the history names the child of a row."""
+    return {"number": told(found.cells["child"])}
+
+
+def places_of(rows: Iterable[Staged]) -> str:
+    """Where rows are, in words."""
+    places: dict[str, list[int]] = {}
+    for it in rows:
+        places.setdefault(it.file_name, []).append(it.number)
+    return "; ".join(f"{texts.spans(sorted(numbers))} of {name}"
+                     for name, numbers in places.items())
+
+
+def told(text: str) -> str:
+    """A cell as the history has it."""
+    return texts.visible(text)[:MOST_TOLD]

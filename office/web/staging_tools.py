@@ -1,0 +1,59 @@
+"""What the screens of the staging table share in one application."""
+import dataclasses
+from collections.abc import Mapping
+from typing import Any, cast
+
+import flask
+from register_files import Refused
+
+from office.model import Register
+
+from .guard import parts
+from .staging import Staging
+from .staging_check import Checker, Table
+from .staging_commit import Committing
+from .staging_rows import OPEN
+
+
+@dataclasses.dataclass(frozen=True)
+class Tools:
+    """The table, its check, and what stores it."""
+
+    staging: Staging
+    checker: Checker
+    committing: Committing
+
+
+def begin(state: Any) -> None:
+    """Makes them with an application."""
+    found = state.app.extensions["office"]
+    staging, checker = Staging(found.store, found.history), Checker()
+    state.app.extensions["staging"] = Tools(
+        staging, checker, Committing(staging, checker, found.desk, found.history))
+
+
+def tools() -> Tools:
+    """Those of this application."""
+    return cast(Tools, flask.current_app.extensions["staging"])
+
+
+def register_now() -> tuple[Register | None, str]:
+    """The register, or why it does not answer."""
+    try:
+        return parts().desk.register(), ""
+    except Refused as error:
+        return None, (f"The register does not answer, and the rows are checked without it:"
+                      f" {error}.")
+
+
+def table_now() -> tuple[Table, str]:
+    """The table as it is, and what is to be said of it."""
+    unknown = tools().committing.settle()
+    register, reason = register_now()
+    return tools().checker.table(tools().staging.rows(OPEN), register), unknown or reason
+
+
+def number_in(given: Mapping[str, str], name: str, other: int = 0) -> int:
+    """A number of a form or an address."""
+    text = given.get(name, "")
+    return int(text) if text.isascii() and text.isdigit() and len(text) < 10 else other

@@ -1,0 +1,99 @@
+"""What the register says, in an office's words: places, deadlines, classes, states and days."""
+import dataclasses
+import datetime
+from collections.abc import Mapping
+
+from office import criteria, days, model
+from office.model import Draw, Place, Preference, Register
+from office.days import NOTICE
+
+FOREVER = "This cannot be undone: the school is not offered to the child again."
+# what came of a school of a child's list
+STATES = {
+    model.LEFT: "declined, lapsed or left", model.BEFORE: "before the first round",
+    model.BELOW: "below the child's place",
+}
+KINDS = {model.OFFERED: "offered", model.ACCEPTED: "accepted", model.PLAN: "by a plan"}
+
+
+def sentence(text: str) -> str:
+    """A text that begins with a capital and ends with a stop."""
+    text = text[:1].upper() + text[1:]
+    return text if text.endswith((".", "?", "!")) or not text else f"{text}."
+
+
+def weekday(day: datetime.date) -> str:
+    """A day with its weekday, by which a slip is seen."""
+    return f"{day:%A}, {days.in_words(day)}"
+
+
+def day_of(text: str) -> datetime.date | None:
+    """A day as it is typed: 2025-03-17, 17/3/2025 or 17 March 2025."""
+    found = days.read(text.strip()) or days.uk_reading(text)
+    readings = days.readings(text)
+    return found or (readings.pop() if len(readings) == 1 else None)
+
+
+def place(register: Register, found: Place | None) -> str:
+    """The place of a child."""
+    if found is None:
+        return "The child has no place."
+    school = register.schools[found.school].name
+    if found.kind == model.PLAN:
+        return f"The child has a place at {school} by a plan."
+    if found.kind == model.ACCEPTED or found.day is None:
+        return f"The child has a place at {school}, which was accepted."
+    offered = f"The child was offered a place at {school} on {days.in_words(found.day)}"
+    if found.reminded is None:
+        return f"{offered}. There is no answer yet."
+    return f"{offered}, and reminded on {days.in_words(found.reminded)}. There is no answer yet."
+
+
+def deadline(found: Place | None) -> str:
+    """Until when an offer is to be answered, or ""."""
+    if found is None or found.kind != model.OFFERED or found.day is None:
+        return ""
+    if found.reminded is None:
+        return f"A reminder is due from {days.in_words(found.day + NOTICE)} on."
+    since = days.in_words(found.reminded + NOTICE)
+    return f"The offer may be withdrawn from {since} on, if it is not answered."
+
+
+@dataclasses.dataclass(frozen=True)
+class Order:
+    """The criteria of a school that is not in the register yet."""
+
+    criteria: tuple[str, ...]
+
+
+def classes(school: criteria.School, words: Mapping[int, str]) -> list[str]:
+    """The criteria of a school in their order."""
+    return [criteria.in_words(school, at, words) for at in range(1, len(school.criteria) + 1)]
+
+
+def state(found: Preference, held: Place | None) -> str:
+    """What came of a school of a child's list."""
+    if found.state == model.HELD and held:
+        return KINDS[held.kind]
+    if found.state == model.WAITS:
+        return f"waits, position {found.position:,} of {found.of:,}"
+    return STATES[found.state]
+
+
+def draw_in_words(draw: Draw) -> str:
+    """A draw as an office names it."""
+    return f"round {draw.round}" if draw.round else f"fill of {draw.school} (draw {draw.number})"
+
+
+# the fields of a child and of a school, as forms and lists have them
+LABELS = {
+    "child": "Number", "name": "Name", "east": "East, in metres", "north": "North, in metres",
+    "looked_after": "Looked after", "flags": "Flags", "siblings": "Siblings at",
+    "present": "Present school", "school": "Code", "pan": "Admission number",
+    "criteria": "Criteria",
+}
+
+
+def label(field: str) -> str:
+    """A field of a command in words; one that is new in the program by its name."""
+    return LABELS.get(field) or field.replace("_", " ").capitalize()

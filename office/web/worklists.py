@@ -1,0 +1,139 @@
+"""The worklists as screens have them: their titles, what each says, and the options of its form."""
+import dataclasses
+import datetime
+import re
+from collections.abc import Mapping
+from typing import Any
+
+from office import days, worklists
+from office.model import Register
+from office.register_lists import Cell, Rows
+
+from .wording import day_of, draw_in_words, weekday
+
+# those that are screens of their own, or lines for a terminal
+ELSEWHERE = ("amend", "child", "find")
+TITLES = {
+    "children": "All children", "draws": "Rounds and fills",
+    "equal-at-limit": "Where only the lot decided", "interest": "What families want",
+    "lapse-due": "Offers that may be withdrawn", "last-offered": "Last offered",
+    "list": "Waiting lists", "lots": "Lots of a draw", "moved": "Whom a draw moved",
+    "no-answer": "Not answered", "preferences": "Preferences that were met",
+    "remind-due": "Reminders that are due", "round-report": "Result of a round",
+    "season": "Days and counts", "unplaced": "Children without a place",
+    "vacancies": "Places of each school",
+}
+NAMES = [it for it in worklists.WORKLISTS if it not in ELSEWHERE]
+# those that are a file of a terminal, or that another option includes
+NO_OPTIONS = {"moved": ("before", "round")}
+LABELS = {"day": "Day", "draw": "Draw", "round": "Round", "school": "School"}
+# the columns whose cells lead to a child or to a school
+CHILD, SCHOOLS = "child", ("school", "from", "to", "allotted")
+
+
+@dataclasses.dataclass(frozen=True)
+class Option:
+    """An option of a list: its name and label, what it can be, each with its words, or none where a
+    day is typed; what was given, and in words; and what is wrong with it.
+    """
+
+    name: str
+    label: str
+    choices: tuple[tuple[str, str], ...]
+    given: str
+    words: str = ""
+    wrong: str = ""
+
+
+def title(name: str) -> str:
+    """The title of a list."""
+    return TITLES.get(name) or name.replace("-", " ").capitalize()
+
+
+def purpose(name: str) -> str:
+    """What a list says, without what is for a terminal."""
+    text = re.sub(r" \(--[^)]*\)", "", worklists.WORKLISTS[name].purpose)
+    return re.sub(r"; with the copy .*", "", text)
+
+
+def taken(name: str) -> list[str]:
+    """The options of a list."""
+    options = worklists.WORKLISTS[name].taken
+    return [it for it in options if it not in NO_OPTIONS.get(name, ())]
+
+
+def choices(register: Register, name: str) -> tuple[tuple[str, str], ...]:
+    """What an option can be."""
+    if name == "school":
+        return tuple((code, f"{code} {it.name}") for code, it in register.schools.items())
+    if name == "round":
+        return tuple((str(it.round), f"{draw_in_words(it)}, {days.in_words(it.day)}")
+                     for it in register.rounds)
+    if name == "draw":
+        return tuple((str(it.number), f"{draw_in_words(it)}, {days.in_words(it.day)}")
+                     for it in register.draws)
+    return ()
+
+
+def options(
+    register: Register, name: str, given: Mapping[str, str], today: datetime.date,
+) -> tuple[list[Option], dict[str, Any]]:
+    """The options of a list with what was given, and their values, which are not whole where an
+    option is wrong or is to be chosen yet.
+    """
+    found: list[Option] = []
+    values: dict[str, Any] = {}
+    for it in taken(name):
+        text, can_be, wrong = given.get(it, "").strip(), choices(register, it), ""
+        words = dict(can_be).get(text, "")
+        if it == "day":
+            text = text or today.isoformat()
+            day = day_of(text)
+            values[it], words = day, weekday(day) if day else ""
+            wrong = "" if day else "a day as 17 March 2025 or 17/3/2025"
+        elif text and not words:
+            wrong = "one of the list"
+        elif text:
+            values[it] = text if it == "school" else int(text)
+        found.append(Option(it, LABELS[it], can_be, text, words, wrong))
+    return found, values
+
+
+def is_whole(name: str, found: list[Option], values: Mapping[str, Any]) -> bool:
+    """Whether a list can be made of these values."""
+    return not any(it.wrong for it in found) and not worklists.unfit(name, values)
+
+
+def rows_of(register: Register, name: str, values: Mapping[str, Any]) -> Rows:
+    """The rows of a list, of which the first is the header."""
+    return worklists.rows_of(register, name, values)
+
+
+@dataclasses.dataclass(frozen=True)
+class Shown:
+    """A cell as a screen has it: its text, whether it is a number, and whose screen it leads to."""
+
+    text: str
+    is_figure: bool = False
+    child: int | None = None
+    school: str = ""
+
+
+def shown(header: list[Cell], row: list[Cell], register: Register) -> list[Shown]:
+    """The cells of a row."""
+    found = []
+    for name, value in zip(header, row):
+        if isinstance(value, int):
+            is_child = name == CHILD and value in register.children
+            text = str(value) if name in (CHILD, "lot") else f"{value:,}"
+            found.append(Shown(text, True, value if is_child else None))
+        else:
+            code = value if name in SCHOOLS and value in register.schools else ""
+            found.append(Shown("" if value is None else in_words(value), school=code or ""))
+    return found
+
+
+def in_words(text: str) -> str:
+    """A text of a cell; a day in words."""
+    day = re.fullmatch(r"[0-9]{4}-[0-9]{2}-[0-9]{2}", text) and day_of(text)
+    return days.in_words(day) if day else text
