@@ -556,5 +556,7 @@ def test_a_register_is_what_is_compared(held: Site) -> None:
     held.browser("jane").get("/schools/A")
     register: Register = held.parts.desk.now()
     assert set(register.schools) == {"A", "B"}
-    for table in ("school_draft", "answer", "setting"):
+    for table in ("school_draft", "answer"):
         assert held.parts.store.rows(f"SELECT * FROM {table}") == []
+    assert [it["name"] for it in held.parts.store.rows("SELECT name FROM setting")] == [
+        "cookie key"]

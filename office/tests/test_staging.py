@@ -22,6 +22,7 @@ from office import check, sheet, sheet_apart
 from office.model import Register
 from office.senders import Ended
 from office.web import staging_check, staging_commit, staging_form, store
+from office.web.people import Person
 from office.web.staging_rows import COMMITTED, OPEN, SENDING, WITHDRAWN
 
 TOWN = [school("OAK", name="Oak School"), school("ELM", name="Elm School", east=500),
@@ -586,7 +587,8 @@ def test_what_has_changed_is_not_stored(office: Site, screens: Screens) -> None:
 def test_an_answer_to_an_offer_changes_nothing_of_it(office: Site, screens: Screens) -> None:
     """Late applications are stored while answers are recorded."""
     bo = office.browser("bo")
-    assert bo.command({"cmd": "round", "draw": 1, "day": "2025-03-03", "lots": [1]}).json["done"]
+    first = {"cmd": "round", "draw": 1, "day": "2025-03-03", "lots": [1]}
+    assert office.parts.desk.send(Person("bo", "officer"), first, None, True).is_done
     screens.add(("a.csv", lines(GOOD[:1])))
     digest = screens.digest()
     assert bo.command({"cmd": "accept", "child": 7, "school": "ELM"}).json == {"done": True}
@@ -682,22 +684,22 @@ def test_what_became_of_it_is_not_known(
     """Where the register does not answer after the sending, the rows wait; then they are found."""
     screens.add(("a.csv", lines(GOOD[:2])))
     digest, sender = screens.digest(), office.parts.desk.sender
-    real_import, real_read = sender.imported, sender.read
+    real_import, real_ask = sender.imported, sender.ask
 
     def broken(rows: bytes) -> bytes:
         real_import(rows)
-        monkeypatch.setattr(sender, "read", refused)
+        monkeypatch.setattr(sender, "ask", away)
         raise Ended("the connection broke")
 
-    def refused(_: str) -> bytes:
-        raise Refused("it does not answer")
+    def away(*_: object) -> tuple[int, bytes]:
+        raise Ended("it does not answer")
 
     monkeypatch.setattr(sender, "imported", broken)
     found = screens.store(digest)
     assert found.status_code == 409 and "There was no certain answer" in found.text
     assert states(office) == {SENDING: 2}
     assert "are stored is not known yet" in screens.browser.get("/applications/").text
-    monkeypatch.setattr(sender, "read", real_read)
+    monkeypatch.setattr(sender, "ask", real_ask)
     monkeypatch.setattr(sender, "imported", real_import)
     assert screens.see().rows() == [] and states(office) == {COMMITTED: 2}
     assert len(imports(office)) == 1
