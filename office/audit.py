@@ -52,11 +52,11 @@ MISFITS = (KeyError, ValueError, TypeError, IndexError, OverflowError)
 Findings = tuple[list[str], bool]
 
 
-def in_words(table: str, row: Row) -> str:
-    """A row as it is printed."""
+def in_words(table: str, row: Row, columns: Sequence[str]) -> str:
+    """A row with these columns as it is printed."""
     if table == "place":
         return place_in_words(Place(*row))
-    cells = zip(TABLES[table], row)
+    cells = zip(columns, row)
     return ", ".join(f"{name} {'none' if it is None else it}" for name, it in cells)
 
 
@@ -69,13 +69,14 @@ def place_in_words(it: Place) -> str:
 
 
 def differences(
-    gone: str, come: str, old: Sequence[Row], new: Sequence[Row], table: str
+    gone: str, come: str, old: Sequence[Row], new: Sequence[Row], table: str,
+    columns: Sequence[str],
 ) -> list[str]:
     """The rows of each list that the other one lacks, with a text that says which."""
     one, other = (set(), set()) if old == new else (set(old), set(new))
     return [
-        *(f"{gone}: {in_words(table, it)}" for it in sorted(one - other, key=repr)),
-        *(f"{come}: {in_words(table, it)}" for it in sorted(other - one, key=repr)),
+        *(f"{gone}: {in_words(table, it, columns)}" for it in sorted(one - other, key=repr)),
+        *(f"{come}: {in_words(table, it, columns)}" for it in sorted(other - one, key=repr)),
     ]
 
 
@@ -85,16 +86,18 @@ def what_else_changed(before: Rows, after: Rows, later: bool) -> list[str]:
     for table in GROWING if later else GROWING + KEPT:
         gone = f"a row of {table} of BEFORE is not in AFTER"
         come = f"a row of {table} of AFTER was not in BEFORE"
-        new = after.tables[table]
+        # (a file of an earlier version may lack one)
+        columns = [it for it in before.columns[table] if it in after.columns[table]]
+        old, new = (it.rows_by(table, columns) for it in (before, after))
         if table in GROWING:
             # (only those draws, outcomes and lots that are from before this draw)
             new = [it for it in new if it[0] <= count]
-        wrong += differences(gone, come, before.tables[table], new, table)
+        wrong += differences(gone, come, old, new, table, columns)
     # (the number of draws grows, and the version of a file may)
     one, other = ([it.meta[:3]] for it in (before, after))
     gone = "the season of BEFORE is not that of AFTER"
     come = "the season of AFTER was not that of BEFORE"
-    wrong += differences(gone, come, one, other, "meta")
+    wrong += differences(gone, come, one, other, "meta", TABLES["meta"])
     if after.meta.draws != len(after.draws):
         wrong.append(f"AFTER has {len(after.draws)} draws, and counts {after.meta.draws}")
     if not later and len(after.draws) > count + 1:
@@ -139,7 +142,7 @@ def errors_of_places(
     places += [Place(child, school, OFFERED, day, None) for child, school in new.items()]
     gone = f"by BEFORE and the {what}, and not in AFTER"
     come = f"in AFTER, and not by BEFORE and the {what}"
-    return differences(gone, come, places, after.places, "place")
+    return differences(gone, come, places, after.places, "place", TABLES["place"])
 
 
 def lots_of(after: Rows, number: int) -> dict[Pair, int]:

@@ -115,7 +115,7 @@ class Present(NamedTuple):
     school: str
 
 
-# the columns of each table
+# the columns of each table that are looked into; others are compared
 TABLES: dict[str, tuple[str, ...]] = {
     "meta": Meta._fields, "school": School._fields, "child": Child._fields,
     "application": Application._fields, "place": Place._fields, "left_list": ("child", "school"),
@@ -127,19 +127,29 @@ TABLES: dict[str, tuple[str, ...]] = {
 class Rows:
     """The rows of a register: as they are in each table, and by what they mean."""
 
-    def __init__(self, tables: dict[str, list[Row]]) -> None:
-        self.tables = tables
-        self.meta = Meta(*tables["meta"][0])
-        self.schools = [School(*it) for it in tables["school"]]
-        self.children = [Child(*it) for it in tables["child"]]
-        self.applications = [Application(*it) for it in tables["application"]]
-        self.places = [Place(*it) for it in tables["place"]]
-        self.draws = [Draw(*it) for it in tables["draw"]]
-        self.offers = [Offer(*it) for it in tables["offer"]]
-        self.lots = [Lot(*it) for it in tables["lot"]]
-        self.present = [Present(*it) for it in tables["present"]]
+    def __init__(self, columns: dict[str, list[str]], tables: dict[str, list[Row]]) -> None:
+        self.columns, self.tables = columns, tables
+
+        def known(table: str) -> list[Row]:
+            """The rows of a table, with the columns that are looked into."""
+            return [it[: len(TABLES[table])] for it in tables[table]]
+
+        self.meta = Meta(*known("meta")[0])
+        self.schools = [School(*it) for it in known("school")]
+        self.children = [Child(*it) for it in known("child")]
+        self.applications = [Application(*it) for it in known("application")]
+        self.places = [Place(*it) for it in known("place")]
+        self.draws = [Draw(*it) for it in known("draw")]
+        self.offers = [Offer(*it) for it in known("offer")]
+        self.lots = [Lot(*it) for it in known("lot")]
+        self.present = [Present(*it) for it in known("present")]
         # the pairs of children and schools whose lists they left
-        self.left: set[tuple[int, str]] = {(child, school) for child, school in tables["left_list"]}
+        self.left: set[tuple[int, str]] = {(child, school) for child, school in known("left_list")}
+
+    def rows_by(self, table: str, columns: Iterable[str]) -> list[Row]:
+        """The rows of a table with these columns of it."""
+        places = [self.columns[table].index(it) for it in columns]
+        return [tuple(row[at] for at in places) for row in self.tables[table]]
 
 
 def rows_of(name: str) -> Rows:
@@ -154,7 +164,7 @@ def rows_of(name: str) -> Rows:
             address = f"file:{urllib.parse.quote(path)}?mode=ro&immutable=1"
             with contextlib.closing(sqlite3.connect(address, uri=True)) as conn:
                 see_tables(name, conn)
-                return Rows(tables_of(conn))
+                return Rows(*tables_of(conn))
     except OSError as error:
         raise Refused(f"{name} cannot be read, or is in use: {error.strerror}") from error
     except (sqlite3.Error, TypeError) as error:
@@ -171,14 +181,23 @@ def see_tables(name: str, conn: sqlite3.Connection) -> None:
         raise Refused(f"{name} is no register: it has the {odd[0]} {odd[1]}")
 
 
-def tables_of(conn: sqlite3.Connection) -> dict[str, list[Row]]:
-    """The rows of each table. A file of version 1 has no present schools."""
+def tables_of(conn: sqlite3.Connection) -> tuple[dict[str, list[str]], dict[str, list[Row]]]:
+    """The columns of each table, those that are looked into first, and the rows. A file of version
+    1 has no present schools.
+    """
     is_first = conn.execute("SELECT version FROM meta").fetchone()[0] == 1
+    columns = {table: list(names) for table, names in TABLES.items()}
     found: dict[str, list[Row]] = {"present": []}
-    for table, columns in TABLES.items():
+    for table, names in columns.items():
         if not (is_first and table == "present"):
-            found[table] = conn.execute(f"SELECT {', '.join(columns)} FROM {table}").fetchall()
-    return found
+            there = conn.execute("SELECT name FROM pragma_table_info(?)", [table]).fetchall()
+            more = [it for it, in there if it not in names]
+            # (in quotes a name that is no column would be a text)
+            quoted = ('"' + it.replace('"', '""') + '"' for it in more)
+            listed = ", ".join([*names, *quoted])
+            found[table] = conn.execute(f"SELECT {listed} FROM {table}").fetchall()
+            names += more
+    return columns, found
 
 
 def split(text: str) -> list[str]:

@@ -218,9 +218,9 @@ class Known:
                 " decides whether they are those that were imported")
 
 
-def values_of(row: Row) -> list[str]:
+def values_of(row: Row, columns: Iterable[str] = fields.COLUMNS) -> list[str]:
     """A row as import takes it."""
-    return [row.fields.get(it, fields.OMITTED.get(it, "")) for it in fields.COLUMNS]
+    return [row.fields.get(it, fields.OMITTED.get(it, "")) for it in columns]
 
 
 def read_field(row: Row, column: str, given: str, context: Context, add: Add,
@@ -410,19 +410,19 @@ class Check:
         form = f"{self.width} fields, as the header has them; the row has {len(cells)}"
         at, more = self.columns.get("name", 0), len(cells) - self.width
         by_place = {place: column for column, place in self.columns.items()}
+        last = by_place[max(by_place)]
         broken = next((place for place, it in enumerate(cells) if "\n" in it), None)
         if self.has_split_name(cells):
             name = self.sheet.separator.join(cells[at : at + 1 + more])
             self.add(number, "name", name,
                      f'{form} (quote a name with a comma: "{name.strip()}")')
         elif broken is not None:
-            column = by_place.get(broken, "present")
+            column = by_place.get(broken, last)
             self.add(number, column, cells[broken], f"{form} (is a quote not closed?)")
         elif more > 0:
-            column = "present" if "present" in self.columns else "preferences"
-            self.add(number, column, cells[-1], form)
+            self.add(number, last, cells[-1], form)
         else:
-            self.add(number, by_place.get(len(cells), "present"), "", form)
+            self.add(number, by_place.get(len(cells), last), "", form)
 
     def across(self) -> None:
         """What is wrong across the rows."""
@@ -522,8 +522,8 @@ def write(check: Check, given: argparse.Namespace, errors: int) -> int:
     if errors:
         these = "this error" if errors == 1 else "these errors"
         raise Refused(f"{given.fix} is not written: correct {these} in {given.applications} first")
-    wanted = [it for it in fields.COLUMNS if it in check.columns]
-    rows = ([row.fields[it] for it in wanted] for row in check.rows)
+    wanted = fields.columns_up_to(check.columns)
+    rows = (values_of(row, wanted) for row in check.rows)
     sheet.write_new(given.fix, sheet.csv_bytes([wanted, *rows]))
     print(f"{given.fix} is written")
     return 0

@@ -106,7 +106,7 @@ def wrong_field(command: Any) -> str:
 def numbers_of(command: Mapping[str, Any]) -> Iterator[tuple[str, int, rules.Limit]]:
     """The numbers of a command that have a limit beside their kind: what each is, and the limit."""
     for field in rules.COMMANDS[command["cmd"]].values():
-        if field.kind == "number" and field.name in rules.LIMITS:
+        if field.kind == "number" and field.name in rules.LIMITS and field.name in command:
             yield f'"{field.name}"', command[field.name], rules.LIMITS[field.name]
     for text in command.get("criteria", []):
         for form in rules.CRITERIA:

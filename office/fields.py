@@ -2,7 +2,7 @@
 changed for that, or what is expected."""
 import dataclasses
 import re
-from collections.abc import Callable, Mapping
+from collections.abc import Callable, Collection, Mapping
 from typing import Protocol
 
 from . import days, rules, texts
@@ -12,8 +12,8 @@ COLUMNS = tuple(rules.COLUMNS)
 # those without which a file of applications is not read, and what each of the others is read as
 # where it is not there
 REQUIRED = tuple(name for name, it in rules.COLUMNS.items() if not it.is_optional)
-OMITTED = {it: "no" if rules.COLUMNS[it].kind == "truth" else "" for it in COLUMNS
-           if it not in REQUIRED}
+OMITTED = {name: texts.cell_of(it.omitted) for name, it in rules.COLUMNS.items()
+           if it.is_optional}
 # a number as a spreadsheet writes it is far shorter
 MOST_DIGITS = 40
 INVISIBLE = "\u200b\u2060\ufeff"
@@ -50,6 +50,12 @@ class Context(Protocol):
 
     @property
     def is_uk(self) -> bool: ...
+
+
+def columns_up_to(has: Collection[str]) -> list[str]:
+    """The columns that import wants of a file with these: it takes none without those before it."""
+    last = max((at for at, it in enumerate(COLUMNS) if it in has), default=-1)
+    return list(COLUMNS[: last + 1])
 
 
 def trimmed(text: str) -> str:
@@ -225,11 +231,6 @@ def day(text: str, context: Context) -> Field:
     return Field("", form)
 
 
-def any_number(text: str, _: object) -> Field:
-    """A number of which no limit is known."""
-    return number(text, LIMITS["number"], "a number")
-
-
 def any_text(text: str, _: object) -> Field:
     """A text of which nothing is known."""
     return Field(trimmed(text))
@@ -243,11 +244,20 @@ READERS: dict[str, Reader] = {
 }
 # of a column that has no reader of its own
 READERS_BY_KIND: dict[str, Reader] = {
-    "truth": truth, "number": any_number, "code_or_none": present, "day": day,
+    "code_or_none": present, "day": day, "list of flag": flags, "text": any_text, "truth": truth,
 }
 
 
+def reader_of(column: rules.Field) -> Reader | None:
+    """What reads a column: its own reader, or that of its kind. A number has the limit of its name,
+    if there is one.
+    """
+    if column.kind == "number" and column.name not in READERS:
+        limit = LIMITS.get(column.name, LIMITS["number"])
+        return lambda text, _: number(text, limit, column.name.replace("_", " "))
+    return READERS.get(column.name) or READERS_BY_KIND.get(column.kind)
+
+
 def read(column: str, text: str, context: Context) -> Field:
-    """The field of a column."""
-    by_kind = READERS_BY_KIND.get(rules.COLUMNS[column].kind, any_text)
-    return READERS.get(column, by_kind)(text, context)
+    """The field of a column. Of one that nothing reads here, import alone tests the text."""
+    return (reader_of(rules.COLUMNS[column]) or any_text)(text, context)

@@ -93,10 +93,16 @@ def is_near(name: str, wanted: str) -> bool:
 
 
 def see_order(row: Row, columns: dict[str, int], add: Adds) -> None:
-    """Names a change of the order, and empty columns."""
-    wanted = [it for it in fields.COLUMNS if it in columns]
-    if [columns[it] for it in wanted] != list(range(len(wanted))):
+    """Names columns that are added, a change of the order, and empty columns."""
+    wanted = fields.columns_up_to(columns)
+    for it in wanted:
+        if it not in columns:
+            said = f"the column is added, with {texts.shown(fields.OMITTED[it])} in each row"
+            why = f"import takes no {wanted[-1]} without it"
+            add(row.number, it, "", f"{said}: {why}", "fixed", None)
+    there = [it for it in wanted if it in columns]
+    if [columns[it] for it in there] != list(range(len(there))):
         order = f"the columns are put in the order {', '.join(wanted)}"
         add(row.number, "", "", order, "fixed", None)
-    elif len(row.cells) > len(wanted) and not any(it.strip() for it in row.cells[len(wanted) :]):
+    elif len(row.cells) > len(there) and not any(it.strip() for it in row.cells[len(there) :]):
         add(row.number, "", "", "empty columns at the end are left out", "fixed", None)

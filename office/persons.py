@@ -1,9 +1,10 @@
-"""Children as commands and files of applications have them: with each field that the rules list, so
-that a field which is new in the program is repeated and compared like the others.
+"""Children as commands and files of applications have them: with each field that the rules list or
+the register shows, so that a field which is new in the program is repeated and compared like the
+others.
 """
 from typing import Any
 
-from . import rules
+from . import rules, texts
 from .fields import COLUMNS
 from .model import Application, Child
 
@@ -14,7 +15,7 @@ NUMBERS = ("child", "flag", "number")
 
 def command_of(name: str, child: Child) -> dict[str, Any]:
     """The command of this name with the data of a child: one that adds or amends it."""
-    return {"cmd": name, **{it: child.data[it] for it in rules.COMMANDS[name]}}
+    return {"cmd": name, **{it: child.data[it] for it in rules.COMMANDS[name]}, **child.data}
 
 
 def cells_of(child: Child, application: Application | None) -> dict[str, str]:
@@ -24,23 +25,16 @@ def cells_of(child: Child, application: Application | None) -> dict[str, str]:
     values = dict(child.data)
     if application:
         values |= {"day": application.day.isoformat(), "preferences": application.preferences}
-    return {it: cell_of(values[it]) for it in COLUMNS if it in values}
+    return {it: texts.cell_of(values[it]) for it in COLUMNS if it in values}
 
 
 def value_of(kind: str, text: str) -> Any:
-    """The value of a field of this kind, of a cell that was read: what cell_of makes a cell of."""
+    """The value of a field of this kind, of a cell that was read: texts.cell_of makes cells of
+    these.
+    """
     if kind.startswith(rules.LIST):
         item = kind.removeprefix(rules.LIST)
         return [value_of(item, it) for it in text.split(";") if it]
     if kind == "truth":
         return text == "yes"
     return int(text) if kind in NUMBERS else text
-
-
-def cell_of(value: Any) -> str:
-    """A value as a cell has it."""
-    if isinstance(value, bool):
-        return "yes" if value else "no"
-    if isinstance(value, (list, tuple)):
-        return ";".join(map(str, value))
-    return str(value)

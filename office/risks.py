@@ -4,6 +4,7 @@ anything is sent.
 import dataclasses
 import datetime
 import filecmp
+import json
 import os
 import statistics
 from collections.abc import Callable, Iterable, Iterator
@@ -218,6 +219,10 @@ def changes_of(had: Child, command: dict[str, Any]) -> Iterator[str]:
         how = 'with "present":""' if "present" in command else 'without "present"'
         yield (f" {how}: its present school {had.present} would be removed, and with it perhaps a"
                " priority")
+    for it in rules.COMMANDS["amend"].values():
+        if it.name not in command and it.name != "present" and had.data[it.name] != it.omitted:
+            has, would = (json.dumps(value) for value in (had.data[it.name], it.omitted))
+            yield f' without "{it.name}": the register has {texts.cut(has)}, and would have {would}'
 
 
 def pan_risks(lines: list[Line], register: Register) -> Risks:

@@ -29,11 +29,14 @@ class Limit:
 
 @dataclasses.dataclass(frozen=True)
 class Field:
-    """A field of a command, or a column of an import: its kind, and whether it may be omitted."""
+    """A field of a command, or a column of an import: its kind, whether it may be omitted, and what
+    it is then, as a command has it.
+    """
 
     name: str
     kind: str
     is_optional: bool
+    omitted: Any = None
 
 
 @dataclasses.dataclass(frozen=True)
@@ -50,7 +53,8 @@ def read(name: str) -> Any:
 
 
 def fields_of(listed: list[dict[str, Any]]) -> dict[str, Field]:
-    return {it["field"]: Field(it["field"], it["kind"], it["optional"]) for it in listed}
+    found = (Field(it["field"], it["kind"], it["optional"], it.get("omitted")) for it in listed)
+    return {it.name: it for it in found}
 
 
 RULES, WORDS = read("rules.json"), read("words.json")

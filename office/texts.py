@@ -35,6 +35,15 @@ def for_spreadsheet(text: str) -> str:
     return "'" + text if text[:1] in RUN else text
 
 
+def cell_of(value: object) -> str:
+    """A value of a command as a cell of a file of applications has it."""
+    if isinstance(value, bool):
+        return "yes" if value else "no"
+    if isinstance(value, (list, tuple)):
+        return ";".join(map(str, value))
+    return str(value)
+
+
 def folded(name: str) -> str:
     """A name without accents, capitals, punctuation and order of its parts, to be compared."""
     letters = unicodedata.normalize("NFKD", name)

@@ -78,6 +78,15 @@ LIMITS = (
 CONSTANTS = ("adm_types/Numbers", "adm_types/Limits", "adm_csv/Rows")
 # where the lists of fields are
 FIELDS = ("adm_wire/Commands", "adm_wire/Forms", "adm_fields/Lists")
+# what a field is where it is omitted, as a command has it: by its kind, and by its definition
+OMITTED: dict[tuple[str, str], Any] = {
+    ("code_or_none", "None"): "",
+    ("list of code", "[]"): [],
+    ("list of flag", "0"): [],
+    ("text", "[]"): "",
+    ("truth", "false"): False,
+    ("truth", "true"): True,
+}
 EPOCH = datetime.date(1970, 1, 1)
 TOKEN = re.compile(r'"(?:[^"\\]|\\.)*"|[()]|[^\s()"]+')
 
@@ -255,10 +264,10 @@ class Rules:
             case ["no_fields" | "format.no_more"]:
                 return []
             case ["format.field", ["codes", str(name)], otherwise, kind, others]:
-                is_optional = otherwise == ["Some", "None"]
-                if not is_optional and otherwise != "None":
-                    raise FormError(f"{file}: the field {name} is {otherwise} where it is omitted")
-                own = {"field": json.loads(name), "kind": self.kind(kind), "optional": is_optional}
+                own = {"field": json.loads(name), "kind": self.kind(kind), "optional": False}
+                if otherwise != "None":
+                    omitted = self.omitted(f"{file}: the field {name}", own["kind"], otherwise)
+                    own |= {"optional": True, "omitted": omitted}
                 return [own, *self.fields(others, file)]
         place = next((f"{it}.{head}" for it in FIELDS if f"{it}.{head}" in self.texts), None)
         if not place:
@@ -271,6 +280,15 @@ class Rules:
         if len(names) != len(arguments):
             raise FormError(f"{file}: {head} takes {len(names)} terms, and not {len(arguments)}")
         return self.fields(replaced(parsed(text), dict(zip(names, arguments))), home)
+
+    def omitted(self, what: str, kind: str, otherwise: Term) -> Any:
+        """What a field of this kind is where it is omitted."""
+        match otherwise:
+            case ["Some", str(text)] if kind == "number" and text.isdigit():
+                return int(text)
+            case ["Some", str(text)] if (kind, text) in OMITTED:
+                return OMITTED[kind, text]
+        raise FormError(f"{what}, a {kind}, is {otherwise} where it is omitted")
 
     def commands(self) -> dict[str, list[dict[str, Any]]]:
         """The fields of each command, in the order in which they are tested."""

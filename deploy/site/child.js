@@ -1,4 +1,5 @@
 // A child: where it has a place and since when, until when to answer, where it waits and why; and what can be done for it.
+import { othersOf, titleOf, valueInWords } from "./data.js";
 import { Shown, read } from "./desk.js";
 import { button, dayField, dayInput, element, facts, link, progress, report, schoolLink } from "./elements.js";
 import { amendView, applyForm, planForm, reportUnsent } from "./forms.js";
@@ -127,6 +128,7 @@ function application(shown) {
     ["Flags", data.flags.join(", ") || "none"],
     ["Siblings at", data.siblings.join(", ") || "no school"],
     ["Present school", data.present || "none"],
+    ...othersOf(data).map(([name, value]) => [titleOf(name), valueInWords(value)]),
   ]);
   if (shown.place && shown.place.kind === "plan") return [about];
   const act = actOn(shown);

@@ -1,6 +1,7 @@
 // A file of commands or of answers: a preview with names and with what the register has, one confirmation, progress, and what was not
 // done as a file. How far a file was sent is kept in this tab of the browser, so that it can go on after a reload.
 import { isCompared } from "./changes.js";
+import { changesByOmission } from "./data.js";
 import { FAULTS, Shown } from "./desk.js";
 import { at, button, childLink, download, element, field, progress, say } from "./elements.js";
 import { limits } from "./limits.js";
@@ -31,10 +32,7 @@ function problem(command, text) {
 // What the reader should look at before it is sent
 function warning(command) {
   if (!command || command.cmd !== "amend" || !child(command.child)) return "";
-  const missing = Object.keys(child(command.child).data).filter((key) => !(key in command));
-  const present = child(command.child).data.present;
-  if (missing.includes("present") && present) return `removes the present school ${present}, since the line does not repeat it`;
-  return "";
+  return changesByOmission(command, child(command.child).data);
 }
 
 // The lines of a file: commands as JSON, and rows of answers. Empty lines are left out, and so are a row of titles and one that names

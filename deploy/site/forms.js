@@ -1,4 +1,6 @@
 // Forms: a new child with its application, a correction that keeps what it does not change, an application, a plan and a raised admission number.
+import { isSame } from "./changes.js";
+import { othersOf, titleOf, valueInWords } from "./data.js";
 import { Shown } from "./desk.js";
 import { KEPT, draftOf, keepFor } from "./drafts.js";
 import { at, dayField, dayInput, element, field, report, say } from "./elements.js";
@@ -10,8 +12,6 @@ import { isSure, send } from "./sending.js";
 import { isInTime } from "./view.js";
 import { day, isDay, isolated, readDay, today } from "./words.js";
 
-// The fields of a child that this page can edit. Others of a later version are shown, and sent as they are
-const KNOWN = ["child", "name", "east", "north", "looked_after", "flags", "siblings", "present"];
 const CODE = `${span(limits.code)} letters and digits`;
 const codes = (text) => text.toUpperCase().split(/[\s,;]+/).filter(Boolean);
 
@@ -35,8 +35,7 @@ function dataFields(data) {
     field("Flags", textInput("flags", data.flags.join(" ")), `numbers from ${span(limits.flag)}, with spaces between`),
     field("Schools of siblings", textInput("siblings", data.siblings.join(" ")), "codes, with spaces between"),
     field("Present school", textInput("present", data.present, { maxLength: limits.code.most }), "a code, or empty"),
-    ...Object.keys(data).filter((key) => !KNOWN.includes(key))
-      .map((key) => field(key, textInput(`other-${key}`, JSON.stringify(data[key]), { readOnly: true }), "kept as it is")),
+    ...othersOf(data).map(([name, value]) => field(titleOf(name), textInput(`other-${name}`, valueInWords(value), { readOnly: true }), "kept as it is")),
   ];
 }
 
@@ -94,7 +93,7 @@ function readData(before, wrong) {
 function form(id, nodes, read, submit, action) {
   const made = element("form", { id, className: "sheet screen-only", noValidate: true }, ...nodes,
     element("p", { className: "tools" }, element("button", {}, action)));
-  const { note, forget } = draftOf(made, id, shown);
+  const { note, forget } = draftOf(made, id, valueInWords);
   made.append(note);
   const look = () => {
     const wrong = new Wrong();
@@ -140,9 +139,6 @@ function mark(input, message) {
 
 const MEANWHILE = "Nothing was sent: somebody else has corrected this child meanwhile. The form has the data as it is now, and "
   + "what you typed is kept: where both differ, the present data is below it.";
-const isSame = (one, other) => JSON.stringify(one) === JSON.stringify(other);
-const shown = (value) => (Array.isArray(value) ? value.join(" ") || "none" : value === true ? "yes" : value === false ? "no" : value === "" ? "none"
-  : isolated(String(value)));
 
 // #child/17/amend: every present value is in the form, and is sent again
 export function amendView(of) {
@@ -157,7 +153,7 @@ export function amendView(of) {
       return !isSame(child(before.child)?.data, before);
     };
     if (await isChanged()) return again({ text: MEANWHILE, bad: true });
-    const list = changes.map((key) => `${key.replace("_", " ")} from ${shown(before[key])} to ${shown(after[key])}`).join("; ");
+    const list = changes.map((key) => `${key.replace("_", " ")} from ${valueInWords(before[key])} to ${valueInWords(after[key])}`).join("; ");
     if (!await isSure(`Correct child ${before.child}: ${list}? The child’s priorities may change with it.`, "Yes, correct it")) return null;
     if (await isChanged()) return again({ text: MEANWHILE, bad: true });
     const reply = await send({ cmd: "amend", ...after }, `Child ${before.child} is corrected: ${list}.`);

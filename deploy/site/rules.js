@@ -11,7 +11,7 @@ export const rules = {
   {"field": "siblings", "kind": "list of code", "optional": false},
   {"field": "day", "kind": "day", "optional": false},
   {"field": "preferences", "kind": "list of code", "optional": false},
-  {"field": "present", "kind": "code_or_none", "optional": true}
+  {"field": "present", "kind": "code_or_none", "optional": true, "omitted": ""}
  ],
  "commands": {
   "add_school": [
@@ -34,7 +34,7 @@ export const rules = {
    {"field": "looked_after", "kind": "truth", "optional": false},
    {"field": "flags", "kind": "list of flag", "optional": false},
    {"field": "siblings", "kind": "list of code", "optional": false},
-   {"field": "present", "kind": "code_or_none", "optional": true}
+   {"field": "present", "kind": "code_or_none", "optional": true, "omitted": ""}
   ],
   "amend": [
    {"field": "child", "kind": "child", "optional": false},
@@ -44,7 +44,7 @@ export const rules = {
    {"field": "looked_after", "kind": "truth", "optional": false},
    {"field": "flags", "kind": "list of flag", "optional": false},
    {"field": "siblings", "kind": "list of code", "optional": false},
-   {"field": "present", "kind": "code_or_none", "optional": true}
+   {"field": "present", "kind": "code_or_none", "optional": true, "omitted": ""}
   ],
   "name_plan": [
    {"field": "child", "kind": "child", "optional": false},

@@ -1,6 +1,7 @@
 // Sends commands: one at a time, each once. What was done is distinguished from what was refused, what was not sent, and what may be
 // done. Just before a command is sent, its child is read again: for one that is not as it was shown, nothing is sent.
 import { changeOf, followed, isSame } from "./changes.js";
+import { omittedOf } from "./data.js";
 import { ask, describe, outcome, Shown } from "./desk.js";
 import { at, element, say } from "./elements.js";
 import { limits, span } from "./limits.js";
@@ -146,9 +147,9 @@ function isDone(command) {
   return cmd === "leave_list" ? !waits.some((wait) => wait.school === code) : null;
 }
 
-// A command without a present school is one for a child that has none; and the register has each flag once, in order
-function hasData(data, { cmd, ...sent }) {
-  const all = { present: "", ...sent };
+// The register has each flag once, in order
+function hasData(data, command) {
+  const { cmd, ...all } = { ...omittedOf(command.cmd), ...command };
   if (Array.isArray(all.flags)) all.flags = [...new Set(all.flags)].sort((one, other) => one - other);
   return Object.keys(all).every((key) => isSame(data[key], all[key]));
 }

@@ -23,7 +23,7 @@ class Context:
 
 def cells_of(child: Child) -> Cells:
     """The present data of a child as a form has them."""
-    return {it.name: persons.cell_of(child.data[it.name]) for it in FIELDS}
+    return {it.name: texts.cell_of(child.data[it.name]) for it in FIELDS}
 
 
 def read(register: Register, number: int, cells: Cells) -> tuple[Command, dict[str, str]]:
@@ -41,7 +41,7 @@ def read(register: Register, number: int, cells: Cells) -> tuple[Command, dict[s
 
 def changes(child: Child, command: Command) -> list[tuple[str, str, str]]:
     """The fields that a correction changes: the label, the present value and the new one."""
-    pairs = ((it.name, persons.cell_of(child.data[it.name]), persons.cell_of(command[it.name]))
+    pairs = ((it.name, texts.cell_of(child.data[it.name]), texts.cell_of(command[it.name]))
              for it in FIELDS)
     return [(label(name), one or "none", other or "none") for name, one, other in pairs
             if one != other]

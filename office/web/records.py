@@ -7,7 +7,7 @@ import io
 from collections.abc import Callable, Iterable, Iterator, Mapping
 from typing import Any
 
-from office import commands, days, persons, rules
+from office import commands, days, rules, texts
 from office.model import Register
 
 from .history import ANSWER, SENDS, SETTLED, Entry, History
@@ -68,7 +68,7 @@ def in_words(command: Command, before: Command | None) -> str:
 def changes(before: Command, now: Command) -> Iterator[str]:
     """The fields in which the data of a child differ."""
     for it in rules.COMMANDS["amend"]:
-        one, other = (persons.cell_of(data.get(it, "")) for data in (before, now))
+        one, other = (texts.cell_of(data.get(it, "")) for data in (before, now))
         if one != other:
             yield f"{label(it)} {one or 'none'} → {other or 'none'}"
 

@@ -116,7 +116,7 @@ def read(cells: Cells, words: Mapping[int, str]) -> tuple[Command | None, dict[s
 def cells_of(school: School) -> Cells:
     """A school of a register as cells."""
     command = command_of(school)
-    return {it: persons.cell_of(command[it]) for it in COLUMNS}
+    return {it: texts.cell_of(command[it]) for it in COLUMNS}
 
 
 def lines_of(
@@ -152,8 +152,8 @@ def see_count(lines: list[Line], known: Mapping[str, School]) -> None:
 def differences(school: School, command: Command) -> str:
     """How a school of the register differs from a command that adds it."""
     present = command_of(school)
-    return "; ".join(f"{label(it)} {persons.cell_of(present[it]) or 'none'} there,"
-                     f" {persons.cell_of(command[it]) or 'none'} here"
+    return "; ".join(f"{label(it)} {texts.cell_of(present[it]) or 'none'} there,"
+                     f" {texts.cell_of(command[it]) or 'none'} here"
                      for it in COLUMNS if present[it] != command[it])
 
 

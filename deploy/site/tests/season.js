@@ -4,8 +4,13 @@
 // lives 2,000 metres away at 4,000; 9, beside E, is offered E. 9 is reminded on 17 March, and 2 declines A. Round 2, of 24 March: 1 moves to A, before 7,
 // which lives at 600, and 3 is offered B, and accepts it. 8 and 6, which lives at 600 too, apply after it. By a fill of 31 March 8 is offered E; 6 and 7
 // share a position at A, and 6 waits at B. 5 has no application
+import { omittedOf } from "../data.js";
+import { rules } from "../rules.js";
+
 const SCHOOL = { east: 0, criteria: [], plans: 0, waiting: 0 };
-const CHILD = { east: 0, flags: [], left: [], looked_after: false, place: null, present: "", siblings: [], application: null };
+// What a child has in each field that a command may leave out
+export const OMITTED = omittedOf("add_child");
+const CHILD = { ...OMITTED, east: 0, flags: [], left: [], looked_after: false, place: null, siblings: [], application: null };
 const wants = (day, ...preferences) => ({ day, preferences });
 const wish = (school, number, metres, state, more = {}) => ({ class: number, metres, school, state, ...more });
 const offered = (school, on, reminded = null) => ({ kind: "offered", offered: on, reminded, school });
@@ -22,7 +27,7 @@ export const season = () => ({
   children: [
     { ...CHILD, child: 1, name: "Ann Abel", north: 100, place: offered("A", "2025-03-24"),
       application: wants("2024-10-11", wish("A", 2, 100, "place"), wish("B", 1, 1900, "below")) },
-    { ...CHILD, child: 2, name: "Đorđe O’Neil", north: 200, siblings: ["A"], left: ["A"], boarder: true, flags: [2, 5],
+    { ...CHILD, child: 2, name: "Đorđe O’Neil", north: 200, siblings: ["A"], left: ["A"], later_field: true, flags: [2, 5],
       application: wants("2024-10-12", wish("A", 1, 200, "left")) },
     { ...CHILD, child: 3, name: "Zoë Tŷ-Owen", north: 4000, place: { kind: "accepted", offered: null, reminded: null, school: "B" },
       application: wants("2024-10-13", wish("B", 1, 2000, "place")) },
@@ -43,6 +48,17 @@ export const season = () => ({
     { day: "2025-03-31", draw: 3, round: null, school: "E", outcomes: [outcome(8, "E", true)] },
   ],
 });
+
+// What `made` returns where the rules list the field that only child 2 has in this register
+export async function withField(made) {
+  const lists = [rules.commands.add_child, rules.commands.amend];
+  for (const it of lists) it.push({ field: "later_field", kind: "truth", optional: true, omitted: false });
+  try {
+    return await made();
+  } finally {
+    for (const it of lists) it.pop();
+  }
+}
 
 // The same with a child changed
 export const changed = (number, change) => {

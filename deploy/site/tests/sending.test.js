@@ -1,7 +1,7 @@
 import assert from "node:assert/strict";
 import test from "node:test";
 import { asked, desk } from "./desk.js";
-import { changed, season } from "./season.js";
+import { changed, season, withField } from "./season.js";
 import { child, readNow } from "../register.js";
 import { send, sendAll, settle } from "../sending.js";
 
@@ -84,4 +84,13 @@ test("what is done already of commands without an answer", async () => {
   const { done, left } = await settle(commands.map(([, it]) => it));
   assert.deepEqual(done, commands.filter(([isDone]) => isDone).map(([, it]) => it));
   assert.deepEqual([left.length, asked()], [commands.length - done.length, ["/register"]]);
+});
+
+test("an amendment without a field of the rules is done where the child has the value of a field that is omitted", async () => {
+  await start();
+  const { later_field: has, ...data } = child(2).data;
+  const of = (more) => withField(async () => (await settle([{ cmd: "amend", ...data, ...more }])).done.length);
+  assert.deepEqual([has, await of({}), await of({ later_field: true }), await of({ later_field: false })], [true, 0, 1, 0]);
+  desk.register = changed(2, { later_field: false });
+  assert.deepEqual([await of({}), await of({ later_field: true })], [1, 0]);
 });

@@ -1,7 +1,7 @@
 import assert from "node:assert/strict";
 import test from "node:test";
 import { after, agrees, empty, isInTime, movedBy, readView, roundsOf } from "../view.js";
-import { changed, season } from "./season.js";
+import { changed, OMITTED, season } from "./season.js";
 
 const register = readView(season());
 const numbers = (rows) => rows.map((it) => it.number);
@@ -21,8 +21,8 @@ test("it waits at those schools of its list that say so, in the order of the lis
 });
 
 test("its data is that of a command, with a field that the page does not know and nothing that is derived", () => {
-  assert.deepEqual(register.children.get(2).data, { child: 2, name: "Đorđe O’Neil", east: 0, north: 200, looked_after: false, flags: [2, 5], siblings: ["A"],
-    present: "", boarder: true });
+  assert.deepEqual(register.children.get(2).data, { ...OMITTED, child: 2, name: "Đorđe O’Neil", east: 0, north: 200, looked_after: false, flags: [2, 5],
+    siblings: ["A"], later_field: true });
 });
 
 test("a child without an application has no list and no place", () => {
