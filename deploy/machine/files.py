@@ -84,13 +84,13 @@ def link(path: pathlib.Path, target: str) -> bool:
 
 
 @contextlib.contextmanager
-def as_desk() -> typing.Iterator[None]:
-    """What is written meanwhile is written by the user of the desks, as whom no link in a folder of
-    theirs leads to a file of root."""
+def acting_as(name: str) -> typing.Iterator[None]:
+    """What is read and written meanwhile is so by a user with its own group, as whom no link in a
+    folder of theirs leads to a file of root."""
     if os.geteuid() != 0:
         yield
         return
-    user, group = numbers(USER, USER)
+    user, group = numbers(name, name)
     os.setegid(group)
     os.seteuid(user)
     try:
@@ -98,6 +98,11 @@ def as_desk() -> typing.Iterator[None]:
     finally:
         os.seteuid(0)
         os.setegid(0)
+
+
+def as_desk() -> contextlib.AbstractContextManager[None]:
+    """The user of the desks acts."""
+    return acting_as(USER)
 
 
 def write_as_desk(path: pathlib.Path, data: bytes, modified: int | None = None) -> None:

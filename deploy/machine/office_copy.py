@@ -5,8 +5,8 @@
 The request is the number in the file `requests/copy` in the application's
 folder. The desk of the register NAME is stopped, the register is copied by
 admissions-backup, and the desk is started, whatever came of it. The copy
-office-NUMBER-TIME.db is in the folder of the copies of NAME, and the
-application's group reads it. The answer is in `requests/copy.done`: the name
+office-NUMBER-TIME.db is in the folder `office` beside the nightly copies of
+NAME, and the application's group reads it. The answer is in `requests/copy.done`: the name
 of the copy, or an error. A request that is no number is refused there, and
 the desk is not stopped.
 
@@ -24,10 +24,9 @@ from register_files import Refused
 
 from . import copies, files, office_requests
 from .office_requests import Result, Wrong
-from .programs import USER, call, program
+from .programs import OFFICE, USER, call, program
 from .registers import Register, known
 
-GROUP = "admissions-office"
 READ_BY_GROUP = 0o640
 
 
@@ -43,7 +42,7 @@ def main(given: argparse.Namespace) -> int:
 def copied(register: Register, number: int) -> Result:
     """Copies a register, and returns the name of the copy."""
     time = datetime.datetime.now().strftime(copies.TIME)
-    path = register.copies / f"office-{number:06}-{time}.db"
+    path = register.office_copies / f"office-{number:06}-{time}.db"
     try:
         with office_requests.stopped(register):
             call(program("admissions-backup"), register.file, path, as_user=USER)
@@ -55,7 +54,7 @@ def copied(register: Register, number: int) -> Result:
 
 def give(path: pathlib.Path) -> None:
     """Lets the application's group read a copy."""
-    _, group = files.numbers(USER, GROUP)
+    _, group = files.numbers(USER, OFFICE)
     fd = os.open(path, os.O_RDONLY | office_requests.AS_IT_IS)
     try:
         os.fchown(fd, -1, group)

@@ -9,7 +9,6 @@ that, it is done again.
 import contextlib
 import json
 import os
-import pathlib
 import re
 import stat
 import sys
@@ -20,7 +19,7 @@ from register_files import Refused
 from .programs import call, tool
 from .registers import Register
 
-STATE, FOLDER = pathlib.Path("/var/lib/admissions-office"), "requests"
+FOLDER = "requests"
 NUMBER = re.compile(rb"([1-9][0-9]{0,8})\n?")
 # how a file of somebody else is opened: waiting for nobody, and through no link
 AS_IT_IS = os.O_NOFOLLOW | os.O_NONBLOCK | os.O_CLOEXEC
@@ -38,7 +37,7 @@ class Wrong(Refused):
 @contextlib.contextmanager
 def opened(register: Register) -> Iterator[int]:
     """A descriptor of the folder of requests."""
-    path = STATE / register.name / FOLDER
+    path = register.office / FOLDER
     try:
         folder = os.open(path, os.O_RDONLY | os.O_DIRECTORY | AS_IT_IS)
     except OSError as error:

@@ -46,7 +46,7 @@ def main(given: argparse.Namespace) -> int:
 
 def copy_of(register: Register, number: int) -> pathlib.Path:
     """The copy of a number."""
-    there = [(it, NAME.fullmatch(it.name)) for it in register.copies.glob("office-*.db")]
+    there = [(it, NAME.fullmatch(it.name)) for it in register.office_copies.glob("office-*.db")]
     found = [it for it, name in there if name and int(name[1]) == number
              and it.is_file() and not it.is_symlink()]
     if len(found) != 1:

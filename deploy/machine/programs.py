@@ -6,8 +6,8 @@ import sys
 
 from register_files import Refused
 
-# the user of the desks
-USER = "admissions"
+# the user of the desks, and that of the office's applications
+USER, OFFICE = "admissions", "admissions-office"
 
 
 def program(name: str) -> str:

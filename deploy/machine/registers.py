@@ -13,6 +13,7 @@ NAME = re.compile("[a-z0-9]([a-z0-9-]{0,38}[a-z0-9])?")
 PHASES = (model.PRIMARY, model.SECONDARY)
 REGISTERS, COPIES = pathlib.Path("/var/lib/admissions"), pathlib.Path("/var/backups/admissions")
 SETTINGS, LOGS = pathlib.Path("/etc/admissions"), pathlib.Path("/var/log/admissions")
+OFFICES = pathlib.Path("/var/lib/admissions-office")
 
 
 @dataclasses.dataclass(frozen=True)
@@ -48,8 +49,27 @@ class Register:
         return LOGS / self.name
 
     @property
+    def office(self) -> pathlib.Path:
+        """The folder of its application: office.db, the history, and requests for copies."""
+        return OFFICES / self.name
+
+    @property
+    def history(self) -> pathlib.Path:
+        """Who did what: the file that its application writes."""
+        return self.office / "history.jsonl"
+
+    @property
+    def office_copies(self) -> pathlib.Path:
+        """The copies that its application has asked for, which it reads."""
+        return self.copies / "office"
+
+    @property
     def socket(self) -> pathlib.Path:
         return pathlib.Path(f"/run/admissions/{self.name}.sock")
+
+    @property
+    def office_socket(self) -> pathlib.Path:
+        return pathlib.Path(f"/run/admissions-office/{self.name}.sock")
 
     @property
     def host(self) -> str | None:

@@ -16,7 +16,8 @@ from machine import registers, second_copy, settings_copy, setup, sites, status 
 
 # the modules that name a folder of the machine by a constant of registers
 WITH_FOLDERS = (registers, second_copy, settings_copy, setup, sites, status)
-FOLDERS = {"REGISTERS": "lib", "COPIES": "backups", "SETTINGS": "etc", "LOGS": "log"}
+FOLDERS = {"REGISTERS": "lib", "COPIES": "backups", "SETTINGS": "etc", "LOGS": "log",
+           "OFFICES": "office"}
 
 
 @pytest.fixture(name="machine")

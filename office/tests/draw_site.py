@@ -43,9 +43,10 @@ class Machine:
     def __init__(self, folder: pathlib.Path, register: pathlib.Path) -> None:
         self.folder = folder
         self.lib, self.backups = folder / "lib", folder / "backups"
+        self.copies = self.backups / NAME / "office"
         self.file = self.lib / NAME / "reg.db"
         self.state = folder / "state" / NAME
-        for it in (self.lib / NAME, self.backups / NAME, self.state / "requests"):
+        for it in (self.lib / NAME, self.copies, self.state / "requests"):
             it.mkdir(parents=True)
         shutil.copy(register, self.file)
         self.held = socket.socket()
@@ -105,7 +106,7 @@ class Machine:
 
     def config(self) -> Config:
         """Where the application finds what it needs."""
-        return Config(NAME, ORIGIN, self.address, self.state, self.backups / NAME,
+        return Config(NAME, ORIGIN, self.address, self.state, self.copies,
                       ROOT / "deploy" / "site", "Tŷ \"Ddewi\" Council")
 
     @contextlib.contextmanager
@@ -138,7 +139,7 @@ def machine_over(
     patch.setattr(registers, "REGISTERS", machine.lib)
     patch.setattr(registers, "COPIES", machine.backups)
     patch.setattr(registers, "SETTINGS", folder / "etc")
-    patch.setattr(office_requests, "STATE", folder / "state")
+    patch.setattr(registers, "OFFICES", folder / "state")
     patch.setattr(office_requests, "start", machine.start)
     patch.setattr(office_requests, "stop", machine.stop)
     for it in (office_copy, office_restore, registers):

@@ -121,7 +121,7 @@ def test_the_machine_takes_digits_alone(small: Machine, what: str) -> None:
         answer = asked(small, what, lambda path: path.write_text("17\n"))
         assert (answer["error"], answer["number"]) == ("NoCopy", 17)
     assert small.run is run and secret.read_text() == "17"
-    assert not list((small.backups / NAME).iterdir())
+    assert not list(small.copies.iterdir())
 
 
 def test_the_machine_writes_its_answer_through_no_link(small: Machine) -> None:
@@ -137,7 +137,7 @@ def test_the_machine_writes_its_answer_through_no_link(small: Machine) -> None:
 
 def test_a_number_that_the_folder_has_is_not_used_again(small: Machine) -> None:
     """As where the application's own file was lost."""
-    (small.backups / NAME / "office-000041-2025-03-03T101112.db").write_text("")
+    (small.copies / "office-000041-2025-03-03T101112.db").write_text("")
     with small.office() as office:
         assert office.parts.copies.make("a try") == 42
 

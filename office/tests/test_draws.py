@@ -234,7 +234,7 @@ def test_a_round_by_five_hands(machine: Machine, town: Town) -> None:
         purposes = [it.purpose for it in office.parts.copies.listed()]
         assert purposes == ["after draw 1", "before draw 1"]
         assert all(re.fullmatch(r"office-00000[12]-\d{4}-\d\d-\d\dT\d{6}\.db", it) for it in names)
-        assert [(machine.backups / NAME / it).stat().st_mode & 0o777 for it in names] == [0o640] * 2
+        assert [(machine.copies / it).stat().st_mode & 0o777 for it in names] == [0o640] * 2
 
 
 def test_a_second_round(machine: Machine, town: Town) -> None:
