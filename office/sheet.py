@@ -3,6 +3,7 @@ spreadsheet shows; and CSV, written."""
 import csv
 import dataclasses
 import datetime
+import importlib
 import io
 import os
 import tempfile
@@ -250,12 +251,12 @@ def sheet_of(name: str, page: Any) -> Sheet:
 
 def problems_of(name: str, page: Any, widths: dict[int, int]) -> Iterator[Problem]:
     """What the values of a sheet do not show. `widths` are how many cells each row has."""
-    from openpyxl.xml.functions import iterparse
-
+    # (as openpyxl reads its parts, for which there are no types, or others than it has)
+    functions: Any = importlib.import_module("openpyxl.xml.functions")
     width, number, merged = max(widths.values(), default=0), 0, 0
     # (openpyxl has no public way to the part of a sheet that is read row by row)
     with page.parent._archive.open(page._worksheet_path) as part:
-        for _, it in iterparse(part):
+        for _, it in functions.iterparse(part):
             if it.tag == f"{MAIN}row":
                 number = int(it.get("r") or number + 1)
                 if number in widths:
