@@ -109,6 +109,10 @@ install:
 	install -m 644 office/*.py office/*.json $(DESTDIR)$(PREFIX)/share/admissions/office
 	install -d $(DESTDIR)$(PREFIX)/share/admissions/office/templates
 	install -m 644 office/templates/* $(DESTDIR)$(PREFIX)/share/admissions/office/templates
+	install -d $(DESTDIR)$(PREFIX)/share/admissions/office/web/screens $(DESTDIR)$(PREFIX)/share/admissions/office/web/templates
+	install -m 644 office/web/*.py $(DESTDIR)$(PREFIX)/share/admissions/office/web
+	install -m 644 office/web/screens/*.py $(DESTDIR)$(PREFIX)/share/admissions/office/web/screens
+	install -m 644 office/web/templates/* $(DESTDIR)$(PREFIX)/share/admissions/office/web/templates
 	install -m 644 tools/register_files.py $(DESTDIR)$(PREFIX)/share/admissions/register_files.py
 	install -D -m 644 docs/admissions.1 $(DESTDIR)$(PREFIX)/share/man/man1/admissions.1
 	install -d $(DESTDIR)$(PREFIX)/share/doc/admissions

@@ -26,6 +26,11 @@ SHEET = [
     f"admissions-{it}" for it in ("check", "figures", "letters", "lots", "send", "trial", "why")
 ]
 PACKAGES = {
+    "argon2": "python3-argon2",
+    "authlib": "python3-authlib",
+    "flask": "python3-flask",
+    "gunicorn": "python3-gunicorn",
+    "requests": "python3-requests",
     "jinja2": "python3-jinja2",
     "weasyprint": "weasyprint",
     "pikepdf": "python3-pikepdf",

@@ -7,7 +7,7 @@ import typing
 
 from register_files import Refused
 
-from . import people, sites
+from . import sites
 from .registers import PHASES
 
 MOST_HOLIDAYS = 40
@@ -49,22 +49,6 @@ def host(text: str) -> str:
             " least one point",
             2,
         )
-    return text
-
-
-def user(text: str) -> str:
-    if not people.USER.fullmatch(text) or text in people.NO_USERS:
-        raise Refused(
-            f"{text!r} is no name of a user: small letters and digits,"
-            " and then also . _ @ + -, 64 at most",
-            2,
-        )
-    return text
-
-
-def role(text: str) -> str:
-    if not people.ROLE.fullmatch(text):
-        raise Refused(f"{text!r} is no role: it is {people.ROLES}", 2)
     return text
 
 

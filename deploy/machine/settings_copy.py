@@ -93,6 +93,17 @@ def names_of(copy: str) -> dict[str, str]:
     return {name: text.strip() for name, text in members_of(pathlib.Path(copy)).items()}
 
 
+def has_people(copy: str) -> bool:
+    """Whether the archive beside a copy has the people of an application."""
+    try:
+        with tarfile.open(copies.settings_of(pathlib.Path(copy))) as archive:
+            return "office.db" in archive.getnames()
+    except FileNotFoundError:
+        return False
+    except tarfile.TarError as error:
+        raise Refused(f"the archive beside {copy} cannot be read: {error}") from error
+
+
 def restored(register: Register, copy: pathlib.Path) -> typing.Iterator[str]:
     """Brings back the settings and the log that are beside a copy, where this machine has none of
     them. Returns a line for each. The site's name is set up as if it were given, and owners and

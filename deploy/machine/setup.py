@@ -6,26 +6,31 @@ its timers.
   admissions-setup [NAME] --copy FILE
   admissions-setup NAME --user USER [--role ROLE] [--new-password]
   admissions-setup NAME --remove USER | --users
+  admissions-setup NAME --accounts FILE
   admissions-setup NAME --holiday DAY..
   admissions-setup --sites
 
 The first form asks on a terminal for what is not given. It makes what is
 missing, and changes nothing that is there: typed twice, it does nothing the
 second time. Each register has a NAME, such as secondary-2025, a HOST of its
-own, such as secondary.admissions.example, and users of its own. With --copy
+own, such as secondary.admissions.example, and people of its own. With --copy
 the register is made from a copy, which has its own phase, year and holidays,
-and users, settings and log from what the nightly backup left beside it. The
-third form adds a user, changes the role of one, draws another password,
-removes a user, or lists them. A password is drawn, and printed once. The
-fourth form replaces the holidays of a register that is still empty. The last
-form makes all sites again, after a change of
-/etc/nginx/sites-available/admissions. A change of what is there is shown, and
-is done after a yes on the terminal, or with --yes. --new-password alone ends
-the old password without a question.
+and people, settings and history from what the nightly backup left beside it.
+The third form adds a person, changes the role of one, draws another password,
+removes a person, or lists them. A password is drawn, printed once, and changed
+by whoever signs in with it. The people of a register are otherwise the office's
+own task, on the screen People of the site: what is done here is in the history
+too. The fourth form signs people in by the accounts of the authority over
+OpenID Connect: FILE has title, issuer, client, secret and claim as JSON, and
+the word none in place of FILE ends that. The fifth form replaces the holidays
+of a register that is still empty. The last form makes all sites again, after a
+change of /etc/nginx/sites-available/admissions. A change of what is there is
+shown, and is done after a yes on the terminal, or with --yes. --new-password
+alone ends the old password without a question.
 
 example:
   admissions-setup secondary-2025 --phase secondary --year 2025 \\
-    --holiday 2025-04-18 --site admissions.example --user jane --role office
+    --holiday 2025-04-18 --site admissions.example --user jane --role head
 
 exit status: 0 done; 1 not or not wholly done, and the line says why: correct
 that and type it again; 2 wrong arguments.
@@ -43,10 +48,10 @@ from register_files import Refused
 from . import answers, certificates, files, holidays, people, settings_copy, sites
 from .answers import ask, confirm
 from .desk import status_of
-from .programs import USER, call, is_booted, program, tool
+from .programs import OFFICE, USER, call, is_booted, program, tool
 from .registers import (
     COPIES,
-    LOGS,
+    OFFICES,
     PHASES,
     REGISTERS,
     SETTINGS,
@@ -65,6 +70,11 @@ NEEDED = {
 }
 AUTHORITY = SETTINGS / "authority"
 WAIT = 60
+# where systemd finds what is changed of a unit, and what lets an application out into the network
+UNITS = pathlib.Path("/etc/systemd/system")
+OUTSIDE = "# Made by admissions-setup --accounts\n[Service]\nPrivateNetwork=no\n"
+CHECKS = {"site": answers.host, "user": people.checked_name, "role": people.checked_role,
+          "authority": answers.authority}
 
 
 def arguments(reader: argparse.ArgumentParser) -> None:
@@ -93,7 +103,7 @@ def arguments(reader: argparse.ArgumentParser) -> None:
     )
     add("--site", metavar="HOST", help="the site's name, by which browsers find this machine")
     add("--user", help="who may sign in: a name or a mail address, in small letters")
-    add("--role", help=f"the role of that user: {people.ROLES}")
+    add("--role", help=f"the role of that user: {people.ROLES_TEXT}")
     add(
         "--new-password",
         action="store_true",
@@ -113,6 +123,11 @@ def arguments(reader: argparse.ArgumentParser) -> None:
         help="the certificate of the site, with those between it and its authority",
     )
     add("--key", metavar="FILE", help="its key")
+    add(
+        "--accounts",
+        metavar="FILE",
+        help="sign people in by the accounts of the authority, as this file says; or none",
+    )
     add("--sites", action="store_true", help="make all sites again, and nothing else")
 
 
@@ -124,14 +139,15 @@ def main(given: argparse.Namespace) -> int:
         tool(command, package)
     if given.sites:
         with files.lock():
-            report(make_sites())
+            report(sites.make_all())
         return 0
-    if given.users or given.remove:
+    if given.users or given.remove or given.accounts:
         if given.name is None:
-            raise Refused("NAME is missing: whose users?", 2)
-        return (
-            list_users(known(given.name)) if given.users else remove_user(known(given.name), given)
-        )
+            raise Refused("NAME is missing: of which register?", 2)
+        register = known(given.name)
+        if given.accounts:
+            return set_accounts(register, given.accounts)
+        return list_users(register) if given.users else remove_user(register, given)
     checked(given)
     register = completed(given)
     changes = confirmed(register, given)
@@ -147,7 +163,7 @@ def set_up(register: Register, given: argparse.Namespace, changes: "Changes") ->
         report([holidays.change(register, given.holiday, changes.holidays)])
     if given.user:
         report(make_user(register, given, changes))
-    report(make_sites())
+    report(sites.make_all())
     has_started = start(register)
     if warning := certificates.warning(register):
         print(warning)
@@ -159,17 +175,10 @@ def report(lines: typing.Iterable[str]) -> None:
         print(line, flush=True)
 
 
-def make_sites() -> list[str]:
-    """Makes all sites; a broken file of roles, which nginx would not name, is refused first."""
-    for register in sites.registers_with_site():
-        people.roles_of(register)
-    return sites.make_all()
-
-
 def see_one_command(given: argparse.Namespace) -> None:
     """Refuses the options of two commands together, of which one would not be done."""
     options = [name for name, value in vars(given).items() if value and name not in ("name", "yes")]
-    for command in ("sites", "users", "remove"):
+    for command in ("sites", "users", "remove", "accounts"):
         if command in options and len(options) > 1:
             other = next(it for it in options if it != command)
             raise Refused(
@@ -185,7 +194,7 @@ def checked(given: argparse.Namespace) -> None:
     given.holiday = answers.holidays([] if given.holiday == [answers.NONE] else given.holiday)
     for name in ("site", "user", "role", "authority"):
         if getattr(given, name) is not None:
-            (answers.host if name == "site" else getattr(answers, name))(getattr(given, name))
+            CHECKS[name](getattr(given, name))
     if given.role is not None and given.user is None:
         raise Refused("--role needs --user: whose role?", 2)
     if given.new_password and given.user is None:
@@ -220,14 +229,15 @@ def completed(given: argparse.Namespace) -> Register:
         and answers.host(copied["site-name"])
         or ask("--site, the name by which browsers find it", answers.host)
     )
-    if (
-        not given.user
-        and "passwords" not in copied
-        and not people.passwords_path(register).exists()
-    ):
-        given.user = ask("--user, who signs in first", answers.user)
-    if given.user and not given.role and role_before(register, given) is None:
-        given.role = ask(f"--role of {given.user}: {people.ROLES}", answers.role)
+    users = people.users_of(register)
+    if given.copy and not users and settings_copy.has_people(given.copy):
+        if given.user:
+            raise Refused("--user and --copy: people come with this copy, and more are added"
+                          " once it is there", 2)
+    elif not given.user and not users:
+        given.user = ask("--user, who signs in first", people.checked_name)
+    if given.user and not given.role and given.user not in users:
+        given.role = ask(f"--role of {given.user}: {people.ROLES_TEXT}", people.checked_role)
     if (
         given.authority is None
         and not AUTHORITY.exists()
@@ -250,15 +260,15 @@ class Changes(typing.NamedTuple):
     """What was shown of a register before a change was confirmed, and is changed only if it is
     still so."""
 
-    role: str | None
+    user: people.User | None
     holidays: list[str] | None
 
 
 def confirmed(register: Register, given: argparse.Namespace) -> Changes:
     """Shows what of a register that is there will be changed, and has it confirmed."""
-    role = role_before(register, given) if given.user else None
-    if role and given.role and role != given.role:
-        confirm(f"the role of {given.user} changes from {role} to {given.role}", given.yes)
+    user = people.users_of(register).get(given.user) if given.user else None
+    if user and given.role and user.role != given.role:
+        confirm(f"the role of {user.name} changes from {user.role} to {given.role}", given.yes)
     authority = AUTHORITY.read_text(encoding="utf-8").strip() if AUTHORITY.exists() else ""
     if given.authority and authority and given.authority != authority:
         confirm(
@@ -279,18 +289,7 @@ def confirmed(register: Register, given: argparse.Namespace) -> Changes:
             confirm(change, given.yes)
         else:
             print(f"{register.name} has just these holidays")
-    return Changes(role, before)
-
-
-def role_before(register: Register, given: argparse.Namespace) -> str | None:
-    """The role of the user that is given, or None: among its users or, where it has none, among
-    those beside the copy, which it will have."""
-    roles = people.roles_of(register)
-    if not roles and given.copy:
-        roles = people.roles_in(
-            settings_copy.names_of(given.copy).get("roles", ""), f"the roles beside {given.copy}"
-        )
-    return roles.get(given.user)
+    return Changes(user, before)
 
 
 def see_site_is_free(register: Register, given: argparse.Namespace) -> None:
@@ -308,15 +307,15 @@ def see_site_is_free(register: Register, given: argparse.Namespace) -> None:
 def make_folders(register: Register, _: argparse.Namespace) -> typing.Iterator[str]:
     call(tool("systemd-sysusers", "systemd"), "admissions.conf")
     call(tool("systemd-tmpfiles", "systemd"), "--create", "admissions.conf")
-    for_desk, for_site = (0o700, USER, USER), (0o750, "root", "www-data")
-    for above, own in (
-        (REGISTERS, for_desk),
-        (COPIES, for_desk),
-        (SETTINGS, for_site),
-        (LOGS, for_site),
+    for path, mode, user, group in (
+        (register.folder, 0o700, USER, USER),
+        # (its application goes through it to its own copies, and reads nothing else there)
+        (register.copies, 0o710, USER, OFFICE),
+        (register.office_copies, 0o750, USER, OFFICE),
+        (register.office, 0o700, OFFICE, OFFICE),
+        (register.settings, 0o755, "root", "root"),
     ):
-        path = above / register.name
-        if files.folder(path, *own):
+        if files.folder(path, mode, user, group):
             yield f"made {path}"
 
 
@@ -354,13 +353,14 @@ def make_register(register: Register, given: argparse.Namespace) -> typing.Itera
 
 
 def take_settings(register: Register, given: argparse.Namespace) -> typing.Iterator[str]:
-    """Takes users, settings and log from beside the copy, where this machine has none of them."""
+    """Takes people, settings and history from beside the copy, where this machine has none of
+    them."""
     if given.copy:
         yield from settings_copy.restored(register, pathlib.Path(given.copy))
 
 
 def make_settings(register: Register, given: argparse.Namespace) -> typing.Iterator[str]:
-    """The site's name, its certificate, and empty files of users."""
+    """The site's name, its certificate, and the name of the authority."""
     path = register.settings / "site-name"
     before = register.host
     if before not in (None, given.site):
@@ -375,7 +375,6 @@ def make_settings(register: Register, given: argparse.Namespace) -> typing.Itera
         yield from certificates.make(register, given.site)
     if given.authority and files.write(AUTHORITY, given.authority + "\n", 0o644):
         yield f"the authority is {given.authority}"
-    people.make_files(register)
     if files.write(path, given.site + "\n", 0o644):
         yield f"the site is {given.site}"
 
@@ -383,46 +382,69 @@ def make_settings(register: Register, given: argparse.Namespace) -> typing.Itera
 def make_user(
     register: Register, given: argparse.Namespace, changes: Changes
 ) -> typing.Iterator[str]:
-    """The user with the role and, where there was none or another is wanted, a password."""
-    user, found, hashes = (
-        given.user,
-        people.role_of(register, given.user),
-        people.hashes_of(register),
-    )
-    if found != changes.role:
-        raise Refused(f"the role of {user} was changed meanwhile: it is {found or 'none'}")
-    if given.role and (changed := people.set_role(register, user, given.role)) and found:
-        yield changed
-    if user in hashes and not given.new_password:
-        yield f"{user} keeps the password"
+    """The person with the role and, where there was none or another is wanted, a password."""
+    name, found = given.user, people.users_of(register).get(given.user)
+    if found != changes.user:
+        role = found.role if found else "none"
+        raise Refused(f"the role of {name} was changed meanwhile: it is {role}")
+    if not found:
+        password = people.add(register, name, given.role)
+        yield f"{name} has the role {given.role}"
+        yield f"{name} signs in at https://{register.host}/ with the password {password}"
+        return
+    if given.role and given.role != found.role:
+        people.set_role(register, found, given.role)
+        yield f"{name} has the role {given.role}, and no longer {found.role}"
+    if given.new_password:
+        password = people.reset(register, name)
+        yield f"{name} signs in at https://{register.host}/ with the password {password}"
     else:
-        password = people.set_password(register, user)
-        yield f"{user} signs in at https://{register.host}/ with the password {password}"
+        yield f"{name} keeps the password"
 
 
 def list_users(register: Register) -> int:
-    for it in people.users_of(register):
-        print(f"{it.name} {it.role or '-'}")
-    for problem in people.problems_of(register):
-        print(f"WARNING: {problem}", file=sys.stderr)
+    for it in people.users_of(register).values():
+        what = f"{' (a program)' if it.kind != 'person' else ''}{' locked' * it.is_locked}"
+        print(f"{it.name} {it.role}{what}")
+    if warning := people.see_head(register):
+        print(f"WARNING: {warning}", file=sys.stderr)
     return 0
 
 
 def remove_user(register: Register, given: argparse.Namespace) -> int:
-    user = next((it for it in people.users_of(register) if it.name == given.remove), None)
+    users = people.users_of(register)
+    user = users.get(given.remove)
     if user is None:
-        there = ", ".join(it.name for it in people.users_of(register)) or "none"
-        raise Refused(f"{given.remove!r} is no user of {register.name}; its users: {there}")
-    confirm(
-        f"{user.name}, with the role {user.role or 'none'}, is removed from {register.name}",
-        given.yes,
-    )
+        there = ", ".join(users) or "none"
+        raise Refused(f"{given.remove!r} is nobody of {register.name}; its people: {there}")
+    confirm(f"{user.name}, with the role {user.role}, is removed from {register.name}", given.yes)
     with files.lock():
-        people.remove(register, user.name)
+        people.remove(register, user)
         print(f"removed {user.name}")
-        report(make_sites())
-    if not any(it.role == "office" and it.has_password for it in people.users_of(register)):
-        print(f"WARNING: {register.name} has no user with the role office any more")
+    if warning := people.see_head(register):
+        print(f"WARNING: {register.name}: {warning}")
+    return 0
+
+
+def set_accounts(register: Register, name: str) -> int:
+    """Signs people in by the accounts of the authority, or no more; and lets the application out
+    into the network only for that."""
+    text = "" if name == answers.NONE else pathlib.Path(name).read_text(encoding="utf-8")
+    unit = f"admissions-office@{register.name}.service"
+    path = UNITS / f"{unit}.d" / "accounts.conf"
+    with files.lock():
+        people.set_provider(register, text)
+        if text:
+            path.parent.mkdir(exist_ok=True)
+            files.write(path, OUTSIDE, 0o644)
+        else:
+            path.unlink(missing_ok=True)
+        if is_booted():
+            control = tool("systemctl", "systemd")
+            call(control, "daemon-reload")
+            call(control, "try-restart", unit)
+    print(f"{register.name}: people sign in by the accounts of the authority" if text
+          else f"{register.name}: people sign in with their passwords alone")
     return 0
 
 
@@ -431,6 +453,8 @@ def start(register: Register) -> bool:
     control = tool("systemctl", "systemd")
     units = [
         f"admissions@{register.name}.service",
+        f"admissions-office@{register.name}.socket",
+        f"admissions-office@{register.name}.service",
         f"admissions-backup@{register.name}.timer",
         f"admissions-drill@{register.name}.timer",
     ]
@@ -453,5 +477,10 @@ def start(register: Register) -> bool:
     while status_of(register.socket) not in (200, 404):
         if time.monotonic() > end:
             raise Refused(f"the desk does not answer: journalctl -u admissions@{register.name}")
+        time.sleep(0.1)
+    while status_of(register.office_socket) != 401:
+        if time.monotonic() > end:
+            raise Refused("the office's application does not answer:"
+                          f" journalctl -u admissions-office@{register.name}")
         time.sleep(0.1)
     return True

@@ -32,17 +32,9 @@ CONNECTIONS, OPEN_FILES = 8192, 16384
 HTTP2_DIRECTIVE = (1, 25, 1)
 READ = pathlib.Path("/run/admissions-sites-read")
 # What the template must use. That of an earlier version has none of it
-VARIABLES = {"part", "host", "name", "suffix", "settings", "logs", "socket"}
+VARIABLES = {"part", "host", "suffix", "settings", "socket"}
 LABEL = "[a-z0-9]([a-z0-9-]{0,61}[a-z0-9])?"
 HOST = re.compile(rf"(?=.{{1,253}}\Z){LABEL}(\.{LABEL})+")
-FOLDERS = pathlib.Path("/etc/tmpfiles.d")
-MADE_FOLDERS = """# Made by admissions-setup: the log, which is for root alone: nginx opens it
-# before it gives up its rights, and gives it away when it gets the signal to reopen it. What nginx
-# opens so is in folders of root, where nobody else can put a link in its place
-f {logs}/asked.log 0600 root root
-f {logs}/errors.log 0600 root root
-z {logs}/*.log* 0600 root root
-"""
 MADE = (
     "# Made by admissions-setup from sites-available/admissions:"
     " change that, and type admissions-setup --sites\n"
@@ -125,11 +117,9 @@ def site_text(model: str, name: str, host: str, machine: Machine) -> str:
         machine,
         part="site",
         host=host,
-        name=name,
         suffix=suffix,
         settings=str(register.settings),
-        logs=str(register.logs),
-        socket=str(register.socket),
+        socket=str(register.office_socket),
     )
     if wrong := not_own(text, register, host, suffix):
         raise Refused(
@@ -146,18 +136,16 @@ def not_own(text: str, register: Register, host: str, suffix: str) -> str:
     """
     # (a remark may name what it was before)
     text = re.sub(r"(?m)(?<![^\s;{}])#.*", "", text)
-    own = [register.settings / it for it in ("roles", "passwords", "site.crt", "site.key")]
-    own += [register.logs / it for it in ("asked.log", "errors.log")] + [register.socket]
+    own = [register.settings / it for it in ("site.crt", "site.key")] + [register.office_socket]
     names = " ".join(re.findall(r"(?m)^\s*server_name\s([^;]*);", text)).split()
     wrong = [] if host in names else [f"server_name {host}"]
-    wrong += [] if f"https://{host}" in text else [f"https://{host}"]
     for path in own:
         found = set(re.findall(rf"/\S*/{re.escape(path.name)}(?=[\s;\"'])", text))
         if found != {str(path)}:
             wrong.append(str(path))
-    for variable in re.findall(r"(?m)^\s*map\s.*\$(\w+)\s*\{", text):
-        if not variable.endswith(f"_{suffix}"):
-            wrong.append(f"${variable}")
+    for group in re.findall(r"(?m)^\s*upstream\s+(\w+)\s*\{", text):
+        if not group.endswith(f"_{suffix}"):
+            wrong.append(f"upstream {group}")
     return ", ".join(wrong)
 
 
@@ -186,9 +174,10 @@ def main_text(text: str) -> str:
     return f"{text[:found.start()]}{line}{text[found.end():]}"
 
 
-def share() -> pathlib.Path:
-    """The folder of what the sites are made of, below the prefix of this installation."""
-    return pathlib.Path(__file__).resolve().parent.parent / "nginx"
+def share(name: str = "nginx") -> pathlib.Path:
+    """The folder of what the sites are made of, or another beside it, below the prefix of this
+    installation."""
+    return pathlib.Path(__file__).resolve().parent.parent / name
 
 
 def registers_with_site() -> list[Register]:
@@ -219,12 +208,10 @@ def make_all() -> list[str]:
         for it in registers_with_site()
     }
     wanted |= sites
-    folders = [folders_of(it) for it in registers_with_site()]
     before = {
-        path: path.read_text(encoding="utf-8") if path.exists() else None
-        for path in (*wanted, *folders)
+        path: path.read_text(encoding="utf-8") if path.exists() else None for path in wanted
     }
-    lines = make_folders()
+    lines: list[str] = []
     links: list[pathlib.Path] = []
     for path, text in wanted.items():
         if files.write(path, text, 0o644):
@@ -247,34 +234,13 @@ def make_all() -> list[str]:
     return lines
 
 
-def folders_of(register: Register) -> pathlib.Path:
-    """What has systemd make the log of a register."""
-    return FOLDERS / f"admissions-{register.name}.conf"
-
-
-def make_folders() -> list[str]:
-    """Has systemd make the log of each register, now and when the machine starts. Returns what was
-    made, a line each.
-    """
-    lines = []
-    for register in registers_with_site():
-        path = folders_of(register)
-        is_new = files.write(path, MADE_FOLDERS.format(logs=register.logs), 0o644)
-        if is_new:
-            lines.append(f"made {path}")
-        made = (register.logs / "asked.log", register.logs / "errors.log")
-        if is_new or not all(it.exists() for it in made):
-            call(tool("systemd-tmpfiles", "systemd"), "--create", path)
-    return lines
-
-
 def read_by_nginx(wanted: Mapping[pathlib.Path, str]) -> bool:
-    """Has nginx read the sites, roles and certificates, if it has not read them as they are now. A
+    """Has nginx read the sites and certificates, if it has not read them as they are now. A
     run that was killed before this is so made up for. Returns whether it read them.
     """
     digest = hashlib.sha256("".join(wanted.values()).encode())
     for register in registers_with_site():
-        for name in ("roles", "site.crt", "site.key"):
+        for name in ("site.crt", "site.key"):
             digest.update((register.settings / name).read_bytes())
     if READ.exists() and READ.read_text(encoding="ascii") == digest.hexdigest():
         return False

@@ -60,7 +60,8 @@ def register_fixture(
 ) -> registers.Register:
     """A register with its folders, and a stand-in for the program that shows it."""
     register = registers.Register("secondary-2025")
-    for path in (register.folder, register.copies, register.settings, register.logs):
+    for path in (register.folder, register.copies, register.settings, register.logs,
+                 register.office):
         path.mkdir()
     register.file.write_text(document(), encoding="utf-8")
     program = machine / "admissions"
@@ -68,8 +69,6 @@ def register_fixture(
     program.chmod(0o755)
     monkeypatch.setattr(registers, "program", lambda name: str(machine / name))
     (register.settings / "site-name").write_text("admissions.example\n")
-    (register.settings / "roles").write_text("# who may do what\njane office;\nalpha school-A;\n")
-    (register.settings / "passwords").write_text("jane:$6$x\nalpha:$6$y\n")
     return register
 
 

@@ -2,21 +2,23 @@
 register that is there; and the lock."""
 import argparse
 import contextlib
+import dataclasses
 import datetime
 import io
+import json
 import multiprocessing
 import os
 import pathlib
 import shutil
 import subprocess
 import sys
-import tarfile
 import tempfile
 import typing
 
 import pytest
 from conftest import ROOT, document
 from machine import answers, files, holidays, people, registers, setup
+from office.web import authority
 from register_files import Refused
 from setup_arguments import given_to_setup
 
@@ -41,31 +43,14 @@ class Terminal(io.StringIO):
             ["admissions", "https://admissions.example", "Admissions.example", ""],
         ),
         (
-            answers.user,
+            people.checked_name,
             "jane",
-            [
-                "Jane",
-                "default",
-                "a b",
-                "a:b",
-                "a;b",
-                "a#b",
-                "a$b",
-                "a\\b",
-                'a"b',
-                "a{b",
-                "~a",
-                "@a",
-                "+a",
-                "ä",
-                "a\n",
-                "a" * 65,
-                "",
-            ],
+            ["Jane", "a b", "a:b", "~a", "@a", "+a", "ä", "a\n", "a" * 65, ""],
         ),
-        (answers.user, "ann.lee+post_1@ysgol-x.example", []),
-        (answers.user, "a" * 64, []),
-        (answers.role, "school-A", ["admin", "school-", "school-a", "office ", ""]),
+        (people.checked_name, "ann.lee+post_1@ysgol-x.example", []),
+        (people.checked_name, "a" * 64, []),
+        (people.checked_role, "school-A", ["office", "school-", "school-a", "head ", ""]),
+        (people.checked_role, "head", []),
         (answers.authority, "Example County Council", ["", " ", "two\nlines"]),
     ],
 )
@@ -77,11 +62,6 @@ def test_what_is_taken_and_what_is_named(
         with pytest.raises(Refused) as found:
             take(it)
         assert (repr(it) in str(found.value), found.value.status) == (True, 2)
-
-
-def test_the_site_logs_whole_each_name_that_is_taken() -> None:
-    site = (ROOT / "deploy/nginx/admissions.conf").read_text(encoding="utf-8")
-    assert f'"~^(?<short_name>{people.USER.pattern})$"  $short_name;' in site
 
 
 @pytest.mark.parametrize(
@@ -158,7 +138,7 @@ def test_a_plain_setup_asks_for_holidays_and_a_role(
     monkeypatch.setattr(setup, "AUTHORITY", machine / "etc/authority")
     found = completed(
         monkeypatch,
-        "primary\n2028\n2028-04-17 2028-04-14\nprimary.admissions.example\nmary\noffice\nnone\n",
+        "primary\n2028\n2028-04-17 2028-04-14\nprimary.admissions.example\nmary\nhead\nnone\n",
     )
     assert (found.name, found.phase, found.year, found.holiday) == (
         "primary-2028",
@@ -169,7 +149,7 @@ def test_a_plain_setup_asks_for_holidays_and_a_role(
     assert (found.site, found.user, found.role, found.authority) == (
         "primary.admissions.example",
         "mary",
-        "office",
+        "head",
         None,
     )
     named = completed(
@@ -185,7 +165,7 @@ def test_a_plain_setup_asks_for_holidays_and_a_role(
         "--user",
         "mary",
         "--role",
-        "office",
+        "head",
     )
     assert (named.holiday, named.authority) == ([], None)
 
@@ -205,7 +185,7 @@ def test_a_copy_names_its_register_and_nothing_is_asked_that_it_has(
         "--user",
         "mary",
         "--role",
-        "office",
+        "head",
     )
     assert (found.name, found.phase, found.year, found.holiday, sys.stdin.read()) == (
         "secondary-2025",
@@ -225,7 +205,7 @@ def test_a_copy_names_its_register_and_nothing_is_asked_that_it_has(
         "--user",
         "mary",
         "--role",
-        "office",
+        "head",
     )
     assert named.name == "other"
 
@@ -235,7 +215,7 @@ def test_a_user_without_a_role_is_refused_and_the_roles_are_named(
 ) -> None:
     monkeypatch.setattr(sys, "stdin", io.StringIO(""))
     with pytest.raises(
-        Refused, match="not given: --role of mary: office, which .*, or school-CODE, which"
+        Refused, match="not given: --role of mary: head, officer, supervisor, .*, or school-CODE"
     ) as found:
         setup.completed(given_to_setup(register.name, "--user", "mary"))
     assert found.value.status == 2
@@ -248,7 +228,7 @@ def test_a_user_without_a_role_is_refused_and_the_roles_are_named(
         (["--copy", "reg.db", "--holiday", "none"], "a copy has its own"),
         (["--copy", "reg.db", "--phase", "primary"], "a copy has its own"),
         (["--copy", "reg.db", "--year", "2025"], "a copy has its own"),
-        (["--role", "office"], "whose role"),
+        (["--role", "head"], "whose role"),
         (["--new-password"], "whose password"),
         (["--key", "site.key"], "belong together"),
         (["--year", "25"], "'25' is no year"),
@@ -262,50 +242,169 @@ def test_options_that_do_not_belong_together(given: list[str], said: str) -> Non
 
 
 @pytest.fixture(name="users")
-def users_fixture(
-    register: registers.Register, write_as_me: None, monkeypatch: pytest.MonkeyPatch
-) -> registers.Register:
+def users_fixture(register: registers.Register, write_as_me: None) -> registers.Register:
+    """A register whose application has two people: jane, head of the office, and ben."""
+    people.add(register, "jane", "head")
+    people.add(register, "ben", "officer")
     return register
 
 
-def test_a_role_is_changed_in_its_line(users: registers.Register) -> None:
-    roles = users.settings / "roles"
-    roles.write_text("# who\n  jane\toffice ; # the first\njane2 office;\n")
-    assert people.set_role(users, "jane", "office") is None
-    assert (
-        people.set_role(users, "jane", "school-A")
-        == "jane has the role school-A, and no longer office"
-    )
-    assert people.set_role(users, "ben", "office") == "ben has the role office"
-    assert (
-        roles.read_text() == "# who\n  jane\tschool-A ; # the first\njane2 office;\nben office;\n"
-    )
+def told(register: registers.Register) -> list[tuple[str, dict[str, str]]]:
+    """What is left for the history of the application."""
+    with people.opened(register) as (_, kept):
+        rows = kept.rows("SELECT what, about FROM told ORDER BY number")
+    return [(it["what"], json.loads(it["about"])) for it in rows]
 
 
-def test_a_user_is_removed_from_both_files(users: registers.Register) -> None:
-    people.remove(users, "jane")
-    assert people.users_of(users) == [people.User("alpha", "school-A", True)]
-    assert (users.settings / "roles").read_text() == "# who may do what\nalpha school-A;\n"
+def signs_in(register: registers.Register, name: str, password: str) -> bool:
+    """Whether somebody signs in at the application with a password."""
+    with people.opened(register) as (found, _):
+        try:
+            found.sign_in(name, password, "192.0.2.1")
+        except Refused:
+            return False
+        return True
+
+
+def test_a_person_is_added_and_signs_in_with_the_drawn_password(
+    register: registers.Register, write_as_me: None
+) -> None:
+    assert people.users_of(register) == {}
+    lines = list(setup.make_user(register, given_user("jane"), setup.Changes(None, None)))
+    password = lines[1].rpartition(" ")[2]
+    assert lines == [
+        "jane has the role head",
+        f"jane signs in at https://admissions.example/ with the password {password}",
+    ]
+    assert len(password) == 24 and signs_in(register, "jane", password)
+    assert not signs_in(register, "jane", "another password")
+    assert people.users_of(register) == {"jane": people.User("jane", "person", "head", False)}
+    assert (register.office / "office.db").stat().st_mode & 0o777 == 0o600
+
+
+def test_what_an_administrator_changes_is_left_for_the_history(users: registers.Register) -> None:
+    """And the history has it with the name of whoever called the command as root."""
+    before = people.users_of(users)["ben"]
+    people.set_role(users, before, "reader")
+    people.remove(users, people.users_of(users)["ben"])
+    assert told(users) == [
+        ("added", {"person": "jane", "role": "head", "kind": "person"}),
+        ("added", {"person": "ben", "role": "officer", "kind": "person"}),
+        ("gave a role", {"person": "ben", "role": "reader", "before": "officer"}),
+        ("removed", {"person": "ben", "role": "reader"}),
+    ]
 
 
 @pytest.mark.parametrize(
-    "line", ["carol office", "carol;", "office carol jane;", "carol office; dave office;"]
+    "user, who",
+    [
+        ("ann", "administrator of the machine (ann)"),
+        ("", "administrator of the machine"),
+        ("a\nb", "administrator of the machine"),
+    ],
 )
-def test_a_broken_line_is_named(line: str, users: registers.Register) -> None:
-    (users.settings / "roles").write_text(f"# who\n\njane office; # all\n{line}\n")
-    with pytest.raises(
-        Refused, match=f"^{users.settings}/roles, line 4: {line!r} is not of the form 'USER ROLE;'$"
-    ):
-        people.roles_of(users)
+def test_the_history_names_whoever_became_root(
+    user: str, who: str, monkeypatch: pytest.MonkeyPatch
+) -> None:
+    monkeypatch.setenv("SUDO_USER", user)
+    assert people.teller() == who
 
 
-def test_a_user_in_two_lines_and_a_file_that_is_no_text(users: registers.Register) -> None:
-    (users.settings / "roles").write_text("jane office;\njane school-A;\n")
-    with pytest.raises(Refused, match="roles, line 2: jane is in an earlier line already"):
-        people.roles_of(users)
-    (users.settings / "roles").write_bytes(b"jane \xff;\n")
-    with pytest.raises(Refused, match="roles is no text in UTF-8, from its byte 5 on"):
-        people.roles_of(users)
+def test_a_role_that_is_there_is_kept_or_changed_and_the_password_stays(
+    users: registers.Register,
+) -> None:
+    password = people.reset(users, "jane")
+    before = setup.Changes(people.users_of(users)["jane"], None)
+    assert list(setup.make_user(users, given_user("jane"), before)) == ["jane keeps the password"]
+    reader = given_to_setup("secondary-2025", "--user", "jane", "--role", "reader")
+    assert list(setup.make_user(users, reader, before)) == [
+        "jane has the role reader, and no longer head",
+        "jane keeps the password",
+    ]
+    assert signs_in(users, "jane", password)
+    with pytest.raises(Refused, match="the role of jane was changed meanwhile: it is reader"):
+        list(setup.make_user(users, given_user("jane"), before))
+
+
+def test_another_password_ends_the_first(users: registers.Register) -> None:
+    first = people.reset(users, "jane")
+    before = setup.Changes(people.users_of(users)["jane"], None)
+    lines = list(setup.make_user(users, given_user("jane", "--new-password"), before))
+    password = lines[0].rpartition(" ")[2]
+    assert (len(lines), signs_in(users, "jane", first), signs_in(users, "jane", password)) == (
+        1, False, True)
+
+
+def test_people_are_listed_and_removed_and_who_is_missing_is_named(
+    users: registers.Register,
+    monkeypatch: pytest.MonkeyPatch,
+    capsys: pytest.CaptureFixture[str],
+    machine: pathlib.Path,
+) -> None:
+    monkeypatch.setattr(files, "LOCK", machine / "lock")
+    assert (setup.list_users(users), *capsys.readouterr()) == (0, "ben officer\njane head\n", "")
+    with pytest.raises(Refused, match="'mary' is nobody of secondary-2025; its people: ben, jane"):
+        setup.remove_user(users, argparse.Namespace(remove="mary", yes=True))
+    assert setup.remove_user(users, argparse.Namespace(remove="jane", yes=True)) == 0
+    warning = "nobody has the role head, so nobody can hold a draw"
+    assert capsys.readouterr().out == f"removed jane\nWARNING: secondary-2025: {warning}\n"
+    with people.opened(users) as (found, _):
+        found.lock("ben", True)
+    assert (setup.list_users(users), *capsys.readouterr()) == (
+        0, "ben officer locked\n", f"WARNING: {warning}\n")
+
+
+ACCOUNTS = {"title": "Council account", "issuer": "https://id.example", "client": "admissions",
+            "secret": "of the two"}
+
+
+def test_accounts_of_the_authority_let_the_application_out_and_their_end_keeps_it_in(
+    users: registers.Register, monkeypatch: pytest.MonkeyPatch, machine: pathlib.Path
+) -> None:
+    monkeypatch.setattr(setup, "UNITS", machine)
+    monkeypatch.setattr(files, "LOCK", machine / "lock")
+    monkeypatch.setattr(setup, "is_booted", lambda: False)
+    given = machine / "accounts.json"
+    given.write_text(json.dumps(ACCOUNTS), encoding="utf-8")
+    unit = machine / "admissions-office@secondary-2025.service.d/accounts.conf"
+    assert setup.set_accounts(users, str(given)) == 0
+    assert unit.read_text(encoding="utf-8").splitlines()[1:] == ["[Service]", "PrivateNetwork=no"]
+    with people.opened(users) as (_, kept):
+        found = authority.provider_of(kept)
+    assert found and dataclasses.asdict(found) == ACCOUNTS | {"claim": "email"}
+    assert setup.set_accounts(users, "none") == 0
+    assert not unit.exists()
+    with people.opened(users) as (_, kept):
+        assert authority.provider_of(kept) is None
+    assert [what for what, _ in told(users)][2:] == [
+        "changed the sign-in by the authority's accounts"] * 2
+
+
+@pytest.mark.parametrize(
+    "change, said",
+    [
+        ("{", "the accounts are no JSON: "),
+        ("[]", "the accounts are no JSON object with texts"),
+        (json.dumps({"title": 1}), "the accounts are no JSON object with texts"),
+        (json.dumps(ACCOUNTS | {"sekret": "x"}), "'sekret' is none of title, issuer, client, "),
+        (json.dumps({**ACCOUNTS, "client": ""}), "the accounts have no client"),
+        (json.dumps(ACCOUNTS | {"issuer": "http://id.example"}), "begins with https://"),
+    ],
+)
+def test_accounts_that_cannot_be_used_are_refused_and_nothing_changes(
+    change: str, said: str, users: registers.Register, monkeypatch: pytest.MonkeyPatch,
+    machine: pathlib.Path,
+) -> None:
+    monkeypatch.setattr(setup, "UNITS", machine)
+    monkeypatch.setattr(files, "LOCK", machine / "lock")
+    given = machine / "accounts.json"
+    given.write_text(change, encoding="utf-8")
+    before = told(users)
+    with pytest.raises(Refused, match=said):
+        setup.set_accounts(users, str(given))
+    with people.opened(users) as (_, kept):
+        assert authority.provider_of(kept) is None
+    assert (told(users), list(machine.glob("*.d"))) == (before, [])
 
 
 def add_to(path: pathlib.Path, turns: int) -> None:
@@ -413,51 +512,16 @@ def test_of_a_link_in_the_folder_of_the_desk_its_target_keeps_its_owner(
     assert sorted(given) == [("link", False), ("reg.db", False)]
 
 
-def test_a_change_of_a_password_leaves_all_other_lines(users: registers.Register) -> None:
-    path = users.settings / "passwords"
-    path.write_text("# who: by hand\njane:$6$x:the first\n\nno user\nalpha:$6$y")
-    assert people.hashes_of(users) == {"jane": "jane:$6$x:the first", "alpha": "alpha:$6$y"}
-    people.set_password(users, "ben")
-    people.set_password(users, "jane")
-    found = people.hashes_of(users)
-    assert (
-        path.read_text()
-        == f"# who: by hand\n{found['jane']}\n\nno user\nalpha:$6$y\n{found['ben']}\n"
-    )
-    people.remove(users, "jane")
-    assert path.read_text() == f"# who: by hand\n\nno user\nalpha:$6$y\n{found['ben']}\n"
-
-
-def test_a_second_password_of_a_user_is_refused_before_any_change(
-    users: registers.Register,
-) -> None:
-    path = users.settings / "passwords"
-    path.write_text("# jane:\njane:$6$x\nalpha:$6$y\njane:$6$z\n")
-    changes: tuple[typing.Callable[[registers.Register], object], ...] = (
-        people.users_of,
-        setup.list_users,
-        lambda it: list(setup.make_user(it, given_user("ben"), setup.Changes(None, None))),
-    )
-    for change in changes:
-        with pytest.raises(Refused, match=f"^{path}, line 4: jane is in an earlier line already$"):
-            change(users)
-    with pytest.raises(Refused, match="line 4: jane is in an earlier line already"):
-        people.remove(users, "jane")
-    assert path.read_text() == "# jane:\njane:$6$x\nalpha:$6$y\njane:$6$z\n"
-    assert (
-        users.settings / "roles"
-    ).read_text() == "# who may do what\njane office;\nalpha school-A;\n"
-
-
 def given_user(name: str, *more: str) -> argparse.Namespace:
-    return given_to_setup("secondary-2025", "--user", name, "--role", "office", *more)
+    return given_to_setup("secondary-2025", "--user", name, "--role", "head", *more)
 
 
 @pytest.mark.parametrize(
     "words, said",
     [
         (["--users", "--remove", "jane"], "--users and --remove"),
-        (["--remove", "jane", "--user", "ben", "--role", "office"], "--remove and --user"),
+        (["--remove", "jane", "--user", "ben", "--role", "head"], "--remove and --user"),
+        (["--accounts", "none", "--users"], "--users and --accounts"),
         (["--sites", "--new-password", "--user", "jane"], "--sites and --user"),
         (["--users", "--holiday", "2025-03-03"], "--users and --holiday"),
     ],
@@ -491,43 +555,48 @@ def test_an_empty_file_of_a_register_is_none(
 
 
 @pytest.mark.parametrize(
-    "own, beside, role, typed, asked",
+    "role, typed, said",
     [
-        ("jane office;\n", None, "office", "", 0),
-        ("jane office;\n", None, "school-A", "yes\n", 1),
-        ("# none\n", "jane office;\n", "office", "", 0),
-        ("# none\n", "jane office;\n", "school-A", "yes\n", 1),
-        ("ben office;\n", "jane school-A;\n", "office", "", 0),
+        ("head", "", None),
+        ("reader", "yes\n", "the role of jane changes from head to reader. Type yes to do it: "),
     ],
 )
-def test_a_role_is_compared_with_that_of_the_archive_which_comes_back(
-    own: str,
-    beside: str | None,
+def test_another_role_is_confirmed(
     role: str,
     typed: str,
-    asked: int,
+    said: str | None,
     users: registers.Register,
-    machine: pathlib.Path,
     monkeypatch: pytest.MonkeyPatch,
     capsys: pytest.CaptureFixture[str],
 ) -> None:
-    (users.settings / "roles").write_text(own)
-    copy = machine / "nightly-000001-2025-03-01T023000.db"
-    if beside:
-        (machine / "roles").write_text(beside)
-        with tarfile.open(copy.with_suffix(".tar"), "w") as archive:
-            archive.add(machine / "roles", "roles")
-    given = given_to_setup(
-        users.name, "--user", "jane", "--role", role, *(["--copy", str(copy)] if beside else [])
-    )
+    given = given_to_setup(users.name, "--user", "jane", "--role", role)
     monkeypatch.setattr(setup, "AUTHORITY", users.settings / "site-name")
     monkeypatch.setattr(sys, "stdin", Terminal(typed))
     setup.completed(given)
     changes = setup.confirmed(users, given)
-    assert capsys.readouterr().out.count("the role of jane changes") == asked
-    list(setup.take_settings(users, given))
+    assert capsys.readouterr().out == (said or "")
     list(setup.make_user(users, given, changes))
-    assert people.role_of(users, "jane") == role
+    assert people.users_of(users)["jane"].role == role
+
+
+@pytest.mark.parametrize("has_people", [False, True])
+def test_who_comes_with_a_copy_is_not_added_beside_it(
+    has_people: bool,
+    register: registers.Register,
+    machine: pathlib.Path,
+    monkeypatch: pytest.MonkeyPatch,
+) -> None:
+    """Nobody is asked for who comes with it; of a copy without people the first is asked for."""
+    monkeypatch.setattr(setup, "AUTHORITY", machine / "etc/authority")
+    monkeypatch.setattr(setup.settings_copy, "has_people", lambda copy: has_people)
+    words = [register.name, "--copy", "gone.db", "--site", "x.example"]
+    if has_people:
+        assert completed(monkeypatch, "none\n", *words).user is None
+        with pytest.raises(Refused, match="--user and --copy: people come with this copy"):
+            completed(monkeypatch, "none\n", *words, "--user", "mary", "--role", "head")
+    else:
+        found = completed(monkeypatch, "mary\nhead\nnone\n", *words)
+        assert (found.user, found.role) == ("mary", "head")
 
 
 @pytest.mark.parametrize(
@@ -619,17 +688,3 @@ def test_another_certificate_or_key_is_confirmed(
         ["--certificate", str(machine / "site.crt"), "--key", str(machine / "site.key")],
         said,
     )
-
-
-def test_openssl_takes_a_drawn_password(users: registers.Register) -> None:
-    password = people.set_password(users, "mary")
-    stored = people.hashes_of(users)["mary"].removeprefix("mary:")
-    salt = stored.rpartition("$")[0].removeprefix("$6$")
-    again = subprocess.run(
-        ["openssl", "passwd", "-6", "-salt", salt, "-stdin"],
-        input=password,
-        text=True,
-        capture_output=True,
-        check=True,
-    ).stdout.strip()
-    assert (again, len(password), shutil.which("openssl") is not None) == (stored, 24, True)

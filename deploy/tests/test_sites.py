@@ -26,9 +26,8 @@ server {
 """
 # What nginx knows by one name for all sites, and what a site has of the machine
 OWN = re.compile(
-    r"(?m)^ *(?:map .*(\$\w+) \{|log_format (\w+) |upstream (\w+) |zone (\w+) "
-    r"|server (unix:\S+) |server_name (\S+);|(?:access|error)_log +(/\S+) |include (\S+);"
-    r"|ssl_certificate(?:_key)? +(\S+);|auth_basic_user_file (\S+);)"
+    r"(?m)^ *(?:upstream (\w+) |zone (\w+) |server (unix:\S+) |server_name (\S+);"
+    r"|proxy_set_header Host (\S+);|ssl_certificate(?:_key)? +(\S+);)"
 )
 
 
@@ -79,8 +78,8 @@ def test_two_sites_share_no_name_and_no_file() -> None:
     one = sites.site_text(MODEL, "primary-2026", "primary.example", HERE)
     other = sites.site_text(MODEL, "x", "admissions.example", HERE)
     assert (len(names_in(one)), len(names_in(other)), names_in(one) & names_in(other)) == (
-        14,
-        14,
+        5,
+        5,
         set(),
     )
     for old, new in (
@@ -96,25 +95,15 @@ def test_two_sites_share_no_name_and_no_file() -> None:
 @pytest.mark.parametrize(
     "old, new, named",
     [
-        ("{{ settings }}/roles", "/etc/admissions/roles", "/etc/admissions/x-1/roles"),
-        (
-            "{{ settings }}/passwords",
-            "/etc/admissions/y/passwords",
-            "/etc/admissions/x-1/passwords",
-        ),
         ("{{ settings }}/site.crt", "/etc/admissions/site.crt", "/etc/admissions/x-1/site.crt"),
         ("{{ settings }}/site.key", "/etc/admissions/site.key", "/etc/admissions/x-1/site.key"),
-        (
-            "{{ logs }}/asked.log admissions_refused",
-            "/var/log/admissions/asked.log admissions_refused",
-            "/var/log/admissions/x-1/asked.log",
-        ),
-        ("{{ logs }}/errors.log", "/var/log/errors.log", "/var/log/admissions/x-1/errors.log"),
         ("server_name {{ host }}", "server_name admissions.example", "server_name x.example"),
-        ("POST https://{{ host }}", "POST https://admissions.example", "https://x.example"),
-        ("$role_{{ suffix }}", "$role", "$role"),
-        ("$is_foreign_{{ suffix }}", "$is_foreign", "$is_foreign"),
-        ("upstream desk_", "map $host $night { }\nupstream desk_", "$night"),
+        ("upstream office_{{ suffix }}", "upstream office", "upstream office"),
+        (
+            "unix:{{ socket }}",
+            "unix:/run/admissions-office/y.sock; #{{ socket }}",
+            "/run/admissions-office/x-1.sock",
+        ),
     ],
 )
 def test_a_site_without_what_is_its_own_is_refused(old: str, new: str, named: str) -> None:
@@ -134,9 +123,9 @@ def test_a_site_without_what_is_its_own_is_refused(old: str, new: str, named: st
     [
         ("    server_name ", "    # was: /etc/admissions/site.crt;\n    server_name "),
         ("{{ settings }}/site.crt;", "{{ settings }}/site.crt; # and not /etc/admissions/site.crt"),
-        ("{{ settings }}/passwords", '"{{ settings }}/passwords"'),
+        ("{{ settings }}/site.key", '"{{ settings }}/site.key"'),
         ("server_name {{ host }}", "server_name  www.{{ host }}\n        {{ host }}"),
-        ("upstream desk_", "map $host $night_{{ suffix }} { }\nupstream desk_"),
+        ("upstream office_", "map $host $night { }\nupstream office_"),
     ],
 )
 def test_other_changes_of_a_site_are_taken(old: str, new: str) -> None:
@@ -175,9 +164,10 @@ def test_an_error_in_the_template_is_named(old: str, new: str, said: str) -> Non
 
 
 def test_a_remark_behind_a_brace_is_no_comment_of_the_template() -> None:
-    text = MODEL.replace("    location = /may {\n", "    location = /may {# who may\n    #}\n")
+    named = "    location = /signed-in {"
+    text = MODEL.replace(f"{named}\n", f"{named}# who signed in\n    #}}\n")
     site = sites.site_text(text, "x-1", "x.example", HERE)
-    assert "    location = /may {# who may\n    #}\n        internal;\n" in site
+    assert f"{named}# who signed in\n    #}}\n        internal;\n" in site
 
 
 @pytest.fixture(name="nginx")
@@ -190,7 +180,7 @@ def nginx_fixture(
     """A folder with what nginx has of a machine with one register, before its site is made. Nothing
     is called."""
     root = tmp_path / "nginx"
-    for name in ("sites-available", "sites-enabled", "conf.d", "modules-enabled", "tmpfiles.d"):
+    for name in ("sites-available", "sites-enabled", "conf.d", "modules-enabled"):
         (root / name).mkdir(parents=True)
     for constant, name in (
         ("AVAILABLE", "sites-available"),
@@ -199,7 +189,6 @@ def nginx_fixture(
         ("MACHINE", "conf.d/admissions.conf"),
         ("MAIN", "nginx.conf"),
         ("LIMITS", "modules-enabled/90-admissions.conf"),
-        ("FOLDERS", "tmpfiles.d"),
     ):
         monkeypatch.setattr(sites, constant, root / name)
     monkeypatch.setattr(sites, "this_machine", lambda: HERE)
@@ -232,7 +221,7 @@ def test_with_a_template_of_an_earlier_version_nothing_is_changed(
         sites.make_all()
     assert str(found.value) == (
         f"{nginx}/sites-available/admissions is not a template of this version: it does not use"
-        " host, logs, name, part, settings, socket, suffix. No site was changed. Put what you"
+        " host, part, settings, socket, suffix. No site was changed. Put what you"
         f" changed into a copy of {ROOT}/deploy/nginx/admissions.conf, move that to"
         f" {nginx}/sites-available/admissions, and type admissions-setup --sites"
     )
@@ -244,19 +233,17 @@ def test_the_machines_own_part_needs_no_site() -> None:
     retired.
     """
     text = re.sub(r"(?m)^ *#.*", "", sites.machine_text(MODEL, MORE, HERE))
-    own = set(re.findall(r"(?m)^map .*\$(\w+) \{$|\bset \$(\w+) |\(\?<(\w+)>", text))
-    others = set(re.findall(r"\$(\w+)", text)) - {name for it in own for name in it}
+    own = set(re.findall(r"(?m)^map .*\$(\w+) \{$", text))
+    others = set(re.findall(r"\$(\w+)", text)) - own
     assert sorted(others) == [
         "binary_remote_addr",
         "host",
-        "remote_addr",
-        "remote_user",
-        "request_id",
+        "http_accept",
         "request_method",
         "request_uri",
         "status",
-        "time_iso8601",
         "upstream_addr",
+        "uri",
     ]
 
 
@@ -272,26 +259,6 @@ def test_each_answer_has_the_headers_of_the_list() -> None:
         dict(re.findall(r'(?m)^ *add_header (\S+) "?([^"\n]+?)"? always;$', it)) for it in texts
     ]
     assert found == [wanted | {"Retry-After": "$retry_after"}] * 2
-
-
-def test_what_nginx_opens_as_root_is_in_folders_of_root() -> None:
-    """There nobody else can put a link in its place. The folder of a log is made by
-    admissions-setup, of root, as each of its files is.
-    """
-    made = re.findall(
-        r"(?m)^[fd] (\S+) \S+ (\S+)", sites.MADE_FOLDERS.format(logs="/var/log/admissions/x")
-    )
-    owners = {"/var/log/admissions/x": "root", **dict(made)}
-    opened = re.findall(
-        r"(?m)^ *(?:access|error)_log +(/\S+)/[^/ ]+ ",
-        sites.site_text(MODEL, "x", "x.example", HERE),
-    )
-    assert (len(opened), {owners[it] for it in opened}, len(made), set(owners.values())) == (
-        3,
-        {"root"},
-        2,
-        {"root"},
-    )
 
 
 @pytest.mark.parametrize(

@@ -32,6 +32,8 @@ HEADERS = {
 }
 # a person who tries what is not theirs is on record once in so many seconds for each address
 REFUSED_SECONDS = 60
+# what somebody may do whose password was drawn by somebody else
+BEFORE_CHANGE = ("signing.password", "signing.sign_out", "signing.signed_in")
 View = TypeVar("View", bound=Callable[..., Any])
 
 
@@ -131,7 +133,8 @@ def see() -> AnyResponse | None:
         flask.abort(403, "a request must come from a page of this site")
     if right == PUBLIC or found is None:
         return None
-    if found.must_change and request.endpoint not in ("signing.password", "signing.sign_out"):
+    parts().hear()
+    if found.must_change and request.endpoint not in BEFORE_CHANGE:
         return flask.redirect(flask.url_for("signing.password"))
     if right != SIGNED_IN and not found.may(right):
         refused(found)

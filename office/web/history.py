@@ -99,6 +99,8 @@ class History:
         # the requests of which no answer is known yet, and the places of the entries by children
         self.open: dict[int, Entry] = {}
         self.children: dict[int, list[int]] = {}
+        # what was told from outside, by its key
+        self.told: set[str] = set()
         self.before, self.length = FIRST, 0
         try:
             self.load()
@@ -169,6 +171,8 @@ class History:
     def take(self, entry: Entry) -> None:
         """Adds an entry to those in memory."""
         self.entries.append(entry)
+        if "told" in entry.about:
+            self.told.add(entry.about["told"])
         request = entry
         if entry.what == SENDS:
             self.open[entry.number] = entry

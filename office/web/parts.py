@@ -1,5 +1,6 @@
 """The parts of one application: where everything is, and what its screens share."""
 import dataclasses
+import json
 import pathlib
 
 from office import senders
@@ -45,6 +46,17 @@ class Parts:
         self.draws = Draws(self.store, self.history, self.desk, self.copies)
         self.lots = Drafts(self.draws)
         self.desk.closed = self.draws.closed
+
+    def hear(self) -> None:
+        """Takes into the history what was told outside of the application, each once."""
+        with self.history.lock:
+            for it in self.store.rows("SELECT * FROM told ORDER BY number"):
+                # (it is there already after a crash between the two writes)
+                if it["key"] not in self.history.told:
+                    about = {**json.loads(it["about"]), "told": it["key"]}
+                    self.history.add(it["who"], it["what"], about)
+                with self.store.writing() as db:
+                    db.execute("DELETE FROM told WHERE number=?", (it["number"],))
 
     def close(self) -> None:
         """Ends the use of its files."""

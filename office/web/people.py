@@ -7,7 +7,6 @@ import threading
 import time
 from collections.abc import Callable
 
-import argon2
 from register_files import Refused
 
 from office import rules
@@ -44,6 +43,7 @@ LEAST_PASSWORD, MOST_PASSWORD = 12, 200
 IDLE_SECONDS, SESSION_SECONDS = 30 * 60, 10 * 3600
 # so many attempts that fail are free; each after them doubles the wait, up to the longest
 FREE_ATTEMPTS, LONGEST_WAIT = 5, 300
+HASHES_AT_ONCE = 4
 WRONG = "The name or the password is wrong."
 
 
@@ -114,7 +114,12 @@ class People:
     def __init__(self, store: Store, clock: Callable[[], float] = time.time) -> None:
         self.store, self.clock = store, clock
         self.attempts = Attempts()
+        import argon2
+
         self.hasher = argon2.PasswordHasher()
+        self.wrong = argon2.exceptions.VerificationError, argon2.exceptions.InvalidHash
+        # (each needs much memory for some time)
+        self.hashing = threading.Semaphore(HASHES_AT_ONCE)
         # (so that a name that does not exist takes as long)
         self.nobody = self.hasher.hash(secrets.token_urlsafe(18))
 
@@ -185,8 +190,9 @@ class People:
     def is_right(self, hashed: str, password: str) -> bool:
         """Whether a password is that of a hash."""
         try:
-            return bool(self.hasher.verify(hashed, password))
-        except (argon2.exceptions.VerificationError, argon2.exceptions.InvalidHash):
+            with self.hashing:
+                return bool(self.hasher.verify(hashed, password))
+        except self.wrong:
             return False
 
     def sign_in(self, name: str, password: str, address: str) -> str:

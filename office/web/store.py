@@ -2,7 +2,9 @@
 the staging table, draws in progress. Nothing in it is a second truth about the register.
 """
 import contextlib
+import json
 import os
+import secrets
 import sqlite3
 import threading
 from collections.abc import Iterator
@@ -65,6 +67,12 @@ STEPS = (
         name TEXT NOT NULL, seen TEXT NOT NULL, state TEXT NOT NULL, said TEXT NOT NULL,
         after INTEGER NOT NULL) STRICT;
     """,
+    # what was done outside of the application, until it is in the history
+    """
+    CREATE TABLE told (
+        number INTEGER PRIMARY KEY, key TEXT NOT NULL, who TEXT NOT NULL, what TEXT NOT NULL,
+        about TEXT NOT NULL) STRICT;
+    """,
 )
 
 
@@ -124,6 +132,12 @@ class Store:
         """Stores a setting."""
         with self.writing() as db:
             db.execute("INSERT OR REPLACE INTO setting VALUES (?, ?)", (name, value))
+
+    def tell(self, who: str, what: str, about: dict[str, str]) -> None:
+        """Leaves for the history what somebody is about to do outside of the application."""
+        with self.writing() as db:
+            db.execute("INSERT INTO told (key, who, what, about) VALUES (?, ?, ?, ?)",
+                       (secrets.token_hex(8), who, what, json.dumps(about)))
 
     def close(self) -> None:
         """Ends the use of the file."""

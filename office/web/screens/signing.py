@@ -92,6 +92,13 @@ def come_back() -> Answer:
     return with_session(page, secret)
 
 
+@screen.get("/signed-in")
+@needs(SIGNED_IN)
+def signed_in() -> tuple[str, int]:
+    """That somebody is signed in, for the site, which then reads what they send."""
+    return "", 204
+
+
 @screen.post("/sign-out")
 @needs(SIGNED_IN)
 def sign_out() -> Answer:
