@@ -1,6 +1,5 @@
 """Whether a desk answers, by the door that nginx uses, and its site, as a browser would reach
 it."""
-import base64
 import contextlib
 import http.client
 import pathlib
@@ -25,22 +24,18 @@ def status_of(path: pathlib.Path, seconds: float = 10) -> int | None:
     return None
 
 
-def site_status_of(host: str, user: str = "", seconds: float = 10) -> tuple[int, bytes]:
-    """The status of the site's answer over TLS to a request without a password, of a user or of
-    nobody, and the certificate that it shows. The certificate is not judged here: one for a trial
-    is as good. OSError or HTTPException where there is no answer.
+def site_status_of(host: str, seconds: float = 10) -> tuple[int, bytes]:
+    """The status of the site's answer over TLS to a request of nobody, and the certificate that it
+    shows. The certificate is not judged here: one for a trial is as good. OSError or HTTPException
+    where there is no answer.
     """
-    name = base64.b64encode(f"{user}:".encode()).decode()
-    signed = f"Authorization: Basic {name}\r\n" if user else ""
     context = ssl.create_default_context()
     context.check_hostname = False
     context.verify_mode = ssl.CERT_NONE
     with socket.create_connection(("127.0.0.1", PORT), seconds) as bare, context.wrap_socket(
         bare, server_hostname=host
     ) as secure:
-        secure.sendall(
-            f"GET / HTTP/1.1\r\nHost: {host}\r\n{signed}Connection: close\r\n\r\n".encode()
-        )
+        secure.sendall(f"GET / HTTP/1.1\r\nHost: {host}\r\nConnection: close\r\n\r\n".encode())
         answer = http.client.HTTPResponse(secure)
         answer.begin()
         return answer.status, secure.getpeercert(binary_form=True) or b""

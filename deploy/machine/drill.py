@@ -6,10 +6,10 @@ folder of its own, opens it, and counts what it has.
 The newest copy is the one that was made last, whatever the clock was. The
 register itself and its copies are only read. Where a second place is named,
 its copy of the same name is fetched and tried in the same way. The archive of
-its settings is read, and its users are counted. What was restored is removed
-at the end. The result is in /var/backups/admissions/NAME/drill.report, which
-admissions-status reads. A drill that fails leaves the report of the one before
-it, and its unit fails.
+its settings is read, and who may sign in is counted. What was restored is
+removed at the end. The result is in
+/var/backups/admissions/NAME/drill.report, which admissions-status reads. A
+drill that fails leaves the report of the one before it, and its unit fails.
 
 example:
   drill secondary-2025
@@ -27,7 +27,7 @@ from . import copies
 from .programs import call, program
 from .registers import Register, known, open_error, stored
 from .second_copy import fetched, now, place_of, write_report
-from .settings_copy import OWN, members_of
+from .settings_copy import OWN, members_of, people_beside
 
 REPORT = "drill.report"
 
@@ -61,7 +61,7 @@ def fetched_whole(place: str, register: Register, copy: pathlib.Path, room: str)
 
 
 def tried(copy: pathlib.Path, room: str) -> str:
-    """Restores a copy as an office would, opens it, and counts its rows, and the users of its
+    """Restores a copy as an office would, opens it, and counts its rows, and the people of its
     settings."""
     with tempfile.TemporaryDirectory(dir=room) as folder:
         file = pathlib.Path(folder, "reg.db")
@@ -86,4 +86,4 @@ def settings_text(copy: pathlib.Path) -> str:
         return "without settings"
     if missing := set(OWN) - found.keys():
         raise Refused(f"the settings of {copy} lack {', '.join(sorted(missing))}")
-    return f"settings with {len(found['passwords'].splitlines())} users"
+    return f"settings with {len(people_beside(copy))} people and programs"

@@ -6,6 +6,7 @@ import grp
 import os
 import pathlib
 import pwd
+import stat
 import sys
 import tempfile
 import typing
@@ -15,6 +16,8 @@ from register_files import Refused
 from .programs import USER
 
 LOCK = pathlib.Path("/run/admissions-setup.lock")
+# how a file of somebody else is opened: waiting for nobody, and through no link
+AS_IT_IS = os.O_NOFOLLOW | os.O_NONBLOCK | os.O_CLOEXEC
 
 
 @contextlib.contextmanager
@@ -105,19 +108,34 @@ def as_desk() -> contextlib.AbstractContextManager[None]:
     return acting_as(USER)
 
 
-def write_as_desk(path: pathlib.Path, data: bytes, modified: int | None = None) -> None:
-    """Gives a file these bytes and, where it is given, this time, in one step; it is of the user of
-    the desks alone."""
-    with as_desk():
+def content_as(name: str, path: pathlib.Path) -> bytes:
+    """What a file has, as a user reads it."""
+    with acting_as(name):
+        handle = os.open(path, os.O_RDONLY | AS_IT_IS)
+    try:
+        if not stat.S_ISREG(os.fstat(handle).st_mode):
+            raise Refused(f"{path} is no file")
+        with open(handle, "rb", closefd=False) as file:
+            return file.read()
+    finally:
+        os.close(handle)
+
+
+def write_as(name: str, path: pathlib.Path, data: bytes) -> None:
+    """Gives a file these bytes, in one step; it is of this user alone."""
+    with acting_as(name):
         handle, new = tempfile.mkstemp(prefix=f".{path.name}.", dir=path.parent)
         try:
             with open(handle, "wb") as out:
                 out.write(data)
                 out.flush()
                 os.fsync(out.fileno())
-            if modified is not None:
-                os.utime(new, ns=(modified, modified))
             os.rename(new, path)
         except BaseException:
             os.unlink(new)
             raise
+
+
+def write_as_desk(path: pathlib.Path, data: bytes) -> None:
+    """The same of the user of the desks."""
+    write_as(USER, path, data)

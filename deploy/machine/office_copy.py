@@ -55,7 +55,7 @@ def copied(register: Register, number: int) -> Result:
 def give(path: pathlib.Path) -> None:
     """Lets the application's group read a copy."""
     _, group = files.numbers(USER, OFFICE)
-    fd = os.open(path, os.O_RDONLY | office_requests.AS_IT_IS)
+    fd = os.open(path, os.O_RDONLY | files.AS_IT_IS)
     try:
         os.fchown(fd, -1, group)
         os.fchmod(fd, READ_BY_GROUP)

@@ -16,13 +16,12 @@ from collections.abc import Callable, Iterator
 
 from register_files import Refused
 
+from .files import AS_IT_IS
 from .programs import call, tool
 from .registers import Register
 
 FOLDER = "requests"
 NUMBER = re.compile(rb"([1-9][0-9]{0,8})\n?")
-# how a file of somebody else is opened: waiting for nobody, and through no link
-AS_IT_IS = os.O_NOFOLLOW | os.O_NONBLOCK | os.O_CLOEXEC
 Result = dict[str, str]
 
 

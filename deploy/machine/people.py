@@ -7,28 +7,20 @@ import typing
 from office.web import people, store
 from register_files import Refused
 
-from . import files
+from . import files, office_store
 from .programs import OFFICE
 from .registers import Register
 
 NAME, ROLES, SCHOOL, is_role = people.NAME, people.ROLES, people.SCHOOL, people.is_role
+User = office_store.Person
 ROLES_TEXT = f"{', '.join(ROLES)}, or {SCHOOL}CODE"
-
-
-class User(typing.NamedTuple):
-    """A person or a program of an application."""
-
-    name: str
-    kind: str
-    role: str
-    is_locked: bool
 
 
 @contextlib.contextmanager
 def opened(register: Register) -> typing.Iterator[tuple[people.People, store.Store]]:
     """The people, as the user of the application, whose file it is."""
     with files.acting_as(OFFICE):
-        found = store.Store(str(register.office / "office.db"))
+        found = store.Store(str(office_store.path_of(register)))
         try:
             yield people.People(found), found
         finally:
@@ -37,12 +29,9 @@ def opened(register: Register) -> typing.Iterator[tuple[people.People, store.Sto
 
 def users_of(register: Register) -> dict[str, User]:
     """All of them by name, in their order; none where there is no application yet."""
-    if not (register.office / "office.db").exists():
+    if not office_store.path_of(register).exists():
         return {}
-    with opened(register) as (_, found):
-        rows = found.rows("SELECT name, kind, role, is_locked FROM person ORDER BY name")
-    return {it["name"]: User(it["name"], it["kind"], it["role"], bool(it["is_locked"]))
-            for it in rows}
+    return {it.name: it for it in office_store.people_of(register)}
 
 
 def teller() -> str:

@@ -6,12 +6,12 @@ newest of them as it arrived there.
 /etc/admissions/second-copy names the place in one line, as rsync names it: a
 folder of another disk, or of another machine by ssh; or it has the line
 `none`, by which an office has decided against a second place. The folder NAME
-is made in the place. Copies that are there stay as they are. A file of the log
-is replaced by a longer one; where the one there is longer, as another
-machine's may be, nothing of the log is copied, and the line says so. Then the
-newest copy and the archive of its settings are fetched back and compared with
-the first ones byte by byte, the copy is opened by the program, and rsync
-compares the log by checksums. The result is in
+is made in the place. Copies that are there stay as they are. A copy of the
+history is replaced by a longer one; where the one there is longer, as another
+machine's may be, nothing of the history is copied, and the line says so. Then
+the newest copy and the archive of its settings are fetched back and compared
+with the first ones byte by byte, the copy is opened by the program, and rsync
+compares the history by checksums. The result is in
 /var/backups/admissions/NAME/second-copy.report, which admissions-status reads.
 Where no place is named nothing is done.
 
@@ -31,7 +31,7 @@ import tempfile
 from register_files import Refused
 
 from . import copies, files
-from .log_copies import FOLDER as LOG
+from .history_copies import FOLDER as HISTORY
 from .programs import USER, call, tool
 from .registers import SETTINGS, Register, known, open_error
 
@@ -114,10 +114,10 @@ def copied(register: Register, place: str) -> str:
     there = f"{place}/{register.name}/"
     filters = [it for pattern in copies.PATTERNS for it in ("--include", pattern)]
     rsync("--ignore-existing", "--dirs", *filters, "--exclude", "*", f"{register.copies}/", there)
-    has_log = (register.copies / LOG).is_dir()
-    if has_log:
+    has_history = (register.copies / HISTORY).is_dir()
+    if has_history:
         see_none_longer(register, there)
-        rsync("--recursive", register.copies / LOG, there)
+        rsync("--recursive", register.copies / HISTORY, there)
     settings = copies.settings_of(made[-1])
     with tempfile.TemporaryDirectory() as room:
         for path in (made[-1], settings):
@@ -128,47 +128,48 @@ def copied(register: Register, place: str) -> str:
                 raise Refused(f"{there}{path.name} is not equal to {path}")
         if error := open_error(pathlib.Path(room, made[-1].name)):
             raise Refused(f"{there}{made[-1].name} does not open: {error}")
-    if has_log and (
+    if has_history and (
         differs := rsync(
             "--recursive",
             "--checksum",
             "--dry-run",
             "--out-format=%n",
-            register.copies / LOG,
+            register.copies / HISTORY,
             there,
         )
     ):
         raise Refused(
-            f"{there}{LOG} is not equal to {register.copies / LOG}: {' '.join(differs.split())}"
+            f"{there}{HISTORY} is not equal to {register.copies / HISTORY}:"
+            f" {' '.join(differs.split())}"
         )
     is_same = is_local(place) and os.stat(place).st_dev == os.stat(register.copies).st_dev
     return (
         f"{now()} {made[-1].name} is in {place}/{register.name}, equal to the first copy, and opens"
-        + ("" if settings.exists() else "; WARNING: without users and settings")
+        + ("" if settings.exists() else "; WARNING: without people and settings")
         + ("; WARNING: on the same disk as the first copies" if is_same else "")
     )
 
 
 def see_none_longer(register: Register, there: str) -> None:
-    """Refuses to replace a file of the log by a shorter one: the copies here are only ever made
+    """Refuses to replace a copy of the history by a shorter one: the copies here are only ever made
     longer, so that there is of another machine."""
     listed = rsync(
         "--list-only",
         "--recursive",
         "--no-human-readable",
         "--include",
-        f"/{LOG}",
+        f"/{HISTORY}",
         "--include",
-        f"/{LOG}/*",
+        f"/{HISTORY}/*",
         "--exclude",
         "*",
         there,
     )
-    for size, name in re.findall(rf"(?m)^-\S+ +(\d+) \S+ \S+ {LOG}/(.+)$", listed):
-        here = register.copies / LOG / name
+    for size, name in re.findall(rf"(?m)^-\S+ +(\d+) \S+ \S+ {HISTORY}/(.+)$", listed):
+        here = register.copies / HISTORY / name
         if here.exists() and here.stat().st_size < int(size):
             raise Refused(
-                f"{there}{LOG}/{name} is longer than {here}, and stays as it is."
+                f"{there}{HISTORY}/{name} is longer than {here}, and stays as it is."
                 " Does another machine copy to the same place?"
                 " Rename it there to keep it, and repeat this"
             )

@@ -1,22 +1,24 @@
-"""Prints the commands that were done over the site of a register since a
-moment, each on one line: to send them again after a restore.
+"""Prints the commands that were done since a moment, each on one line: to send
+them again after a restore.
 
   admissions-sent NAME TIME [--rows FOLDER]
+  admissions-sent --history FILE TIME [--rows FOLDER]
 
-They are in the order in which they were done, from
-/var/log/admissions/NAME/asked.log and its earlier files. TIME is a day or a
-moment of the local time of the log, such as 2025-03-03T02:30. A command is
-printed as it was sent, except that a line break between its fields is a space.
-Commands that were sent by `admissions do` are not in the log.
+They are those that the office's application of the register NAME has sent, in
+the order in which they were done, from its history,
+/var/lib/admissions-office/NAME/history.jsonl, also while it is in use. FILE is
+a copy of a history, compressed or not, such as one from the second place. TIME
+is a day or a moment of the local time, such as 2025-03-03T02:30; a command is
+printed if it was sent then or later. Commands that were sent by `admissions
+do` are not in the history.
 
-Three kinds of entries are not printed, but named on the standard error with
-file and line: one that cannot be read, as a crash or a full disk may leave it;
-a command or import that ended with a status of 500 or more, as where the
-connection to the desk broke; and an import that was done. Look there who sent
-it and what it was, and whether it is done. The rows of an import are no
-command: its line says after how many of the printed commands it was done, and
-with --rows they are written to the new FOLDER, each import to a CSV file of
-that number.
+Three things are not printed, but named on the standard error with file and
+line: a command or import of which no answer is known, with who sent it and
+when; an import that was done, with who sent it; and the first line of a
+history that was changed, after which nothing is read. What is before that line
+is printed. The rows of an import are no command: its line says after how many
+of the printed commands it was done, and with --rows they are written to the
+new FOLDER, each import to a CSV file of that number.
 
 example:
   admissions-sent secondary-2025 2025-03-03T02:30 > again.jsonl
@@ -25,32 +27,25 @@ exit status: 0 done; 1 not or not wholly done, and each line of the standard
 error says why; 2 wrong arguments.
 """
 import argparse
-import dataclasses
 import datetime
-import json
 import pathlib
 import sys
-from collections.abc import Iterator
 
 from register_files import Refused
 
-from . import logs
+from . import histories
 from .registers import named
 
-# How each entry begins. nginx escapes the quotation marks within its values, so these bytes are
-# nowhere else in a log, whatever was sent
-BEGIN = b'{"at":"'
-# The server has accepted the body as JSON, whose strings have no control character as it is (RFC
-# 8259, section 7). So each of these is between two tokens, where a space means the same; nothing
-# else is changed, and a key that is repeated stays in its place
-BETWEEN_TOKENS = str.maketrans("\n\r\t", "   ")
-LOOK = "look whether it is done"
+LOOK = "no answer is known: look whether it is done"
 
 
 def arguments(reader: argparse.ArgumentParser) -> None:
-    reader.add_argument("name", metavar="NAME", help="the name of the register")
+    reader.add_argument("name", nargs="?", metavar="NAME", help="the name of the register")
     reader.add_argument(
         "since", metavar="TIME", help="from when on, YYYY-MM-DD or YYYY-MM-DDTHH:MM"
+    )
+    reader.add_argument(
+        "--history", metavar="FILE", help="read this copy of a history, in place of that of NAME"
     )
     reader.add_argument(
         "--rows", metavar="FOLDER", help="write the rows of imports to this new folder"
@@ -58,108 +53,60 @@ def arguments(reader: argparse.ArgumentParser) -> None:
 
 
 def main(given: argparse.Namespace) -> int:
-    folder = named(given.name).logs
-    try:
-        since = datetime.datetime.fromisoformat(given.since).astimezone()
-    except ValueError as error:
-        raise Refused(f"{given.since!r} is no moment: YYYY-MM-DD or YYYY-MM-DDTHH:MM", 2) from error
-    files = logs.in_order(folder)
-    if not files:
-        raise Refused(f"{folder} has no asked.log")
+    since, found = moment(given.since), record(given)
     if given.rows:
         pathlib.Path(given.rows).mkdir()
-    doubtful: list[str] = []
     count = printed = 0
-    for path in files:
-        for place, entry in entries(path):
-            try:
-                found = read(entry)
-            except (ValueError, KeyError, TypeError, AttributeError):
-                doubtful.append(f"{place}: an entry cannot be read: {LOOK}")
-                continue
-            if found.moment < since:
-                # (and what was before it is older still)
-                doubtful.clear()
-                continue
-            if found.doubt:
-                doubtful.append(f"{place}: {found.doubt}")
-            if found.rows is not None:
-                written = kept(found.rows, given.rows, printed)
-                doubtful.append(
-                    f"{place}: an import was done after {printed} of the printed commands: "
-                    f"import its rows there{written}"
-                )
-            count += report(doubtful)
-            if found.command is not None:
-                sys.stdout.buffer.write(found.command + b"\n")
-                printed += 1
-    count += report(doubtful)
+    for number, it in found.requests.items():
+        if it.moment < since or it.is_done is False:
+            continue
+        where = f"{found.name}, line {number}: {it.in_words(it.command or 'an import')}"
+        if it.is_done is None:
+            count += report(f"{where}, and {LOOK}")
+        elif it.command is None:
+            written = kept(it.rows, given.rows, printed)
+            count += report(
+                f"{where}, which was done after {printed} of the printed commands: import its rows"
+                f" there{written}"
+            )
+        else:
+            sys.stdout.buffer.write(f"{it.command}\n".encode())
+            printed += 1
+    if found.problem:
+        count += report(found.problem)
     return 1 if count else 0
 
 
-def kept(rows: bytes, folder: str | None, printed: int) -> str:
+def moment(text: str) -> datetime.datetime:
+    """A moment of the local time."""
+    try:
+        return datetime.datetime.fromisoformat(text).astimezone()
+    except (ValueError, OverflowError) as error:
+        raise Refused(f"{text!r} is no moment: YYYY-MM-DD or YYYY-MM-DDTHH:MM", 2) from error
+
+
+def record(given: argparse.Namespace) -> histories.Record:
+    """The history that is to be read."""
+    if (given.name is None) == (given.history is None):
+        raise Refused("give either NAME and TIME, or --history FILE and TIME", 2)
+    if given.history is not None:
+        return histories.of_copy(pathlib.Path(given.history))
+    return histories.of_register(named(given.name))
+
+
+def kept(rows: str, folder: str | None, printed: int) -> str:
     """Writes the rows of an import, if a folder is named, and says where."""
     if not folder:
         return ""
     path, more = pathlib.Path(folder, f"{printed}.csv"), 1
     while path.exists():
         path, more = pathlib.Path(folder, f"{printed}-{more + 1}.csv"), more + 1
-    path.write_bytes(rows)
+    path.write_bytes(rows.encode())
     return f", from {path}"
 
 
-def report(doubtful: list[str]) -> int:
-    """Names the entries whose command may be done or not, and returns how many they are."""
+def report(text: str) -> int:
+    """Names what is not printed, in its place, and returns 1."""
     sys.stdout.flush()
-    for it in doubtful:
-        print(f"admissions-sent: {it}", file=sys.stderr)
-    count = len(doubtful)
-    doubtful.clear()
-    return count
-
-
-def entries(path: pathlib.Path) -> Iterator[tuple[str, bytes]]:
-    """The entries of a file, each with its place. One that was torn has no line end, and the next
-    one follows on its line.
-    """
-    at = 0
-    try:
-        with logs.opened(path) as file:
-            for at, line in enumerate(file, 1):
-                before, *rest = line.rstrip(b"\n").split(BEGIN)
-                for entry in [before] * bool(before) + [BEGIN + it for it in rest]:
-                    yield f"{path}, line {at}", entry
-    except logs.UNREADABLE:
-        # (what follows in a damaged file is one entry that cannot be read)
-        yield f"{path}, after line {at}", b""
-
-
-@dataclasses.dataclass
-class Entry:
-    """The moment of an entry; its command on one line, or the rows of its import, if it has one
-    that was done; and what to look at, if it has one that may be done or not.
-    """
-
-    moment: datetime.datetime
-    command: bytes | None = None
-    rows: bytes | None = None
-    doubt: str | None = None
-
-
-def read(entry: bytes) -> Entry:
-    """What an entry says."""
-    line: dict[str, str] = json.loads(entry.decode("utf-8", "surrogateescape"))
-    moment, status = datetime.datetime.fromisoformat(line["at"]).astimezone(), line["status"]
-    what = {"/command": "a command", "/import": "an import"}.get(line["target"])
-    if line["method"] != "POST" or what is None:
-        return Entry(moment)
-    if status != "200":
-        # (where the queue is full, nothing was passed on: the site answers for the desk)
-        is_busy = (status, line.get("desk")) == ("503", "502")
-        is_doubtful = status.startswith("5") and not is_busy
-        doubt = f"{what} ended with the status {status}: {LOOK}" if is_doubtful else None
-        return Entry(moment, doubt=doubt)
-    if line["target"] == "/import":
-        return Entry(moment, rows=line["body"].encode("utf-8", "surrogateescape"))
-    command = line["body"].translate(BETWEEN_TOKENS)
-    return Entry(moment, command=command.encode("utf-8", "surrogateescape"))
+    print(f"admissions-sent: {text}", file=sys.stderr)
+    return 1

@@ -1,38 +1,43 @@
-"""Copies what belongs to a register beside its file: users, settings and log.
+"""Copies what belongs to a register beside its file: people, settings, history.
 
   settings-copy NAME
 
 It is called as root after each nightly backup. Beside the newest nightly copy,
-as an archive (tar) of the same name, are roles, passwords and site-name of
-/etc/admissions/NAME, and /etc/admissions/authority and second-copy, with
-owners and modes. Nothing else is copied, and so no key. An archive that is
-there stays as it is, as the copy does. The files of the log are in the folder
-`log` beside the copies, each under a number, compressed: a file that was
-copied is only ever made longer, so the copy outlives a log that was emptied,
-cut or removed. One that cannot be read is named, and the others are copied.
-All copies are of the user admissions alone. The result is in
+as an archive (tar) of the same name, are site-name of /etc/admissions/NAME,
+authority and second-copy of /etc/admissions, and office.db of the office's
+application: its people with their roles and hashed passwords, and what it
+keeps beside the register, but nobody who is signed in. Nothing else is copied,
+and so no key. An archive that is there stays as it is, as the copy does. The
+history, who did what, is in the folder `history` beside the copies,
+compressed. What was copied is only ever made longer: a history that was cut or
+begins otherwise is copied beside it. One in which a line was changed is copied
+too, and named with the line. What cannot be read is named, and all else is
+copied. All copies are of the user admissions alone. The result is in
 settings-copy.report beside them, which admissions-status reads.
 
 example:
   settings-copy secondary-2025
 
-exit status: 0 copied; 1 not, and the line says why; 2 wrong arguments.
+exit status: 0 copied; 1 not or not wholly copied, or the history was changed,
+and the line says so; 2 wrong arguments.
 """
 import argparse
 import io
 import pathlib
 import tarfile
+import time
 import typing
 
-from register_files import Refused
+from register_files import OWNER_ALONE, Refused
 
-from . import copies, files, log_copies, people
+from . import copies, files, history_copies, office_store
+from .programs import OFFICE
 from .registers import SETTINGS, Register, known
 from .second_copy import now, write_report
 
 # What is copied, of a register and of all: a key under whatever name is not, since whoever has the
 # second place shall not have it
-OWN, SHARED = ("passwords", "roles", "site-name"), ("authority", "second-copy")
+OWN, SHARED = (office_store.NAME, "site-name"), ("authority", "second-copy")
 REPORT = "settings-copy.report"
 
 
@@ -47,13 +52,17 @@ def main(given: argparse.Namespace) -> int:
         raise Refused(
             f"{register.name} has no nightly copy yet, beside which its settings would be"
         )
-    target = copies.settings_of(made[-1])
+    target, problems = copies.settings_of(made[-1]), list[str]()
     # (as of that night: the second place keeps what it has, and must have the same)
     if not target.exists():
-        files.write_as_desk(target, archive_of(register))
-    problems = log_copies.copy(register)
-    count = len(log_copies.made(register.copies / log_copies.FOLDER))
-    text = f"{now()} {target.name} has users and settings; the log has {count} files"
+        try:
+            files.write_as_desk(target, archive_of(register))
+        except Refused as error:
+            problems.append(f"{target.name} was not made: {error}")
+    problems += history_copies.copy(register)
+    count = len(history_copies.made(register.copies / history_copies.FOLDER))
+    has = f"{target.name} has" if target.exists() else "there is no archive of"
+    text = f"{now()} {has} people and settings; copies of the history: {count}"
     write_report(register, REPORT, f"{text}{''.join(f'; WARNING: {it}' for it in problems)}\n")
     print(text)
     if problems:
@@ -62,17 +71,22 @@ def main(given: argparse.Namespace) -> int:
 
 
 def archive_of(register: Register) -> bytes:
-    """The settings of a register, and those of all registers, as an archive."""
+    """The people and settings of a register, and the settings of all registers, as an archive."""
     out = io.BytesIO()
     with tarfile.open(fileobj=out, mode="w") as archive:
-        for path in (*(register.settings / it for it in OWN), *(SETTINGS / it for it in SHARED)):
+        data = office_store.copy_of(register)
+        member = tarfile.TarInfo(office_store.NAME)
+        member.size, member.mode, member.mtime = len(data), OWNER_ALONE, int(time.time())
+        member.uname = member.gname = OFFICE
+        archive.addfile(member, io.BytesIO(data))
+        for path in (register.settings / "site-name", *(SETTINGS / it for it in SHARED)):
             if path.is_file():
                 archive.add(path, path.name, recursive=False)
     return out.getvalue()
 
 
-def members_of(copy: pathlib.Path) -> dict[str, str]:
-    """The files of the archive beside a copy that are copied, each with its text."""
+def members_of(copy: pathlib.Path) -> dict[str, bytes]:
+    """The files of the archive beside a copy that are copied, each with what it has."""
     out = {}
     path = copies.settings_of(copy)
     try:
@@ -80,7 +94,9 @@ def members_of(copy: pathlib.Path) -> dict[str, str]:
             for it in archive:
                 file = archive.extractfile(it) if it.isreg() and it.name in OWN + SHARED else None
                 if file:
-                    out[it.name] = file.read().decode("utf-8")
+                    out[it.name] = file.read()
+        for name in out.keys() - {office_store.NAME}:
+            out[name].decode("utf-8")
     except FileNotFoundError:
         return {}
     except (tarfile.TarError, UnicodeDecodeError) as error:
@@ -88,39 +104,40 @@ def members_of(copy: pathlib.Path) -> dict[str, str]:
     return out
 
 
+def people_beside(copy: pathlib.Path) -> list[office_store.Person]:
+    """The people of the archive beside a copy."""
+    path, data = copies.settings_of(copy), members_of(copy).get(office_store.NAME)
+    return office_store.people_in(data, f"{office_store.NAME} of {path}") if data else []
+
+
 def names_of(copy: str) -> dict[str, str]:
-    """What the archive beside a copy has: the text of each file, without blanks around it."""
-    return {name: text.strip() for name, text in members_of(pathlib.Path(copy)).items()}
-
-
-def has_people(copy: str) -> bool:
-    """Whether the archive beside a copy has the people of an application."""
-    try:
-        with tarfile.open(copies.settings_of(pathlib.Path(copy))) as archive:
-            return "office.db" in archive.getnames()
-    except FileNotFoundError:
-        return False
-    except tarfile.TarError as error:
-        raise Refused(f"the archive beside {copy} cannot be read: {error}") from error
+    """What the archive beside a copy has of settings: the text of each file, without blanks around
+    it."""
+    found = members_of(pathlib.Path(copy))
+    found.pop(office_store.NAME, None)
+    return {name: data.decode("utf-8").strip() for name, data in found.items()}
 
 
 def restored(register: Register, copy: pathlib.Path) -> typing.Iterator[str]:
-    """Brings back the settings and the log that are beside a copy, where this machine has none of
-    them. Returns a line for each. The site's name is set up as if it were given, and owners and
-    modes are those that this program gives: whoever has the second place could write others.
+    """Brings back the people, settings and history that are beside a copy, where this machine has
+    none of them. Returns a line for each. The site's name is set up as if it were given, and owners
+    and modes are those that this program gives: whoever has the second place could write others.
     """
-    found = members_of(copy)
+    found, archive = members_of(copy), copies.settings_of(copy)
     if not found:
-        lost = "users and settings are not brought back"
+        lost = "people and settings are not brought back"
         yield f"there is no archive of settings beside {copy}: {lost}"
-    found.pop("site-name", None)
-    for name, text in found.items():
-        path = (SETTINGS if name in SHARED else register.settings) / name
-        if has_content(path):
+    elif office_store.NAME not in found:
+        yield f"{archive} has no {office_store.NAME}: nobody of before may sign in"
+    for name in SHARED:
+        path = SETTINGS / name
+        if name in found and has_content(path):
             yield f"{path} is there already, and stays as it is"
-        elif files.write(path, text, 0o644) if name in SHARED else people.write(path, text):
+        elif name in found and files.write(path, found[name], 0o644):
             yield f"took {path} from the archive"
-    yield from log_copies.restored(register, copy.parent / log_copies.FOLDER)
+    if data := found.get(office_store.NAME):
+        yield from office_store.restored(register, data, f"{office_store.NAME} of {archive}")
+    yield from history_copies.restored(register, copy.parent / history_copies.FOLDER)
 
 
 def has_content(path: pathlib.Path) -> bool:

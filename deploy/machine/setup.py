@@ -230,7 +230,7 @@ def completed(given: argparse.Namespace) -> Register:
         or ask("--site, the name by which browsers find it", answers.host)
     )
     users = people.users_of(register)
-    if given.copy and not users and settings_copy.has_people(given.copy):
+    if given.copy and not users and settings_copy.people_beside(pathlib.Path(given.copy)):
         if given.user:
             raise Refused("--user and --copy: people come with this copy, and more are added"
                           " once it is there", 2)

@@ -1,12 +1,12 @@
 """Reports how the registers of this machine are: file, desk, site, units,
-users, log, copies, disks, certificates.
+people, history, copies, disks, certificates.
 
   admissions-status [NAME ..] [--line]
 
 Without a NAME it reports all registers. With --line it prints one line, for a
-monitoring system. No register is opened. The site is sent two requests without
-a password, which it must refuse: one of nobody, and one of the user
-admissions-status, which it must write to its log.
+monitoring system. No register is opened. The site is sent a request of nobody,
+which it must refuse. The people and the history are those of the office's
+application, whose files are only read.
 
 example:
   admissions-status --line
@@ -15,9 +15,9 @@ exit status: 0 all is well; 1 something needs attention; 2 wrong arguments, or
 no such register.
 """
 import argparse
+import collections
 import datetime
 import http.client
-import json
 import os
 import shutil
 import ssl
@@ -26,23 +26,19 @@ import time
 
 from register_files import Refused
 
-from . import certificates, copies, people
+from . import certificates, copies, files, histories, office_store
 from .desk import site_status_of, status_of
 from .drill import REPORT as DRILL
 from .registers import REGISTERS, SETTINGS, Register, all_registers, known, stored
-from .programs import call, is_booted, tool
+from .programs import OFFICE, call, is_booted, tool
 from .second_copy import NONE, REPORT as SECOND, line_of, place_of
 from .settings_copy import REPORT as BESIDE
 
 # from when on something needs attention
 COPY_HOURS, DRILL_DAYS, CERTIFICATE_DAYS = 26, 35, 21
 LEAST_ROOM, ROOM_FACTOR = 200_000_000, 10
-# the end of a log that is looked at: a command has a body of 1 MiB at most, which may be longer as
-# it is written there
-END_OF_LOG = 8 << 20
-LOG_SECONDS = 5.0
-# who asks without a password: the site writes a line of a refused request only if it has a name
-ASKING = "admissions-status"
+# for so long the answer to a request may be unknown
+OPEN_SECONDS = 3600
 State = tuple[bool, str]
 
 
@@ -81,8 +77,8 @@ def report(register: Register) -> dict[str, State]:
         "desk": desk_of,
         "site": site_of,
         "units": units_of,
-        "users": users_of,
-        "log": log_of,
+        "people": people_of,
+        "history": history_of,
         "copy": copy_of,
         "second copy": second_of,
         "drill": drill_of,
@@ -123,8 +119,8 @@ def desk_of(register: Register) -> State:
 
 
 def site_of(register: Register) -> State:
-    """Whether nginx answers for the site, as it does to a request without a password, and with the
-    certificate that is in its file."""
+    """Whether the application asks who signs in, by nginx, and with the certificate that is in its
+    file."""
     if register.host is None:
         return True, "it has none"
     before = time.monotonic()
@@ -133,13 +129,17 @@ def site_of(register: Register) -> State:
     except (OSError, http.client.HTTPException) as error:
         said = f"does not answer on this machine ({error}): systemctl status nginx"
         return False, f"https://{register.host}/ {said}"
+    if status == 502:
+        unit = f"admissions-office@{register.name}"
+        said = f"answers 502, as its application does not run: systemctl status {unit}"
+        return False, f"https://{register.host}/ {said}"
     if status != 401:
         said = f"answers {status}, and not 401, to who has not signed in"
         return False, f"https://{register.host}/ {said}"
     if shown != first_certificate(register):
         said = "nginx shows another certificate than that of its file: systemctl reload nginx"
         return False, said
-    return True, f"nginx asks for a password in {1000 * (time.monotonic() - before):.0f} ms"
+    return True, f"asks who signs in, in {1000 * (time.monotonic() - before):.0f} ms"
 
 
 def first_certificate(register: Register) -> bytes:
@@ -158,20 +158,29 @@ def units_of(register: Register) -> State:
         return False, "systemd does not run here"
     backup, drill = (f"admissions-{it}@{register.name}.timer" for it in ("backup", "drill"))
     desk, bad = f"admissions@{register.name}.service", []
-    for unit in (desk, backup, drill, *(["nginx.service"] if register.host else [])):
+    enabled = (desk, backup, drill, *(["nginx.service"] if register.host else []))
+    for unit in (*enabled, *(office_units(register) if register.host else [])):
         found = shown_of(unit, "ActiveState", "UnitFileState")
         if found["ActiveState"] != "active":
             bad.append(f"{unit} is {found['ActiveState']}: systemctl start {unit}")
-        if found["UnitFileState"] != "enabled":
+        if unit in enabled and found["UnitFileState"] != "enabled":
             state = found["UnitFileState"] or "not there"
             bad.append(f"{unit} is {state}: systemctl enable {unit}")
-    for name in ("backup", "second-copy", "drill"):
+    for name in ("backup", "second-copy", "drill", "office-copy", "office-restore"):
         unit = f"admissions-{name}@{register.name}.service"
         if shown_of(unit, "ActiveState")["ActiveState"] == "failed":
             bad.append(f"{unit} has failed: journalctl -u {unit}")
     if bad:
         return False, "; ".join(bad)
     return True, f"enabled and active; next backup {next_of(backup)}, next drill {next_of(drill)}"
+
+
+def office_units(register: Register) -> list[str]:
+    """The units of the application: its socket, itself, and what waits for its requests for a copy
+    or a restore."""
+    name = register.name
+    application = [f"admissions-office@{name}.{it}" for it in ("socket", "service")]
+    return application + [f"admissions-office-{it}@{name}.path" for it in ("copy", "restore")]
 
 
 def shown_of(unit: str, *names: str) -> dict[str, str]:
@@ -186,60 +195,54 @@ def next_of(timer: str) -> str:
     return shown_of(timer, "NextElapseUSecRealtime")["NextElapseUSecRealtime"] or "never"
 
 
-def users_of(register: Register) -> State:
-    problems = people.problems_of(register)
-    roles = [it.role for it in people.users_of(register) if it.has_password]
-    if register.host and "office" not in roles:
-        problems.append("nobody with the role office can sign in")
-    well = f"{len(roles)}, of whom {roles.count('office')} have the role office"
-    return not problems, "; ".join(problems) or well
+def people_of(register: Register) -> State:
+    """Whether somebody can sign in to the application, and among them a head of the office."""
+    # (with argon2, which nothing else here needs)
+    from office.web.people import HEAD, PERSON
 
-
-def log_of(register: Register) -> State:
-    """Whether the log of the site is one that root alone writes, ends in a whole line, and has a
-    line more after a request."""
     if register.host is None:
         return True, "it has no site"
-    path = register.logs / "asked.log"
-    if not path.exists():
-        lost = "so nobody records who does what: systemctl reload nginx"
-        return False, f"{path} is not there, {lost}"
+    found = office_store.people_of(register)
+    let_in = [it for it in found if not it.is_locked]
+    roles = collections.Counter(it.role for it in let_in if it.kind == PERSON)
+    programs, locked = len(let_in) - roles.total(), len(found) - len(let_in)
+    by_role = ", ".join(f"{role} {count}" for role, count in sorted(roles.items()))
+    said = [f"{roles.total()} may sign in ({by_role})" if roles else "nobody can sign in"]
+    said += [f"nobody with the role {HEAD} can"] if roles and HEAD not in roles else []
+    said += [f"{programs} with a token"] if programs else []
+    said += [f"{locked} locked"] if locked else []
+    return HEAD in roles, "; ".join(said)
+
+
+def history_of(register: Register) -> State:
+    """Whether the history of the application is one that its user alone reads, has no line that was
+    changed, and no request of which nobody knows what became."""
+    if register.host is None:
+        return True, "it has no site"
+    path = register.history
+    if not os.path.lexists(path):
+        how = f"systemctl status admissions-office@{register.name}"
+        return False, f"{path} is not there, so nobody records who does what: {how}"
     found = path.lstat()
-    if not stat.S_ISREG(found.st_mode) or found.st_uid != 0 or found.st_mode & 0o027:
-        how = f"chown root {path} && chmod 600 {path}"
-        return False, f"{path} must be a file that root alone writes and others do not read: {how}"
-    with open(path, "rb") as file:
-        file.seek(max(0, found.st_size - END_OF_LOG))
-        last = file.read().rpartition(b"\n")
-    if last[2] or not is_whole(last[0].rpartition(b"\n")[2]):
-        lost = "a command may be done without a record"
-        return False, f"the last line of {path} is not whole: {lost}"
-    if not grows(register, found.st_size):
-        why = "is its disk full, and does nginx write to this file? systemctl reload nginx"
-        return False, f"a request was not written to {path}: {why}"
-    return True, f"{found.st_size:,} bytes, and written"
+    is_private = found.st_uid == files.numbers(OFFICE, OFFICE)[0] and not found.st_mode & 0o077
+    if not stat.S_ISREG(found.st_mode) or not is_private:
+        how = f"chown {OFFICE}: {path} && chmod 600 {path}"
+        return False, f"{path} must be a file that {OFFICE} alone reads and writes: {how}"
+    record = histories.of_register(register)
+    if record.problem:
+        return False, record.problem
+    if late := next(filter(is_late, record.open_requests()), None):
+        # (and not what it is: a child's data is nothing for a monitoring system)
+        return False, f"line {late.entry.number}: {late.in_words('a request')}; no answer is known"
+    if not record.entries:
+        return True, "no entries yet"
+    last = datetime.datetime.fromisoformat(record.entries[-1].at).astimezone()
+    return True, f"{len(record.entries):,} entries, the last of {last:%Y-%m-%d %H:%M}"
 
 
-def is_whole(line: bytes) -> bool:
-    """Whether a line of the log is whole. A log that was just begun has none."""
-    try:
-        return not line or isinstance(json.loads(line.decode("utf-8", "replace")), dict)
-    except ValueError:
-        return False
-
-
-def grows(register: Register, before: int) -> bool:
-    """Whether the log is longer soon after a request than it was."""
-    try:
-        site_status_of(register.host or "", ASKING)
-    except (OSError, http.client.HTTPException):
-        return False
-    end = time.monotonic() + LOG_SECONDS
-    while (register.logs / "asked.log").stat().st_size == before:
-        if time.monotonic() > end:
-            return False
-        time.sleep(0.02)
-    return True
+def is_late(request: histories.Request) -> bool:
+    """Whether a request without a known answer is older than one in flight can be."""
+    return time.time() - request.moment.timestamp() > OPEN_SECONDS
 
 
 def age_text(seconds: float) -> str:
@@ -273,13 +276,13 @@ def copy_of(register: Register) -> State:
     archive = copies.settings_of(made[-1])
     if not archive.exists():
         how = f"journalctl -u admissions-second-copy@{register.name}"
-        return False, f"{text}; without users and settings: {how}"
+        return False, f"{text}; without people and settings: {how}"
     beside = report_of(register, BESIDE)
     if beside and "WARNING" in beside[0]:
         return False, f"{text}; {beside[0]}"
     if beside and beside[1] > time.time() - archive.stat().st_mtime:
         how = f"journalctl -u admissions-second-copy@{register.name}"
-        return False, f"{text}; without the whole log: {how}"
+        return False, f"{text}; without the whole history: {how}"
     return is_recent(old, COPY_HOURS * 3600), text
 
 
@@ -323,10 +326,10 @@ def is_young(register: Register) -> bool:
 
 
 def room_of(register: Register) -> State:
-    """The room on the disks of the register, its copies and its log: ten times the register, and
-    200 MB at least."""
+    """The room on the disks of the register, its copies, its application and its log: ten times the
+    register, and 200 MB at least."""
     needed = max(LEAST_ROOM, ROOM_FACTOR * register.file.stat().st_size)
-    folders = (register.folder, register.copies, register.logs)
+    folders = (register.folder, register.copies, register.office, register.logs)
     rooms = [(shutil.disk_usage(path).free, path) for path in folders if path.is_dir()]
     free, path = min(rooms)
     text = f"{free / 1e9:.1f} GB free at {path}, of {needed / 1e9:.1f} GB that are needed"

@@ -22,7 +22,7 @@ FOLDERS = {"REGISTERS": "lib", "COPIES": "backups", "SETTINGS": "etc", "LOGS": "
 
 @pytest.fixture(name="machine")
 def machine_fixture(tmp_path: pathlib.Path, monkeypatch: pytest.MonkeyPatch) -> pathlib.Path:
-    """A folder whose folders are those of the machine: lib, backups, etc, log."""
+    """A folder whose folders are those of the machine: lib, backups, etc, log, office."""
     for constant, name in FOLDERS.items():
         (tmp_path / name).mkdir()
         for module in WITH_FOLDERS:
@@ -60,8 +60,9 @@ def register_fixture(
 ) -> registers.Register:
     """A register with its folders, and a stand-in for the program that shows it."""
     register = registers.Register("secondary-2025")
-    for path in (register.folder, register.copies, register.settings, register.logs,
-                 register.office):
+    for path in (
+        register.folder, register.copies, register.settings, register.logs, register.office
+    ):
         path.mkdir()
     register.file.write_text(document(), encoding="utf-8")
     program = machine / "admissions"

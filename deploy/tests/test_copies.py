@@ -1,11 +1,14 @@
 """The nightly copies: their order, which are removed, what is beside them, and what status says of
 their times."""
+import contextlib
 import datetime
 import gzip
 import io
 import os
 import pathlib
+import re
 import shutil
+import sqlite3
 import tarfile
 import time
 import typing
@@ -14,10 +17,11 @@ import pytest
 from machine import (
     certificates,
     copies,
+    drill,
     files,
-    log_copies,
-    logs,
+    history_copies,
     nightly,
+    office_store,
     registers,
     second_copy,
     settings_copy,
@@ -25,6 +29,9 @@ from machine import (
     sites,
     status,
 )
+from office.web import people
+from office.web.store import Store
+from office_files import add_people, children_of, history, record
 from register_files import Refused
 from setup_arguments import given_to_setup
 
@@ -154,7 +161,7 @@ def test_a_name_of_a_day_that_is_none(register: registers.Register) -> None:
 def test_a_copy_without_settings_is_reported(register: registers.Register) -> None:
     copy(register, "nightly-000001-2025-03-01T023000.db", with_settings=False)
     is_well, text = status.copy_of(register)
-    assert (is_well, "without users and settings" in text) == (False, True)
+    assert (is_well, "without people and settings" in text) == (False, True)
 
 
 @pytest.mark.parametrize(
@@ -187,29 +194,44 @@ def copy_settings(register: registers.Register) -> int:
     return settings_copy.main(type("Given", (), {"name": register.name}))  # type: ignore[arg-type]
 
 
+@pytest.fixture(name="office")
+def office_fixture(register: registers.Register, write_as_me: None) -> registers.Register:
+    """A register whose application has two people and a program, and a history of two commands."""
+    add_people(register, ("jane", "head"), ("alpha", "school-A"))
+    add_people(register, ("page", "reader"), kind="program")
+    record(register, 1, 2)
+    return register
+
+
 @pytest.fixture(name="copied")
-def copied_fixture(
-    register: registers.Register, machine: pathlib.Path, write_as_me: None
-) -> pathlib.Path:
-    """A copy, with settings, a key and a log of which settings-copy has copied what it copies."""
+def copied_fixture(office: registers.Register, machine: pathlib.Path) -> pathlib.Path:
+    """A copy, with settings and a key, of which settings-copy has copied what it copies."""
     for name in ("site.key", "site.key.old", "notes"):
-        (register.settings / name).write_text("a key")
-    (register.settings / "site.crt").write_text("a certificate")
-    (register.settings / "passwords").chmod(0o640)
+        (office.settings / name).write_text("a key")
+    (office.settings / "site.crt").write_text("a certificate")
     (machine / "etc/authority").write_text("Example County Council\n")
     (machine / "etc/second-copy").write_text("# where\n/mnt/copies\n")
-    with gzip.open(register.logs / "asked.log.2.gz", "wt") as file:
-        file.write('{"n":1}\n{"n":2}\n')
-    (register.logs / "asked.log.1").write_text('{"n":3}\n')
-    (register.logs / "asked.log").write_text('{"n":4}\n{"n":5}\n{"torn')
-    path = copy(register, "nightly-000001-2025-03-01T023000.db", with_settings=False)
-    assert copy_settings(register) == 0
+    path = copy(office, "nightly-000001-2025-03-01T023000.db", with_settings=False)
+    assert copy_settings(office) == 0
     return path
 
 
-def lines_of(folder: pathlib.Path) -> list[str]:
-    """What the copies of a log have, in their order."""
-    return [gzip.decompress(it).decode() for it in log_copies.contents_of(folder)[0]]
+def made_of(copied: pathlib.Path) -> list[bytes]:
+    """What the copies of the history beside a copy have, in their order."""
+    found = history_copies.made(copied.parent / "history")
+    return [gzip.decompress(it.read_bytes()) for it in found]
+
+
+def rows_of(file: pathlib.Path, query: str) -> list[tuple[object, ...]]:
+    with contextlib.closing(sqlite3.connect(f"file:{file}?mode=ro", uri=True)) as db:
+        return db.execute(query).fetchall()
+
+
+def people_beside(copied: pathlib.Path, folder: pathlib.Path) -> pathlib.Path:
+    """The file of the application in the archive beside a copy, unpacked into a folder."""
+    with tarfile.open(copied.with_suffix(".tar")) as archive:
+        archive.extract("office.db", folder)
+    return folder / "office.db"
 
 
 def test_the_archive_of_a_night_stays_as_it_is(
@@ -217,79 +239,159 @@ def test_the_archive_of_a_night_stays_as_it_is(
 ) -> None:
     path = copies.settings_of(register.nightly_copies()[-1])
     before = path.read_bytes()
-    (register.settings / "roles").write_text("ben office;\n")
+    add_people(register, ("ben", "officer"))
     copy_settings(register)
     assert path.read_bytes() == before
 
 
-def test_the_archive_has_users_and_settings_and_no_key(copied: pathlib.Path) -> None:
+def test_the_archive_has_people_and_settings_and_no_key(copied: pathlib.Path) -> None:
     with tarfile.open(copied.with_suffix(".tar")) as archive:
-        assert sorted(archive.getnames()) == [
-            "authority",
-            "passwords",
-            "roles",
-            "second-copy",
-            "site-name",
-        ]
-        assert archive.getmember("passwords").mode == 0o640
+        assert sorted(archive.getnames()) == ["authority", "office.db", "second-copy", "site-name"]
+        member = archive.getmember("office.db")
+        assert (member.mode, member.uname, member.gname) == (
+            0o600, "admissions-office", "admissions-office")
     assert copied.with_suffix(".tar").stat().st_mode & 0o777 == 0o600
 
 
-def test_the_log_is_copied_in_its_order_without_a_torn_line(copied: pathlib.Path) -> None:
-    assert lines_of(copied.parent / "log") == [
-        '{"n":1}\n{"n":2}\n',
-        '{"n":3}\n',
-        '{"n":4}\n{"n":5}\n',
-    ]
-
-
-def test_a_log_that_was_rotated_and_goes_on_is_copied_once(
-    copied: pathlib.Path, register: registers.Register
+def test_the_people_are_copied_with_roles_and_hashes(
+    copied: pathlib.Path, register: registers.Register, tmp_path: pathlib.Path
 ) -> None:
-    (register.logs / "asked.log").write_text('{"n":4}\n{"n":5}\n{"n":6}\n')
-    (register.logs / "asked.log").rename(register.logs / "asked.log.1")
-    (register.logs / "asked.log").write_text('{"n":7}\n')
-    log_copies.copy(register)
-    assert lines_of(copied.parent / "log") == [
-        '{"n":1}\n{"n":2}\n',
-        '{"n":3}\n',
-        '{"n":4}\n{"n":5}\n{"n":6}\n',
-        '{"n":7}\n',
-    ]
+    """And all else that the application has stored."""
+    found, file = people_beside(copied, tmp_path), office_store.path_of(register)
+    every = "SELECT name, kind, role, hash, is_locked, must_change, added FROM person ORDER BY name"
+    assert [it[:3] for it in rows_of(found, every)] == [
+        ("alpha", "person", "school-A"), ("jane", "person", "head"), ("page", "program", "reader")]
+    assert rows_of(found, every) == rows_of(file, every)
+    tables = "SELECT name, sql FROM sqlite_master ORDER BY name"
+    assert rows_of(found, tables) == rows_of(file, tables)
+    assert rows_of(found, "PRAGMA user_version") == rows_of(file, "PRAGMA user_version")
+    assert drill.settings_text(copied) == "settings with 3 people and programs"
+
+
+def test_a_copy_signs_nobody_in(
+    office: registers.Register, tmp_path: pathlib.Path
+) -> None:
+    """Who is signed in when it is made stays so, and neither the copy nor what a row that was
+    deleted leaves in a file has the secret's digest. A change that is not stored yet is not in it.
+    """
+    path = copy(office, "nightly-000001-2025-03-01T023000.db", with_settings=False)
+    with contextlib.closing(Store(str(office_store.path_of(office)))) as store:
+        signed_in = people.People(store)
+        secret = signed_in.begin("jane")
+        with store.writing() as db:
+            db.execute("UPDATE person SET role='reader' WHERE name='alpha'")
+            assert copy_settings(office) == 0
+        assert signed_in.of_session(secret) is not None
+        digest = people.digest(secret)
+        assert digest.encode() in office_store.path_of(office).with_suffix(".db-wal").read_bytes()
+    archive = path.with_suffix(".tar").read_bytes()
+    assert (digest.encode() in archive, secret.encode() in archive) == (False, False)
+    with contextlib.closing(Store(str(people_beside(path, tmp_path)))) as store:
+        assert people.People(store).of_session(secret) is None
+        assert store.rows("SELECT * FROM session") == []
+        roles = {it["name"]: it["role"] for it in store.rows("SELECT * FROM person")}
+    assert roles == {"alpha": "school-A", "jane": "head", "page": "reader"}
 
 
 @pytest.mark.parametrize(
-    "text, more",
+    "content, said",
     [
-        ("", []),
-        ('{"n":4}\n', []),
-        ('{"n":4}\n{"n":8}\n', ['{"n":8}\n']),
-        ('{"n":9}\n', ['{"n":9}\n']),
+        (None, "is not there"),
+        (b"no database of anybody", "cannot be read: file is not a database"),
+        (b"", "cannot be read: no such table: session"),
     ],
 )
-def test_of_a_log_that_was_emptied_cut_or_changed_all_lines_come_back_once(
-    text: str, more: list[str], copied: pathlib.Path, register: registers.Register
+def test_people_that_cannot_be_copied_are_named_and_the_history_is_copied(
+    content: bytes | None, said: str, office: registers.Register
 ) -> None:
-    (register.logs / "asked.log").write_text(text)
+    """There is an archive once they can be copied, and none without them before."""
+    path = copy(office, "nightly-000001-2025-03-01T023000.db", with_settings=False)
+    file = office_store.path_of(office)
+    file.rename(file.with_name("aside"))
+    if content is not None:
+        file.write_bytes(content)
+    with pytest.raises(
+        Refused, match=f"^{path.stem}.tar was not made: {re.escape(str(file))} {said}$"
+    ):
+        copy_settings(office)
+    assert (path.with_suffix(".tar").exists(), len(made_of(path))) == (False, 1)
+    is_well, text = status.copy_of(office)
+    assert (is_well, "without people and settings" in text) == (False, True)
+    file.with_name("aside").rename(file)
+    assert (copy_settings(office), path.with_suffix(".tar").exists()) == (0, True)
+    assert status.copy_of(office)[0] is True
+
+
+def test_the_history_is_copied_without_a_torn_line(
+    copied: pathlib.Path, register: registers.Register
+) -> None:
+    whole = register.history.read_bytes()
+    with open(register.history, "ab") as file:
+        file.write(b'{"about":{"com')
+    assert copy_settings(register) == 0
+    assert made_of(copied) == [whole]
+    assert children_of(whole) == [1, 2]
+    modes = {it.stat().st_mode & 0o777 for it in (copied.parent / "history").iterdir()}
+    assert (modes, (copied.parent / "history").stat().st_mode & 0o777) == ({0o600}, 0o700)
+
+
+def test_a_history_that_goes_on_makes_its_copy_longer(
+    copied: pathlib.Path, register: registers.Register
+) -> None:
+    """Also while the application has it open."""
+    before = history_copies.made(copied.parent / "history")
+    record(register, 3)
+    with history(register):
+        assert copy_settings(register) == 0
+    assert history_copies.made(copied.parent / "history") == before
+    assert [children_of(it) for it in made_of(copied)] == [[1, 2, 3]]
+
+
+@pytest.mark.parametrize(
+    "cut, more, children",
+    [
+        (0, [], [[1, 2]]),
+        (2, [], [[1, 2]]),
+        (3, [], [[1, 2]]),
+        (2, [8], [[1, 2], [1, 8]]),
+        (0, [9], [[1, 2], [9]]),
+    ],
+)
+def test_a_history_that_was_emptied_cut_or_begun_anew_leaves_the_copy(
+    cut: int,
+    more: list[int],
+    children: list[list[int]],
+    copied: pathlib.Path,
+    register: registers.Register,
+) -> None:
+    """`cut` is how many of its four lines are left. What goes on otherwise is copied beside it."""
+    lines = register.history.read_bytes().splitlines(keepends=True)
+    register.history.write_bytes(b"".join(lines[:cut]))
     for _ in range(2):
-        assert log_copies.copy(register) == []
-    assert len(log_copies.made(copied.parent / "log")) == 3 + len(more)
-    assert lines_of(copied.parent / "log") == [
-        '{"n":1}\n{"n":2}\n',
-        '{"n":3}\n',
-        '{"n":4}\n{"n":5}\n',
-        *more,
-    ]
+        record(register, *more)
+        assert copy_settings(register) == 0
+        more = []
+    assert [children_of(it) for it in made_of(copied)] == children
 
 
-def test_a_shorter_copy_of_an_earlier_release_adds_nothing(copied: pathlib.Path) -> None:
-    longer = copied.parent / "log/asked-000003-{}.gz".format(
-        log_copies.place(log_copies.made(copied.parent / "log")[2])[1]
-    )
-    longer.with_name(longer.name.replace("000003", "000009")).write_bytes(
-        gzip.compress(b'{"n":4}\n')
-    )
-    assert lines_of(copied.parent / "log")[2:] == ['{"n":4}\n{"n":5}\n']
+@pytest.mark.parametrize("line", [1, 3])
+def test_a_history_that_was_changed_is_copied_beside_it_and_named(
+    line: int, copied: pathlib.Path, register: registers.Register
+) -> None:
+    """The line behind the one that was changed has another digest of it."""
+    before = register.history.read_bytes()
+    lines = before.splitlines(keepends=True)
+    lines[line - 1] = lines[line - 1].replace(b'"school":"A"', b'"school":"B"')
+    register.history.write_bytes(b"".join(lines))
+    said = f"^{register.history}, line {line + 1}: the history was changed there or in the line bef"
+    for _ in range(2):
+        with pytest.raises(Refused, match=said):
+            copy_settings(register)
+    assert made_of(copied) == [before, b"".join(lines)]
+    is_well, text = status.copy_of(register)
+    assert (is_well, f"line {line + 1}: the history was changed" in text) == (False, True)
+    register.history.write_bytes(before)
+    assert (copy_settings(register), status.copy_of(register)[0]) == (0, True)
 
 
 Damage = typing.Callable[[bytes], bytes]
@@ -302,65 +404,55 @@ DAMAGED: list[Damage] = [
 
 
 @pytest.mark.parametrize("damage", DAMAGED)
-def test_a_damaged_file_of_the_log_is_named_and_all_else_is_copied(
-    damage: Damage, register: registers.Register, write_as_me: None
-) -> None:
-    path = copy(register, "nightly-000001-2025-03-01T023000.db", with_settings=False)
-    (register.logs / "asked.log.2.gz").write_bytes(damage(gzip.compress(b'{"n":1}\n{"n":2}\n')))
-    (register.logs / "asked.log").write_text('{"n":3}\n')
-    with pytest.raises(Refused, match=f"^{register.logs}/asked.log.2.gz was not copied: .+"):
-        copy_settings(register)
-    assert (path.with_suffix(".tar").exists(), lines_of(register.copies / "log")) == (
-        True,
-        ['{"n":3}\n'],
-    )
-    assert (
-        status.copy_of(register)[0],
-        "asked.log.2.gz was not copied" in status.copy_of(register)[1],
-    ) == (False, True)
-    (register.logs / "asked.log.2.gz").unlink()
-    assert (copy_settings(register), status.copy_of(register)[0]) == (0, True)
-
-
-@pytest.mark.parametrize("damage", DAMAGED)
-def test_a_damaged_copy_is_named_and_the_file_is_copied_beside_it(
+def test_a_damaged_copy_is_named_and_the_history_is_copied_beside_it(
     damage: Damage, copied: pathlib.Path, register: registers.Register
 ) -> None:
-    last = log_copies.made(copied.parent / "log")[-1]
-    last.write_bytes(damage(last.read_bytes()))
-    with pytest.raises(Refused, match=f"^{last} cannot be read: "):
-        copy_settings(register)
-    assert lines_of(copied.parent / "log")[2:] == ['{"n":4}\n{"n":5}\n']
+    """It is named each night until it is moved away."""
+    first = history_copies.made(copied.parent / "history")[0]
+    first.write_bytes(damage(first.read_bytes()))
+    for _ in range(2):
+        with pytest.raises(Refused, match=f"^{first} cannot be read: "):
+            copy_settings(register)
+    first.unlink()
+    assert made_of(copied) == [register.history.read_bytes()]
     assert copy_settings(register) == 0
 
 
-def test_copies_that_ended_before_the_log_are_reported(
+@pytest.mark.parametrize(
+    "put, said",
+    [
+        (lambda it: None, "is not there: it was not copied"),
+        (lambda it: it.symlink_to("/etc/hostname"), "it was not copied"),
+        (os.mkfifo, "is no file: it was not copied"),
+    ],
+)
+def test_a_history_that_cannot_be_read_is_named(
+    put: typing.Callable[[pathlib.Path], object],
+    said: str,
+    copied: pathlib.Path,
+    register: registers.Register,
+) -> None:
+    register.history.unlink()
+    put(register.history)
+    with pytest.raises(Refused, match=f"{register.history}.*{said}$"):
+        copy_settings(register)
+    assert [children_of(it) for it in made_of(copied)] == [[1, 2]]
+
+
+def test_copies_that_ended_before_the_history_are_reported(
     copied: pathlib.Path, register: registers.Register, monkeypatch: pytest.MonkeyPatch
 ) -> None:
     assert status.copy_of(register)[0] is True
     copy(register, "nightly-000002-2025-03-02T023000.db", with_settings=False)
-    monkeypatch.setattr(log_copies, "copy", lambda _: 1 / 0)
+    monkeypatch.setattr(history_copies, "copy", lambda _: 1 / 0)
     with pytest.raises(ZeroDivisionError):
         copy_settings(register)
     is_well, text = status.copy_of(register)
-    assert (is_well, "without the whole log" in text) == (False, True)
-
-
-def test_a_file_that_is_renamed_meanwhile_is_named(
-    copied: pathlib.Path, register: registers.Register, monkeypatch: pytest.MonkeyPatch
-) -> None:
-    monkeypatch.setattr(
-        "machine.logs.in_order", lambda folder: [folder / "asked.log.7", folder / "asked.log"]
-    )
-    (register.logs / "asked.log").write_text('{"n":4}\n{"n":5}\n{"n":6}\n')
-    assert [it.partition(":")[0] for it in log_copies.copy(register)] == [
-        f"{register.logs}/asked.log.7 was not copied"
-    ]
-    assert lines_of(copied.parent / "log")[2:] == ['{"n":4}\n{"n":5}\n{"n":6}\n']
+    assert (is_well, "without the whole history" in text) == (False, True)
 
 
 @pytest.mark.parametrize("more, is_refused", [(-1, False), (0, False), (1, True)])
-def test_a_longer_log_at_the_second_place_is_not_replaced(
+def test_a_longer_history_at_the_second_place_is_not_replaced(
     more: int,
     is_refused: bool,
     copied: pathlib.Path,
@@ -368,22 +460,22 @@ def test_a_longer_log_at_the_second_place_is_not_replaced(
     monkeypatch: pytest.MonkeyPatch,
 ) -> None:
     """Where the place is listed as rsync lists it."""
-    paths = log_copies.made(copied.parent / "log")
+    path = history_copies.made(copied.parent / "history")[0]
     sizes = {
-        paths[0].name: paths[0].stat().st_size,
-        paths[1].name: paths[1].stat().st_size + more,
-        "asked-000009-0123456789abcdef.gz": 10**9,
+        path.name: path.stat().st_size + more,
+        "history-000009-0123456789abcdef.gz": 10**9,
     }
     listed = "drwx------          4,096 2025/03/03 02:30:00 .\n"
-    listed += "drwx------          4,096 2025/03/03 02:30:00 log\n"
+    listed += "drwx------          4,096 2025/03/03 02:30:00 history\n"
     listed += "".join(
-        f"-rw------- {size:14} 2025/03/03 02:30:00 log/{name}\n" for name, size in sizes.items()
+        f"-rw------- {size:14} 2025/03/03 02:30:00 history/{name}\n"
+        for name, size in sizes.items()
     )
     monkeypatch.setattr(second_copy, "rsync", lambda *_: listed)
     if is_refused:
         with pytest.raises(
             Refused,
-            match=f"^vault:copies/x/log/{paths[1].name} is longer than {paths[1]},"
+            match=f"^vault:copies/x/history/{path.name} is longer than {path},"
             " and stays as it is",
         ):
             second_copy.see_none_longer(register, "vault:copies/x/")
@@ -391,127 +483,233 @@ def test_a_longer_log_at_the_second_place_is_not_replaced(
         second_copy.see_none_longer(register, "vault:copies/x/")
 
 
-def test_what_is_beside_the_log_under_another_name_is_not_copied(
-    copied: pathlib.Path, register: registers.Register
-) -> None:
-    for name in (
-        "asked.log.old",
-        "asked.log.7.bak",
-        "asked.log.8.gz-2026020200.backup",
-        "asked.log-20250303",
-    ):
-        (register.logs / name).write_text('{"n":9}\n')
-    log_copies.copy(register)
-    assert '{"n":9}\n' not in lines_of(copied.parent / "log")
-
-
-def test_settings_and_log_come_back_where_there_are_none(
-    copied: pathlib.Path, register: registers.Register, machine: pathlib.Path
-) -> None:
-    for path in (*register.settings.iterdir(), *register.logs.iterdir(), machine / "etc/authority"):
-        path.unlink()
-    (machine / "etc/second-copy").write_text("# the package's own\n")
-    (register.settings / "roles").write_text("# none yet\n")
-    list(settings_copy.restored(register, copied))
-    assert sorted(it.name for it in register.settings.iterdir()) == ["passwords", "roles"]
-    assert (register.settings / "passwords").read_text() == "jane:$6$x\nalpha:$6$y\n"
-    assert (register.settings / "passwords").stat().st_mode & 0o777 == 0o640
-    assert "jane office;" in (register.settings / "roles").read_text()
-    assert (machine / "etc/second-copy").read_text() == "# where\n/mnt/copies\n"
-    made = logs.in_order(register.logs)
-    assert [it.name for it in made] == ["asked.log.4.gz", "asked.log.3.gz", "asked.log.2.gz"]
-    assert [gzip.decompress(it.read_bytes()) for it in made] == [
-        b'{"n":1}\n{"n":2}\n',
-        b'{"n":3}\n',
-        b'{"n":4}\n{"n":5}\n',
-    ]
-
-
-@pytest.mark.parametrize("killed_after", [0, 1, 2])
-def test_a_log_that_came_back_halfway_is_completed(
-    killed_after: int,
+def test_the_second_place_has_the_history(
     copied: pathlib.Path,
     register: registers.Register,
+    machine: pathlib.Path,
     monkeypatch: pytest.MonkeyPatch,
 ) -> None:
-    for path in register.logs.iterdir():
-        path.unlink()
-    written: list[pathlib.Path] = []
+    """By rsync; what was damaged there is found, and what this machine has longer is replaced."""
+    (machine / "mnt").mkdir()
+    monkeypatch.setattr(second_copy, "open_error", lambda _: "")
+    second_copy.copied(register, str(machine / "mnt"))
+    there = machine / "mnt" / register.name / "history"
+    name = history_copies.made(copied.parent / "history")[0].name
+    assert [it.name for it in there.iterdir()] == [name]
+    assert children_of(gzip.decompress((there / name).read_bytes())) == [1, 2]
+    record(register, 3)
+    copy_settings(register)
+    second_copy.copied(register, str(machine / "mnt"))
+    whole = (there / name).read_bytes()
+    assert children_of(gzip.decompress(whole)) == [1, 2, 3]
+    at = (there / name).stat().st_mtime_ns
+    (there / name).write_bytes(whole[:-1] + b"X")
+    os.utime(there / name, ns=(at, at))
+    with pytest.raises(Refused, match=f"^{there} is not equal to {register.copies}/history: "):
+        second_copy.copied(register, str(machine / "mnt"))
 
-    def write(path: pathlib.Path, *more: typing.Any) -> bool:
-        if len(written) == killed_after:
-            raise KeyboardInterrupt
-        written.append(path)
-        return whole(path, *more)
 
-    whole = files.write
-    monkeypatch.setattr(files, "write", write)
-    with pytest.raises(KeyboardInterrupt):
-        list(log_copies.restored(register, copied.parent / "log"))
-    monkeypatch.setattr(files, "write", whole)
-    assert list(log_copies.restored(register, copied.parent / "log")) == ["took 3 files of the log"]
-    assert [gzip.decompress(it.read_bytes()) for it in logs.in_order(register.logs)] == [
-        b'{"n":1}\n{"n":2}\n',
-        b'{"n":3}\n',
-        b'{"n":4}\n{"n":5}\n',
+def empty(register: registers.Register, machine: pathlib.Path) -> None:
+    """Makes the machine one on which nothing of a register is set up."""
+    for folder in (register.settings, register.office):
+        shutil.rmtree(folder)
+    (machine / "etc/authority").unlink()
+    (machine / "etc/second-copy").write_text("# the package's own\n")
+
+
+def test_people_settings_and_history_come_back_where_there_are_none(
+    copied: pathlib.Path, register: registers.Register, machine: pathlib.Path
+) -> None:
+    before = register.history.read_bytes()
+    empty(register, machine)
+    assert list(settings_copy.restored(register, copied)) == [
+        f"took {machine}/etc/authority from the archive",
+        f"took {machine}/etc/second-copy from the archive",
+        f"took {register.office}/office.db from the archive, with 3 people and programs",
+        f"took {register.history} from {history_copies.made(copied.parent / 'history')[0]}",
     ]
-    assert list(log_copies.restored(register, copied.parent / "log")) == []
+    assert (machine / "etc/authority").read_text() == "Example County Council\n"
+    assert (machine / "etc/second-copy").read_text() == "# where\n/mnt/copies\n"
+    assert sorted(it.name for it in register.office.iterdir()) == ["history.jsonl", "office.db"]
+    assert {it.stat().st_mode & 0o777 for it in register.office.iterdir()} == {0o600}
+    assert register.office.stat().st_mode & 0o777 == 0o700
+    assert register.history.read_bytes() == before
+    # (the application goes on with both)
+    add_people(register, ("ben", "officer"))
+    record(register, 3)
+    assert children_of(register.history.read_bytes()) == [1, 2, 3]
+    names = [it.name for it in office_store.people_of(register)]
+    assert names == ["alpha", "ben", "jane", "page"]
 
 
-def test_a_copy_without_a_log_beside_it_says_so(
+def test_what_comes_back_is_given_to_the_application(
+    copied: pathlib.Path,
+    register: registers.Register,
+    machine: pathlib.Path,
+    monkeypatch: pytest.MonkeyPatch,
+) -> None:
+    """Its folder, and it alone makes the files there."""
+    empty(register, machine)
+    given: list[tuple[pathlib.Path, int, str, str]] = []
+    acting: list[str] = []
+    make = files.folder
+
+    def folder(path: pathlib.Path, mode: int, user: str = "root", group: str = "root") -> bool:
+        given.append((path, mode, user, group))
+        return make(path, mode, user, group)
+
+    @contextlib.contextmanager
+    def acting_as(name: str) -> typing.Iterator[None]:
+        acting.append(name)
+        yield
+
+    monkeypatch.setattr(files, "folder", folder)
+    monkeypatch.setattr(files, "acting_as", acting_as)
+    list(settings_copy.restored(register, copied))
+    assert set(given) == {(register.office, 0o700, "admissions-office", "admissions-office")}
+    assert acting == ["admissions-office"] * 2
+
+
+def test_what_came_back_is_not_brought_back_twice(
+    copied: pathlib.Path, register: registers.Register, machine: pathlib.Path
+) -> None:
+    empty(register, machine)
+    list(settings_copy.restored(register, copied))
+    assert list(settings_copy.restored(register, copied)) == [
+        f"{machine}/etc/authority is there already, and stays as it is",
+        f"{machine}/etc/second-copy is there already, and stays as it is",
+        f"{register.office}/office.db is there already, and stays as it is",
+    ]
+
+
+def test_what_is_there_stays(copied: pathlib.Path, register: registers.Register) -> None:
+    """Also a history that is empty: an application may have it open."""
+    add_people(register, ("ben", "officer"))
+    register.history.write_bytes(b"")
+    lines = list(settings_copy.restored(register, copied))
+    assert [it.name for it in office_store.people_of(register)] == ["alpha", "ben", "jane", "page"]
+    assert register.history.read_bytes() == b""
+    assert lines[-2:] == [
+        f"{register.office}/office.db is there already, and stays as it is",
+        f"{register.history} is there already, and stays as it is",
+    ]
+
+
+def test_no_file_is_brought_back_beside_a_log_of_another(
+    copied: pathlib.Path, register: registers.Register
+) -> None:
+    office_store.path_of(register).unlink()
+    log = register.office / "office.db-wal"
+    log.write_bytes(b"a log")
+    assert f"{log} is there already, and stays as it is" in list(
+        settings_copy.restored(register, copied))
+    assert not office_store.path_of(register).exists()
+
+
+@pytest.mark.parametrize("is_later_whole", [True, False])
+def test_of_several_histories_the_last_that_is_whole_comes_back(
+    is_later_whole: bool, copied: pathlib.Path, register: registers.Register
+) -> None:
+    """All others are named, and left where they are."""
+    register.history.unlink()
+    record(register, 7, 8)
+    if not is_later_whole:
+        register.history.write_bytes(
+            register.history.read_bytes().replace(b'"child":7', b'"child":9'))
+    list(history_copies.copy(register))
+    register.history.unlink()
+    first, second = history_copies.made(copied.parent / "history")
+    lines = list(history_copies.restored(register, copied.parent / "history"))
+    taken, left = (second, first) if is_later_whole else (first, second)
+    assert f"took {register.history} from {taken}" in lines
+    assert register.history.read_bytes() == gzip.decompress(taken.read_bytes())
+    (line,) = [it for it in lines if not it.startswith("took")]
+    assert line.startswith(str(left)) and "is left where it is" in line
+    assert ("line 2: the history was changed" in line) is not is_later_whole
+
+
+@pytest.mark.parametrize("damage", [*DAMAGED, lambda it: gzip.compress(
+    gzip.decompress(it).replace(b'"child":1', b'"child":9'))])
+def test_a_history_that_is_not_whole_is_not_brought_back(
+    damage: Damage, copied: pathlib.Path, register: registers.Register
+) -> None:
+    path = history_copies.made(copied.parent / "history")[0]
+    path.write_bytes(damage(path.read_bytes()))
+    register.history.unlink()
+    (line,) = history_copies.restored(register, copied.parent / "history")
+    assert line.startswith(f"{path} is left where it is, and not brought back: {path}")
+    assert not register.history.exists()
+
+
+def test_a_copy_without_a_history_beside_it_says_so(
     copied: pathlib.Path, register: registers.Register, machine: pathlib.Path
 ) -> None:
     alone = machine / copied.name
     shutil.copy(copied.with_suffix(".tar"), alone.with_suffix(".tar"))
     assert (
         list(settings_copy.restored(register, alone))[-1]
-        == f"there is no log in {machine}/log: who sent what is not brought back"
+        == f"there is no history in {machine}/history: who did what is not brought back"
     )
 
 
-def test_what_is_there_stays(copied: pathlib.Path, register: registers.Register) -> None:
-    (register.settings / "passwords").write_text("mary:$6$z\n")
+def with_members(copied: pathlib.Path, **members: bytes) -> None:
+    """Puts an archive with these files in the place of that beside a copy."""
+    with tarfile.open(copied.with_suffix(".tar"), "w") as archive:
+        for name, content in members.items():
+            member = tarfile.TarInfo(name.replace("_", "."))
+            member.mode, member.uname, member.gname = 0o4777, "daemon", "daemon"
+            member.size = len(content)
+            archive.addfile(member, io.BytesIO(content))
+
+
+def test_an_archive_of_an_earlier_version_brings_no_people(
+    copied: pathlib.Path, register: registers.Register, machine: pathlib.Path
+) -> None:
+    empty(register, machine)
+    with_members(copied, roles=b"jane office;\n", passwords=b"jane:$6$x\n", authority=b"A\n")
     lines = list(settings_copy.restored(register, copied))
-    assert (register.settings / "passwords").read_text() == "mary:$6$z\n"
-    assert f"{register.settings}/passwords is there already, and stays as it is" in lines
-    assert lines[-1].startswith(f"{register.logs} has a log already")
+    archive = copied.with_suffix(".tar")
+    assert lines[0] == f"{archive} has no office.db: nobody of before may sign in"
+    assert (machine / "etc/authority").read_text() == "A\n"
+    assert not register.settings.exists()
+    with pytest.raises(Refused, match=f"^the settings of {copied} lack office.db, site-name$"):
+        drill.settings_text(copied)
+
+
+def test_people_that_are_no_database_are_an_error(
+    copied: pathlib.Path, register: registers.Register, machine: pathlib.Path
+) -> None:
+    empty(register, machine)
+    with_members(copied, office_db=b"no database of anybody", site_name=b"admissions.example\n")
+    said = f"^office.db of {copied.with_suffix('.tar')} cannot be read: "
+    with pytest.raises(Refused, match=said):
+        list(settings_copy.restored(register, copied))
+    assert not register.office.exists()
+    with pytest.raises(Refused, match="lack site-name"):
+        drill.settings_text(copied)
 
 
 def test_an_archive_brings_what_is_copied_and_no_owner_or_mode(
-    copied: pathlib.Path, register: registers.Register, machine: pathlib.Path
+    copied: pathlib.Path,
+    register: registers.Register,
+    machine: pathlib.Path,
+    tmp_path: pathlib.Path,
 ) -> None:
-    with tarfile.open(copied.with_suffix(".tar"), "w") as archive:
-        for name in (
-            "../above",
-            "/etc/passwd",
-            "site.key",
-            "site.crt",
-            "more",
-            "roles",
-            "authority",
-        ):
-            member = tarfile.TarInfo(name)
-            member.mode, member.uname, member.gname, member.size = 0o4777, "daemon", "daemon", 7
-            archive.addfile(member, io.BytesIO(b"a text\n"))
-        link = tarfile.TarInfo("passwords")
+    people_file = people_beside(copied, tmp_path).read_bytes()
+    empty(register, machine)
+    names = ("../above", "/etc/passwd", "site.key", "site.crt", "more", "roles")
+    with_members(copied, **dict.fromkeys(names, b"a text\n"), office_db=people_file,
+                 authority=b"a text\n")
+    with tarfile.open(copied.with_suffix(".tar"), "a") as archive:
+        link = tarfile.TarInfo("second-copy")
         link.type, link.linkname = tarfile.SYMTYPE, "/etc/shadow"
         archive.addfile(link)
-    assert list(settings_copy.members_of(copied)) == ["roles", "authority"]
-    made = (register.settings / "roles", 0o640), (machine / "etc/authority", 0o644)
-    for path, _ in made:
-        path.unlink()
+    assert list(settings_copy.members_of(copied)) == ["office.db", "authority"]
     list(settings_copy.restored(register, copied))
-    assert [(path.read_text(), path.stat().st_mode & 0o7777) for path, _ in made] == [
-        ("a text\n", mode) for _, mode in made
-    ]
-
-
-def with_site_name(copied: pathlib.Path, text: str) -> None:
-    with tarfile.open(copied.with_suffix(".tar"), "w") as archive:
-        for name, content in {"site-name": text, "passwords": "jane:$6$x\n"}.items():
-            member = tarfile.TarInfo(name)
-            member.size = len(content)
-            archive.addfile(member, io.BytesIO(content.encode()))
+    assert (machine / "etc/authority").read_text() == "a text\n"
+    assert (machine / "etc/authority").stat().st_mode & 0o7777 == 0o644
+    assert office_store.path_of(register).stat().st_mode & 0o7777 == 0o600
+    assert (machine / "etc/second-copy").read_text() == "# the package's own\n"
 
 
 @pytest.mark.parametrize(
@@ -524,17 +722,19 @@ def test_a_copy_is_set_up_under_the_name_that_is_given_or_its_own(
     machine: pathlib.Path,
     monkeypatch: pytest.MonkeyPatch,
 ) -> None:
-    with_site_name(copied, "admissions.example\n")
     monkeypatch.setattr(setup, "AUTHORITY", machine / "etc/authority")
     monkeypatch.setattr(certificates, "make", lambda *_: iter(()))
     trial = registers.Register("trial")
-    for path in (trial.settings, trial.logs):
-        path.mkdir()
+    trial.settings.mkdir()
+    # (users of the site's own, which is then not asked for)
+    (trial.settings / "passwords").write_text("jane:$6$x\n")
     space = given_to_setup("trial", "--copy", str(copied), *given)
     setup.completed(space)
     for step in (setup.take_settings, setup.make_settings):
         list(step(trial, space))
-    assert (trial.host, (trial.settings / "passwords").read_text()) == (host, "jane:$6$x\n")
+    assert trial.host == host
+    assert [it.name for it in office_store.people_of(trial)] == ["alpha", "jane", "page"]
+    assert children_of(trial.history.read_bytes()) == [1, 2]
 
 
 @pytest.mark.parametrize(
@@ -543,7 +743,7 @@ def test_a_copy_is_set_up_under_the_name_that_is_given_or_its_own(
 def test_no_site_has_a_name_that_is_none(
     name: str, copied: pathlib.Path, register: registers.Register
 ) -> None:
-    with_site_name(copied, name)
+    with_members(copied, **{"site-name": name.encode()})
     with pytest.raises(Refused, match="is no name of a site"):
         setup.completed(given_to_setup("trial", "--copy", str(copied)))
     assert sites.registers_with_site() == [register]

@@ -588,7 +588,8 @@ def test_who_comes_with_a_copy_is_not_added_beside_it(
 ) -> None:
     """Nobody is asked for who comes with it; of a copy without people the first is asked for."""
     monkeypatch.setattr(setup, "AUTHORITY", machine / "etc/authority")
-    monkeypatch.setattr(setup.settings_copy, "has_people", lambda copy: has_people)
+    people_beside = [people.User("ann", "person", "head", False)] * has_people
+    monkeypatch.setattr(setup.settings_copy, "people_beside", lambda copy: people_beside)
     words = [register.name, "--copy", "gone.db", "--site", "x.example"]
     if has_people:
         assert completed(monkeypatch, "none\n", *words).user is None

@@ -1,17 +1,31 @@
 """What admissions-status says of each part: well on one side of a limit, and not on the other."""
 import argparse
 import collections
+import contextlib
+import datetime
 import os
 import pathlib
 import shutil
 import subprocess
+import time
 
 import pytest
-from machine import certificates, registers, second_copy, status
+from machine import certificates, office_store, registers, second_copy, status
+from office.web.history import SENDS, SETTLED
+from office.web.store import Store
+from office_files import add_people, history, record
 from register_files import Refused
 
 MB = 1_000_000
 Usage = collections.namedtuple("Usage", "total used free")
+
+
+@pytest.fixture(name="office")
+def office_fixture(register: registers.Register, write_as_me: None) -> registers.Register:
+    """A register whose application has nobody and no entry yet."""
+    add_people(register)
+    record(register)
+    return register
 
 
 @pytest.mark.parametrize(
@@ -31,7 +45,7 @@ def test_the_room_on_the_disks(
     monkeypatch: pytest.MonkeyPatch,
 ) -> None:
     os.truncate(register.file, bytes_of_register)
-    for full in (register.folder, register.copies, register.logs):
+    for full in (register.folder, register.copies, register.office, register.logs):
 
         def usage(path: pathlib.Path, here: pathlib.Path = full) -> Usage:
             return Usage(10**12, 0, free if path == here else 10**12)
@@ -109,91 +123,82 @@ def test_a_name_of_no_register(register: registers.Register) -> None:
     assert found.value.status == 2
 
 
-@pytest.fixture(name="log")
-def log_fixture(register: registers.Register, monkeypatch: pytest.MonkeyPatch) -> pathlib.Path:
-    """A log of root that a request with a name makes longer, and one without does not."""
-    path = register.logs / "asked.log"
-    path.write_text('{"at":"2025-03-03T02:30:00+00:00","body":""}\n')
-    path.chmod(0o640)
-
-    def lstat(it: pathlib.Path) -> os.stat_result:
-        found = list(os.lstat(it))
-        return os.stat_result([*found[:4], 0, *found[5:]])
-
-    def ask(_: str, user: str = "") -> tuple[int, bytes]:
-        if user:
-            with open(path, "a", encoding="ascii") as file:
-                file.write('{"status":"401"}\n')
-        return 401, b""
-
-    monkeypatch.setattr(pathlib.Path, "lstat", lstat)
-    monkeypatch.setattr(status, "site_status_of", ask)
-    monkeypatch.setattr(status, "LOG_SECONDS", 0.1)
-    return path
+def test_a_history_that_is_whole(office: registers.Register) -> None:
+    """The time of the last entry is the local one."""
+    before = os.environ.get("TZ")
+    os.environ["TZ"] = "UTC"
+    time.tzset()
+    try:
+        assert status.history_of(office) == (True, "no entries yet")
+        record(office, 1, 2)
+        assert status.history_of(office) == (True, "4 entries, the last of 2025-03-03 10:00")
+        with open(office.history, "ab") as file:
+            file.write(b'{"about":')
+        assert status.history_of(office) == (True, "4 entries, the last of 2025-03-03 10:00")
+    finally:
+        os.environ.pop("TZ")
+        os.environ.update({"TZ": before} if before else {})
+        time.tzset()
 
 
-def test_a_log_that_is_written(log: pathlib.Path, register: registers.Register) -> None:
-    assert status.log_of(register)[0] is True
-    log.write_text("")
-    assert status.log_of(register)[0] is True
+def test_a_history_that_was_changed(office: registers.Register) -> None:
+    record(office, 1, 2)
+    office.history.write_bytes(office.history.read_bytes().replace(b'"child":2', b'"child":3'))
+    is_well, text = status.history_of(office)
+    assert (is_well, text.startswith(f"{office.history}, line 4: the history was changed")) == (
+        False,
+        True,
+    )
 
 
-@pytest.mark.parametrize(
-    "text",
-    [
-        '{"at":"2025',
-        '{"at":"x"}\n{"at":"2025',
-        '{"at":"x"}\n25","who":"jane"}\n',
-        '"text"\n',
-        "\0\0\0\n",
-    ],
-)
-def test_a_line_that_is_not_whole(
-    text: str, log: pathlib.Path, register: registers.Register
+@pytest.mark.parametrize("minutes, is_well", [(59, True), (61, False), (-180, True)])
+def test_a_request_without_a_known_answer(
+    minutes: int, is_well: bool, office: registers.Register
 ) -> None:
-    log.write_text(text)
-    is_well, said = status.log_of(register)
-    assert (is_well, "is not whole" in said) == (False, True)
+    """One may be in flight, or wait for the next that is sent. Its text is nothing for monitoring."""
+    record(office, 1)
+    at = datetime.datetime.now(datetime.timezone.utc) - datetime.timedelta(minutes=minutes)
+    with history(office, at.isoformat()) as found:
+        found.add("ben", SENDS, {"command": {"cmd": "amend", "child": 2, "name": "Ann Abel"}})
+    said = f"line 3: ben sent a request at {at.astimezone():%Y-%m-%d %H:%M:%S}; no answer is known"
+    found_well, text = status.history_of(office)
+    assert (found_well, text == said, "Ann" in text) == (is_well, not is_well, False)
+    with history(office) as found:
+        found.add("ben", SETTLED, {"of": 3, "done": False})
+    assert status.history_of(office)[0] is True
 
 
-def test_bytes_that_are_no_text_are_whole(log: pathlib.Path, register: registers.Register) -> None:
-    log.write_bytes(b'{"target":"/\xff\xfe"}\n')
-    assert status.log_of(register)[0] is True
+@pytest.mark.parametrize("mode", [0o660, 0o640, 0o604])
+def test_a_history_that_others_read_or_write(mode: int, office: registers.Register) -> None:
+    office.history.chmod(mode)
+    is_well, text = status.history_of(office)
+    assert (is_well, f"chmod 600 {office.history}" in text) == (False, True)
 
 
-@pytest.mark.parametrize("mode", [0o660, 0o644, 0o646])
-def test_a_log_that_others_read_or_write(
-    mode: int, log: pathlib.Path, register: registers.Register
+def test_a_history_of_another_owner(
+    office: registers.Register, monkeypatch: pytest.MonkeyPatch
 ) -> None:
-    log.chmod(mode)
-    assert status.log_of(register)[0] is False
+    monkeypatch.setattr(
+        "machine.files.numbers",
+        lambda user, group: (os.getuid() + (user == "admissions-office"), os.getgid()),
+    )
+    is_well, text = status.history_of(office)
+    assert (is_well, f"chown admissions-office: {office.history}" in text) == (False, True)
 
 
-def test_a_log_of_another_owner(
-    log: pathlib.Path, register: registers.Register, monkeypatch: pytest.MonkeyPatch
-) -> None:
-    def lstat(it: pathlib.Path) -> os.stat_result:
-        found = list(os.lstat(it))
-        return os.stat_result([*found[:4], 33, *found[5:]])
-
-    monkeypatch.setattr(pathlib.Path, "lstat", lstat)
-    assert status.log_of(register)[0] is False
-
-
-def test_a_log_that_is_not_there_or_not_written(
-    log: pathlib.Path, register: registers.Register, monkeypatch: pytest.MonkeyPatch
-) -> None:
-    monkeypatch.setattr(status, "site_status_of", lambda *_: (401, b""))
-    is_well, said = status.log_of(register)
-    assert (is_well, "was not written" in said) == (False, True)
-    log.unlink()
-    is_well, said = status.log_of(register)
-    assert (is_well, "is not there" in said) == (False, True)
+def test_a_history_that_is_not_there_or_no_file(office: registers.Register) -> None:
+    office.history.unlink()
+    is_well, text = status.history_of(office)
+    assert (is_well, "systemctl status admissions-office@secondary-2025" in text) == (False, True)
+    office.history.symlink_to("/etc/hostname")
+    is_well, text = status.history_of(office)
+    assert (is_well, "must be a file" in text) == (False, True)
 
 
 @pytest.mark.parametrize(
     "answered, said",
     [
+        (502, "does not run: systemctl status admissions-office@secondary-2025"),
         (200, "answers 200, and not 401"),
         (403, "answers 403, and not 401"),
         (ConnectionRefusedError(111, "refused"), "systemctl status nginx"),
@@ -250,7 +255,8 @@ def test_the_certificate_that_nginx_shows(
         capture_output=True,
     ).stdout
     monkeypatch.setattr(status, "site_status_of", lambda _: (401, first))
-    assert status.site_of(register)[0] is True
+    is_well, text = status.site_of(register)
+    assert (is_well, text.startswith("asks who signs in, in ")) == (True, True)
     (register.settings / "site.crt").write_text(other + own)
     is_well, text = status.site_of(register)
     assert (is_well, "systemctl reload nginx" in text) == (False, True)
@@ -268,27 +274,33 @@ def test_a_certificate_that_is_none_is_reported_and_so_is_all_else(
 ) -> None:
     (register.settings / "site.crt").write_bytes(content)
     monkeypatch.setattr(status, "site_status_of", lambda *_: (401, b""))
-    monkeypatch.setattr(status, "LOG_SECONDS", 0.1)
     found = status.report(register)
     assert (found["site"][0], said in found["site"][1], len(found)) == (False, True, 11)
 
 
-UNITS = [
+ENABLED = [
     "admissions@secondary-2025.service",
     "admissions-backup@secondary-2025.timer",
     "admissions-drill@secondary-2025.timer",
     "nginx.service",
 ]
+OFFICE = [
+    "admissions-office@secondary-2025.socket",
+    "admissions-office@secondary-2025.service",
+    "admissions-office-copy@secondary-2025.path",
+    "admissions-office-restore@secondary-2025.path",
+]
+JOBS = ("backup", "second-copy", "drill", "office-copy", "office-restore")
 
 
 @pytest.mark.parametrize(
     "unit, shown, said",
     [
-        *((it, {"ActiveState": "inactive"}, f"{it} is inactive") for it in UNITS),
-        *((it, {"UnitFileState": "disabled"}, f"{it} is disabled") for it in UNITS),
+        *((it, {"ActiveState": "inactive"}, f"{it} is inactive") for it in ENABLED + OFFICE),
+        *((it, {"UnitFileState": "disabled"}, f"{it} is disabled") for it in ENABLED),
         *(
             (f"admissions-{it}@secondary-2025.service", {"ActiveState": "failed"}, "has failed")
-            for it in ("backup", "second-copy", "drill")
+            for it in JOBS
         ),
     ],
 )
@@ -315,21 +327,80 @@ def test_a_unit_that_does_not_run_or_start(
     )
 
 
+def test_a_register_without_a_site_has_no_application(
+    office: registers.Register, monkeypatch: pytest.MonkeyPatch
+) -> None:
+    (office.settings / "site-name").unlink()
+    shutil.rmtree(office.office)
+    asked = []
+
+    def shown_of(unit: str, *names: str) -> dict[str, str]:
+        asked.append(unit)
+        return {"ActiveState": "active", "UnitFileState": "enabled", "NextElapseUSecRealtime": ""}
+
+    monkeypatch.setattr(status, "is_booted", lambda: True)
+    monkeypatch.setattr(status, "shown_of", shown_of)
+    assert status.units_of(office)[0] is True
+    assert not set(asked) & {*OFFICE, "nginx.service"}
+    assert status.people_of(office) == status.history_of(office) == (True, "it has no site")
+
+
 @pytest.mark.parametrize(
-    "roles, said",
+    "people, is_well, said",
     [
-        ("jane office;\nalpha school-A;\nben office;\n", "ben has no password"),
-        ("jane offices;\nalpha school-A;\n", "the unknown role offices"),
-        ("jane office;\n", "alpha has no role"),
-        ("jane school-B;\nalpha school-A;\n", "nobody with the role office"),
-        ("jane office\n", "line 1: 'jane office' is not of the form"),
+        ([("jane", "head")], True, "1 may sign in (head 1)"),
+        (
+            [("jane", "head"), ("ben", "officer"), ("kim", "officer"), ("alpha", "school-A")],
+            True,
+            "4 may sign in (head 1, officer 2, school-A 1)",
+        ),
+        (
+            [("ben", "officer")],
+            False,
+            "1 may sign in (officer 1); nobody with the role head can",
+        ),
+        ([], False, "nobody can sign in"),
     ],
 )
-def test_users_who_may_do_nothing(roles: str, said: str, register: registers.Register) -> None:
-    assert status.report(register)["users"] == (True, "2, of whom 1 have the role office")
-    (register.settings / "roles").write_text(roles)
-    is_well, text = status.report(register)["users"]
-    assert (is_well, said in text) == (False, True)
+def test_who_may_sign_in(
+    people: list[tuple[str, str]],
+    is_well: bool,
+    said: str,
+    office: registers.Register,
+) -> None:
+    """Neither a program nor who is locked signs in."""
+    add_people(office, *people)
+    assert status.people_of(office) == (is_well, said)
+    add_people(office, ("page", "head"), ("sums", "reader"), kind="program")
+    add_people(office, ("lou", "head"), locked=True)
+    assert status.people_of(office) == (is_well, f"{said}; 2 with a token; 1 locked")
+
+
+def test_the_people_are_read_while_the_application_writes(office: registers.Register) -> None:
+    add_people(office, ("jane", "head"))
+    with contextlib.closing(Store(str(office_store.path_of(office)))) as store:
+        with store.writing() as db:
+            db.execute("DELETE FROM person")
+            assert status.people_of(office)[0] is True
+    assert status.people_of(office) == (False, "nobody can sign in")
+
+
+@pytest.mark.parametrize(
+    "content, said",
+    [
+        (None, "office.db is not there"),
+        (b"no database of anybody", "office.db cannot be read: file is not a database"),
+        (b"", "office.db cannot be read: no such table: person"),
+    ],
+)
+def test_people_that_cannot_be_read(
+    content: bytes | None, said: str, office: registers.Register
+) -> None:
+    file = office_store.path_of(office)
+    file.unlink()
+    if content is not None:
+        file.write_bytes(content)
+    assert status.report(office)["people"] == (False, f"{file.parent}/{said}")
 
 
 def test_each_part_is_reported(register: registers.Register) -> None:
@@ -338,8 +409,8 @@ def test_each_part_is_reported(register: registers.Register) -> None:
         "desk",
         "site",
         "units",
-        "users",
-        "log",
+        "people",
+        "history",
         "copy",
         "second copy",
         "drill",

@@ -1,0 +1,156 @@
+"""The history of an office's application, as the commands of a machine read it: while it is
+written, from a copy, and of one that was changed as far as it holds."""
+import dataclasses
+import datetime
+import gzip
+import json
+import pathlib
+import typing
+import zlib
+
+from office import commands
+from office.web import history
+from office.web.history import Entry
+from register_files import Refused
+
+from . import files
+from .programs import OFFICE
+from .registers import Register
+
+GZIP = b"\x1f\x8b"
+CHUNK = 1 << 16
+# What reading a compressed file raises that is damaged
+UNREADABLE = (OSError, EOFError, zlib.error)
+# What a line raises that is no entry
+NO_ENTRY = (ValueError, KeyError, TypeError, AttributeError, OverflowError, RecursionError)
+
+
+@dataclasses.dataclass
+class Request:
+    """A request to the register: its entry, when it was sent, and whether it is done, as far as
+    that is known."""
+
+    entry: Entry
+    moment: datetime.datetime
+    is_done: bool | None = None
+
+    @property
+    def command(self) -> str | None:
+        """Its command as one line, as the application sends it; None for an import."""
+        if "command" not in self.entry.about:
+            return None
+        return json.dumps(self.entry.about["command"], separators=(",", ":"), ensure_ascii=False)
+
+    @property
+    def rows(self) -> str:
+        """The rows of an import."""
+        return str(self.entry.about["import"])
+
+    def in_words(self, what: str) -> str:
+        """Who sent it and when, and what it is in these words."""
+        return f"{self.entry.who} sent {what} at {self.moment:%Y-%m-%d %H:%M:%S}"
+
+
+class Record:
+    """The entries of a history and its requests by their numbers, which are those of their lines.
+    Where it was changed, `problem` names the line, and there is what is before it."""
+
+    def __init__(self, name: str, data: bytes) -> None:
+        self.name, self.problem = name, ""
+        self.entries: list[Entry] = []
+        self.requests: dict[int, Request] = {}
+        before = history.FIRST
+        # (what is behind the last line end is being written, or a crash has left it)
+        for at, text in enumerate(data.split(b"\n")[:-1], 1):
+            line = text + b"\n"
+            try:
+                self.take(history.entry_of(line, at, before))
+            except NO_ENTRY as error:
+                self.problem = f"{name}, line {at}: the history was changed there: {error}"
+                if follows_another(line, before):
+                    self.problem = (
+                        f"{name}, line {at}: the history was changed there or in the line before,"
+                        " or a line between them is missing"
+                    )
+                    self.doubt_last()
+                return
+            before = history.digest(line)
+
+    def doubt_last(self) -> None:
+        """Takes an answer in the last line for none: no line follows that has its digest."""
+        if self.entries and self.entries[-1].what in (history.ANSWER, history.SETTLED):
+            self.requests[self.entries[-1].about["of"]].is_done = None
+
+    def take(self, entry: Entry) -> None:
+        """Adds an entry."""
+        moment = datetime.datetime.fromisoformat(entry.at).astimezone()
+        if entry.what == history.SENDS:
+            see_request(entry.about)
+            self.requests[entry.number] = Request(entry, moment)
+        elif entry.what == history.ANSWER:
+            self.requests[entry.about["of"]].is_done = commands.is_done(entry.about["answer"])
+        elif entry.what == history.SETTLED:
+            self.requests[entry.about["of"]].is_done = bool(entry.about["done"])
+        self.entries.append(entry)
+
+    def open_requests(self) -> list[Request]:
+        """The requests of which no answer is known."""
+        return [it for it in self.requests.values() if it.is_done is None]
+
+
+def follows_another(line: bytes, before: str) -> bool:
+    """Whether a line is that of an entry behind another line than one of this digest."""
+    try:
+        found = json.loads(line)
+        return history.entry_of(line, found["n"], found["before"]).line(before) != line
+    except NO_ENTRY:
+        return False
+
+
+def see_request(about: dict[str, typing.Any]) -> None:
+    """Raises an error unless this is a command or the rows of an import."""
+    is_command = isinstance(about.get("command"), dict)
+    if not is_command and not isinstance(about.get("import"), str):
+        raise ValueError("a request without a command")
+
+
+def whole_lines(data: bytes) -> bytes:
+    """Without a last line that is not whole."""
+    return data[: data.rfind(b"\n") + 1]
+
+
+def data_of(register: Register) -> bytes:
+    """The history of a register's application, as its user reads it."""
+    try:
+        return files.content_as(OFFICE, register.history)
+    except FileNotFoundError as error:
+        raise Refused(f"{register.history} is not there") from error
+
+
+def of_register(register: Register) -> Record:
+    """The history of a register's application."""
+    return Record(str(register.history), data_of(register))
+
+
+def of_copy(path: pathlib.Path) -> Record:
+    """A history in a file, compressed or not. Of a damaged one there is what can be read."""
+    with open(path, "rb") as file:
+        is_compressed = file.read(len(GZIP)) == GZIP
+    data, problem = unpacked(path) if is_compressed else (path.read_bytes(), "")
+    found = Record(str(path), data)
+    if data and not found.entries:
+        problem = problem or f"{path} has no entry of a history"
+    found.problem = found.problem or problem
+    return found
+
+
+def unpacked(path: pathlib.Path) -> tuple[bytes, str]:
+    """What can be read of a compressed file, and why not all of it, or ""."""
+    pieces = []
+    with gzip.open(path) as packed:
+        try:
+            while piece := packed.read1(CHUNK):
+                pieces.append(piece)
+        except UNREADABLE as error:
+            return b"".join(pieces), f"{path} can be read in part: {error}"
+    return b"".join(pieces), ""

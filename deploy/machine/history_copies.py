@@ -1,0 +1,113 @@
+"""The copies of the history of a register's application, which are beside the nightly copies: made
+longer each night, never shorter, and brought back on another machine."""
+import gzip
+import hashlib
+import os
+import pathlib
+import re
+import typing
+
+from register_files import Refused
+
+from . import files, histories
+from .histories import Record
+from .programs import OFFICE
+from .registers import Register
+
+FOLDER = "history"
+# A number that grows with each copy, and the begin of the digest of the first line
+NAME = re.compile(r"history-(\d{6,})-([0-9a-f]{16})\.gz")
+
+
+def place(path: pathlib.Path) -> tuple[int, str]:
+    """The number and the digest in the name of a copy."""
+    found = NAME.fullmatch(path.name)
+    return (int(found[1]), found[2]) if found else (0, "")
+
+
+def made(folder: pathlib.Path) -> list[pathlib.Path]:
+    """The copies, in the order in which they were first made."""
+    return sorted((it for it in folder.glob("history-*.gz") if NAME.fullmatch(it.name)), key=place)
+
+
+def copy(register: Register) -> list[str]:
+    """Copies the history, also one that was changed. Returns a line where it was not copied, for a
+    copy that cannot be read, and where it was changed."""
+    folder = register.copies / FOLDER
+    with files.as_desk():
+        folder.mkdir(mode=0o700, exist_ok=True)
+    try:
+        data = histories.whole_lines(histories.data_of(register))
+    except (OSError, Refused) as error:
+        return [f"{error}: it was not copied"]
+    problems = copy_lines(data, folder)
+    changed = Record(str(register.history), data).problem
+    return [*problems, changed] if changed else problems
+
+
+def copy_lines(data: bytes, folder: pathlib.Path) -> list[str]:
+    """Copies these lines, unless a copy has all of them. A copy is replaced only by what begins
+    with it; a history that was cut and goes on otherwise is copied beside it. Returns a line for
+    each copy that cannot be read."""
+    digest = hashlib.sha256(data.partition(b"\n")[0]).hexdigest()[:16]
+    target, problems = None, []
+    for it in made(folder):
+        if place(it)[1] != digest:
+            continue
+        try:
+            before = gzip.decompress(it.read_bytes())
+        except histories.UNREADABLE as error:
+            problems.append(f"{it} cannot be read: {error}")
+            continue
+        if before.startswith(data):
+            return problems
+        if data.startswith(before):
+            target = it
+    if data:
+        number = max((place(it)[0] for it in made(folder)), default=0) + 1
+        path = target or folder / f"history-{number:06}-{digest}.gz"
+        files.write_as_desk(path, gzip.compress(data, mtime=0))
+    return problems
+
+
+def restored(register: Register, folder: pathlib.Path) -> typing.Iterator[str]:
+    """Brings back the history from its copies, unless this machine has one: the last copy that is
+    whole. Returns a line for it, and for each copy that stays where it is."""
+    copies = made(folder)
+    if not copies:
+        yield f"there is no history in {folder}: who did what is not brought back"
+    taken: pathlib.Path | None = None
+    for path in reversed(copies):
+        if taken:
+            yield f"{path} has another history than {taken.name}, and is left where it is"
+            continue
+        try:
+            data = whole(path)
+        except Refused as error:
+            yield f"{path} is left where it is, and not brought back: {error}"
+            continue
+        taken = path
+        yield from put(register, path, data)
+
+
+def whole(path: pathlib.Path) -> bytes:
+    """The history of a copy, which must be one from its first line to its last."""
+    try:
+        data = gzip.decompress(path.read_bytes())
+    except histories.UNREADABLE as error:
+        raise Refused(f"{path} cannot be read: {error}") from error
+    found = Record(str(path), data)
+    if found.problem or not found.entries:
+        raise Refused(found.problem or f"{path} has no entry")
+    return data
+
+
+def put(register: Register, path: pathlib.Path, data: bytes) -> typing.Iterator[str]:
+    """Gives the application the history of a copy, unless it has one."""
+    if os.path.lexists(register.history):
+        if histories.data_of(register) != data:
+            yield f"{register.history} is there already, and stays as it is"
+        return
+    files.folder(register.office, 0o700, OFFICE, OFFICE)
+    files.write_as(OFFICE, register.history, data)
+    yield f"took {register.history} from {path}"
