@@ -17,7 +17,7 @@ import typing
 
 import pytest
 from conftest import ROOT, document
-from machine import answers, files, holidays, people, registers, setup
+from machine import answers, files, holidays, people, registers, settings_copy, setup
 from office.web import authority
 from register_files import Refused
 from setup_arguments import given_to_setup
@@ -543,7 +543,8 @@ def test_an_empty_file_of_a_register_is_none(
     """As a crash leaves it while the program makes it: it is asked for as if there were none."""
     register.file.write_bytes(b"")
     monkeypatch.setattr(setup, "AUTHORITY", machine / "etc/authority")
-    found = completed(monkeypatch, "secondary\n2025\n2025-04-18\nnone\n", register.name)
+    typed = "secondary\n2025\n2025-04-18\njane\nhead\nnone\n"
+    found = completed(monkeypatch, typed, register.name)
     assert (found.phase, found.year, found.holiday) == ("secondary", 2025, ["2025-04-18"])
     monkeypatch.setattr(setup, "program", lambda name: name)
     made: list[tuple[object, ...]] = []
@@ -589,7 +590,7 @@ def test_who_comes_with_a_copy_is_not_added_beside_it(
     """Nobody is asked for who comes with it; of a copy without people the first is asked for."""
     monkeypatch.setattr(setup, "AUTHORITY", machine / "etc/authority")
     people_beside = [people.User("ann", "person", "head", False)] * has_people
-    monkeypatch.setattr(setup.settings_copy, "people_beside", lambda copy: people_beside)
+    monkeypatch.setattr(settings_copy, "people_beside", lambda copy: people_beside)
     words = [register.name, "--copy", "gone.db", "--site", "x.example"]
     if has_people:
         assert completed(monkeypatch, "none\n", *words).user is None

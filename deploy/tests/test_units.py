@@ -71,25 +71,6 @@ def test_systemd_reads_the_times_as_they_are_meant(unit: str, form: str) -> None
     assert re.findall(r"Normalized form: (.*)", done.stdout) == [form]
 
 
-def test_a_log_is_kept_as_long_as_the_page_says() -> None:
-    found = dict(
-        re.findall(
-            r"(?m)^    (\w+) (\S+)$", (ROOT / "deploy/logrotate").read_text(encoding="utf-8")
-        )
-    )
-    page = " ".join((ROOT / "docs/DEPLOYMENT.md").read_text(encoding="utf-8").split())
-    # 1,100 days are three years, which may have a leap day, and some days more
-    assert {name: found.get(name) for name in ("rotate", "maxage", "maxsize")} == {
-        "rotate": "-1",
-        "maxage": "1100",
-        "maxsize": "100M",
-    }
-    assert (
-        "each month, or on the next day at 100 MB" in page
-        and "deletes those that are three years old" in page
-    )
-
-
 @pytest.fixture(name="machine_root")
 def machine_root_fixture(tmp_path: pathlib.Path) -> pathlib.Path:
     """What a register leaves on a machine, below a folder."""
@@ -110,8 +91,6 @@ def machine_root_fixture(tmp_path: pathlib.Path) -> pathlib.Path:
         "etc/admissions/a/site.key",
         "etc/admissions/a/site.crt",
         "etc/admissions/a/site.csr",
-        "etc/admissions/a/roles",
-        "etc/admissions/a/passwords",
         "etc/admissions/a/site-name",
         "etc/admissions/authority",
         "etc/nginx/sites-available/other",
@@ -160,8 +139,6 @@ def test_a_purge_removes_what_can_be_made_again_and_nothing_else(
     after["etc/nginx/nginx.conf"] = before["etc/nginx/nginx.conf"]
     assert after.items() <= before.items()
     assert sorted(before.keys() - after.keys()) == [
-        "etc/admissions/a/passwords",
-        "etc/admissions/a/roles",
         "etc/admissions/a/site-name",
         "etc/admissions/authority",
         "etc/nginx/conf.d/admissions.conf",
