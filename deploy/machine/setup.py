@@ -139,8 +139,7 @@ def main(given: argparse.Namespace) -> int:
         tool(command, package)
     if given.sites:
         with files.lock():
-            report(sites.make_all())
-        return 0
+            return again()
     if given.users or given.remove or given.accounts:
         if given.name is None:
             raise Refused("NAME is missing: of which register?", 2)
@@ -157,7 +156,8 @@ def main(given: argparse.Namespace) -> int:
 
 def set_up(register: Register, given: argparse.Namespace, changes: "Changes") -> int:
     see_site_is_free(register, given)
-    for step in (make_folders, make_register, take_settings, make_settings):
+    report(make_folders(register))
+    for step in (make_register, take_settings, make_settings):
         report(step(register, given))
     if changes.holidays is not None:
         report([holidays.change(register, given.holiday, changes.holidays)])
@@ -168,6 +168,21 @@ def set_up(register: Register, given: argparse.Namespace, changes: "Changes") ->
     if warning := certificates.warning(register):
         print(warning)
     return 0 if has_started else 1
+
+
+def again() -> int:
+    """Makes all sites again, and what the applications behind them need: an earlier version had
+    none."""
+    registers = sites.registers_with_site()
+    for register in registers:
+        report(make_folders(register))
+    report(sites.make_all())
+    begin([unit for it in registers for unit in office_units(it)])
+    for register in registers:
+        if not people.users_of(register):
+            how = f"admissions-setup {register.name} --user NAME --role head"
+            print(f"WARNING: nobody may sign in at {register.name} yet: {how}")
+    return 0
 
 
 def report(lines: typing.Iterable[str]) -> None:
@@ -304,7 +319,7 @@ def see_site_is_free(register: Register, given: argparse.Namespace) -> None:
         )
 
 
-def make_folders(register: Register, _: argparse.Namespace) -> typing.Iterator[str]:
+def make_folders(register: Register) -> typing.Iterator[str]:
     call(tool("systemd-sysusers", "systemd"), "admissions.conf")
     call(tool("systemd-tmpfiles", "systemd"), "--create", "admissions.conf")
     for path, mode, user, group in (
@@ -448,16 +463,17 @@ def set_accounts(register: Register, name: str) -> int:
     return 0
 
 
-def start(register: Register) -> bool:
-    """Enables and starts what is not, and waits until the desk answers. Returns whether it does."""
+def office_units(register: Register) -> list[str]:
+    """The units of the application of a register."""
+    return [f"admissions-office@{register.name}.{it}" for it in ("socket", "service")]
+
+
+def begin(units: list[str]) -> bool:
+    """Enables and starts the units that are not. Returns whether systemd runs, and so they do."""
     control = tool("systemctl", "systemd")
-    units = [
-        f"admissions@{register.name}.service",
-        f"admissions-office@{register.name}.socket",
-        f"admissions-office@{register.name}.service",
-        f"admissions-backup@{register.name}.timer",
-        f"admissions-drill@{register.name}.timer",
-    ]
+    if is_booted():
+        # (the package has just brought new ones)
+        call(control, "daemon-reload")
     for unit in units:
         if call(control, "is-enabled", unit, may_fail=True).stdout.strip() == "disabled":
             call(control, "enable", "--quiet", unit)
@@ -473,14 +489,26 @@ def start(register: Register) -> bool:
         if call(control, "is-active", unit, may_fail=True).stdout.strip() != "active":
             call(control, "start", unit)
             print(f"started {unit}")
-    end = time.monotonic() + WAIT
-    while status_of(register.socket) not in (200, 404):
-        if time.monotonic() > end:
-            raise Refused(f"the desk does not answer: journalctl -u admissions@{register.name}")
-        time.sleep(0.1)
-    while status_of(register.office_socket) != 401:
-        if time.monotonic() > end:
-            raise Refused("the office's application does not answer:"
-                          f" journalctl -u admissions-office@{register.name}")
-        time.sleep(0.1)
     return True
+
+
+def start(register: Register) -> bool:
+    """Starts a register with its application, and waits until both answer. Returns whether they
+    do."""
+    name = register.name
+    timers = [f"admissions-{it}@{name}.timer" for it in ("backup", "drill")]
+    if not begin([f"admissions@{name}.service", *office_units(register), *timers]):
+        return False
+    answers_of(register.socket, (200, 404), "the desk", f"admissions@{name}")
+    answers_of(register.office_socket, (401,), "the office's application",
+               f"admissions-office@{name}")
+    return True
+
+
+def answers_of(socket: pathlib.Path, wanted: tuple[int, ...], what: str, unit: str) -> None:
+    """Waits until what is behind a socket answers."""
+    end = time.monotonic() + WAIT
+    while status_of(socket) not in wanted:
+        if time.monotonic() > end:
+            raise Refused(f"{what} does not answer: journalctl -u {unit}")
+        time.sleep(0.1)
