@@ -840,6 +840,23 @@ def test_a_child_is_added_by_a_form(office: Site, screens: Screens) -> None:
     assert screens.see("add/").value("child") == "104"
 
 
+def test_a_form_that_is_sent_twice_adds_one_child(office: Site, screens: Screens) -> None:
+    """By a second click, and by Back after it is stored: no second child gets the next number."""
+    screens.see("add/")
+    given = {**FORM, "child": "8", "proposed": "8"}
+    done = screens.browser.post("/applications/add/", given)
+    again = screens.browser.post("/applications/add/", given)
+    assert (again.status_code, again.location) == (303, done.location)
+    assert states(office) == {OPEN: 1}
+    assert screens.store().status_code == 303
+    assert screens.browser.post("/applications/add/", given).location == done.location
+    assert states(office) == {COMMITTED: 1}
+    # (another child of the same home is one of its own)
+    assert screens.browser.post("/applications/add/", {**given, "name": "Max Marsh"}
+                                ).status_code == 303
+    assert states(office) == {COMMITTED: 1, OPEN: 1}
+
+
 def test_the_next_free_number() -> None:
     """After the greatest; where that is the last there is, the least that is free."""
     assert staging_form.next_free([]) == 1

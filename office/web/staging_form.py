@@ -31,6 +31,12 @@ def cells_of(form: Mapping[str, str]) -> dict[str, str]:
     return whole({**typed, "preferences": ";".join(listed)})
 
 
+def same(rows: Iterable[Staged], cells: Mapping[str, str]) -> Staged | None:
+    """The row of a form that has all of these cells but for the number: it was sent twice."""
+    wanted = {**cells, "child": ""}
+    return next((it for it in rows if it.is_form and {**it.cells, "child": ""} == wanted), None)
+
+
 def preferences_of(cells: Mapping[str, str]) -> list[str]:
     """The preferences of cells, one for each field of the form."""
     listed = cells["preferences"].split(";") if cells["preferences"] else []

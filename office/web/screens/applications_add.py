@@ -11,7 +11,7 @@ from .. import staging_form, staging_page
 from ..guard import needs, person
 from ..people import RECORD
 from ..staging_check import Table, said
-from ..staging_rows import OPEN
+from ..staging_rows import COMMITTED, OPEN, SENDING
 from ..staging_tools import number_in, register_now, table_now, tools
 
 screen = flask.Blueprint("applications_add", __name__, url_prefix="/applications/add")
@@ -63,6 +63,10 @@ def add() -> Answer:
     register, _ = register_now()
     with staging.lock:
         if cells["child"] in ("", form.get("proposed", "")):
+            # (by a second click, or by Back: the next number would make another child of it)
+            if there := staging_form.same(staging.rows(OPEN, SENDING, COMMITTED), cells):
+                return flask.redirect(
+                    flask.url_for("applications_add.show", added=there.id), 303)
             # (which somebody else may have got meanwhile)
             cells["child"] = str(free_number(register) or "")
         table = tools().checker.table(
