@@ -193,6 +193,14 @@ def test_people_are_added_and_kept_out(office: Site) -> None:
     assert ("hal", "added", "ann") in kept and ("hal", "locked", "ann") in kept
 
 
+def test_a_new_password_ends_the_other_sessions(office: Site) -> None:
+    """Whoever has a session that was left open, or was stolen, is out."""
+    jane, other, bo = office.browser("jane"), office.browser("jane"), office.browser("bo")
+    given = {"present": office.passwords["jane"], "new": "a sea of grey boats"}
+    assert jane.post("/password", {**given, "again": given["new"]}).status_code == 303
+    assert [it.get("/").status_code for it in (jane, other, bo)] == [200, 302, 200]
+
+
 def test_attempts_wait_longer_and_longer() -> None:
     """For a name that exists and for one that does not alike, and not for other addresses."""
     moment = [0.0]

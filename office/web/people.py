@@ -175,7 +175,7 @@ class People:
             db.execute("DELETE FROM person WHERE name=?", (name,))
 
     def set_password(self, person: Person, old: str, new: str) -> None:
-        """Gives a person a password of their own."""
+        """Gives a person a password of their own, and ends their other sessions."""
         row = self.store.row("SELECT hash FROM person WHERE name=?", person.name)
         if not row or not self.is_right(row["hash"], old):
             raise Refused("the present password is wrong")
@@ -186,6 +186,8 @@ class People:
         with self.store.writing() as db:
             db.execute("UPDATE person SET hash=?, must_change=0 WHERE name=?",
                        (self.hasher.hash(new), person.name))
+            db.execute("DELETE FROM session WHERE person=? AND form<>?",
+                       (person.name, person.form))
 
     def is_right(self, hashed: str, password: str) -> bool:
         """Whether a password is that of a hash."""
