@@ -5,6 +5,7 @@ from collections.abc import Iterator
 
 import pytest
 from applications import ORIGIN, ROUND, Browser, Site, office_over, town
+from pages import Page
 from register_files import Refused
 
 from office.web import guard, history, people
@@ -199,6 +200,19 @@ def test_a_new_password_ends_the_other_sessions(office: Site) -> None:
     given = {"present": office.passwords["jane"], "new": "a sea of grey boats"}
     assert jane.post("/password", {**given, "again": given["new"]}).status_code == 303
     assert [it.get("/").status_code for it in (jane, other, bo)] == [200, 302, 200]
+
+
+def test_nobody_is_given_a_role_that_was_not_chosen(office: Site) -> None:
+    """The form has no role until one is chosen, and a program is given a token and no password."""
+    hal = office.browser("hal", "head")
+    form = Page(hal.get("/people/").text).form("Add")
+    assert form.values.get("role", []) == [""]
+    found = hal.post("/people/", form.sent_by("Add", name="ann"))
+    assert found.status_code == 409 and "choose a role" in Page(found.text).said()
+    assert office.parts.people.store.row("SELECT 1 FROM person WHERE name='ann'") is None
+    given = {"what": "add", "name": "portal", "role": "reader", "kind": "program"}
+    assert "The token of portal" in Page(hal.post("/people/", given).text).text.replace(
+        "<bdi>", "").replace("</bdi>", "")
 
 
 def test_attempts_wait_longer_and_longer() -> None:

@@ -267,5 +267,7 @@ class People:
 
 def see_role(role: str) -> None:
     """Refuses what is no role."""
+    if not role:
+        raise Refused("choose a role")
     if not is_role(role):
         raise Refused(f"{role} is no role: {', '.join(ROLES)}, or {SCHOOL}CODE")

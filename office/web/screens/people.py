@@ -11,8 +11,10 @@ screen = flask.Blueprint("people", __name__, url_prefix="/people")
 Answer = str | Response | tuple[str, int]
 
 
-def page(said: str = "", secret: tuple[str, str] | None = None, status: int = 200) -> Answer:
-    """The list of all, with a secret that is shown once."""
+def page(
+    said: str = "", secret: tuple[str, str, bool] | None = None, status: int = 200,
+) -> Answer:
+    """The list of all, with a secret that is shown once: whose it is, and whether it is a token."""
     rows = parts().store.rows("SELECT * FROM person ORDER BY kind, name")
     schools: list[str] = []
     try:
@@ -20,8 +22,8 @@ def page(said: str = "", secret: tuple[str, str] | None = None, status: int = 20
     except Refused:
         pass
     return flask.render_template(
-        "people.html", rows=rows, said=said, secret=secret, roles=people.ROLES,
-        school_roles=[people.SCHOOL + it for it in schools]), status
+        "people.html", rows=rows, said=said, is_bad=status != 200, secret=secret,
+        roles=people.ROLES, school_roles=[people.SCHOOL + it for it in schools]), status
 
 
 @screen.get("/")
@@ -31,12 +33,12 @@ def show() -> Answer:
     return page()
 
 
-def role_of(name: str) -> str:
-    """The role of a person, or a refusal."""
-    row = parts().store.row("SELECT role FROM person WHERE name=?", name)
+def role_and_kind(name: str) -> tuple[str, str]:
+    """The role of a person, and whether it is a program; or a refusal."""
+    row = parts().store.row("SELECT role, kind FROM person WHERE name=?", name)
     if not row:
         raise Refused(f"there is no {name}")
-    return str(row["role"])
+    return row["role"], row["kind"]
 
 
 def see_another(name: str) -> None:
@@ -57,24 +59,26 @@ def change() -> Answer:
             kind = PROGRAM if form.get("kind") == PROGRAM else PERSON
             people.see_role(role)
             guard.record("added", person=name, role=role, kind=kind)
-            return page(f"{name} is added.", (name, found.add(name, role, kind)))
-        role_of(name)
+            secret = found.add(name, role, kind)
+            return page(f"{name} is added.", (name, secret, kind == PROGRAM))
+        before, kind = role_and_kind(name)
         see_another(name)
         if what == "role":
             people.see_role(role)
-            guard.record("gave a role", person=name, role=role, before=role_of(name))
+            guard.record("gave a role", person=name, role=role, before=before)
             found.set_role(name, role)
             return page(f"{name} has the role {role} now, and is signed out.")
         if what == "reset":
-            guard.record("drew a new password", person=name)
-            return page(f"{name} has a new password, and is signed out.",
-                        (name, found.reset(name)))
+            new = "token" if kind == PROGRAM else "password"
+            guard.record(f"drew a new {new}", person=name)
+            return page(f"{name} has a new {new}, and is signed out.",
+                        (name, found.reset(name), kind == PROGRAM))
         if what in ("lock", "unlock"):
             guard.record(f"{what}ed", person=name)
             found.lock(name, what == "lock")
             return page(f"{name} is {what}ed.")
         if what == "remove":
-            guard.record("removed", person=name, role=role_of(name))
+            guard.record("removed", person=name, role=before)
             found.remove(name)
             return page(f"{name} is removed. What {name} did stays in the history.")
     except Refused as error:
