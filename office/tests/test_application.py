@@ -215,6 +215,24 @@ def test_nobody_is_given_a_role_that_was_not_chosen(office: Site) -> None:
         "<bdi>", "").replace("</bdi>", "")
 
 
+def test_a_person_with_a_pile_is_not_removed(office: Site) -> None:
+    """The answers that wait would be gone with them. What is refused is not on record as done."""
+    jane, hal = office.browser("jane"), office.browser("hal", "head")
+    assert jane.post("/answers/", {"entry": "1"}).status_code == 303
+    found = hal.post("/people/", {"what": "remove", "name": "jane"})
+    assert found.status_code == 409 and "1 answer in a pile" in Page(found.text).said()
+    assert len(office.parts.store.rows("SELECT 1 FROM answer WHERE person='jane'")) == 1
+    jane.post("/answers/remove", {"number": "all"})
+    assert hal.post("/people/", {"what": "add", "name": "Ann B", "role": "reader"}
+                    ).status_code == 409
+    assert hal.post("/people/", {"what": "add", "name": "hal", "role": "reader"}
+                    ).status_code == 409
+    assert hal.post("/people/", {"what": "remove", "name": "jane"}).status_code == 200
+    assert jane.get("/").status_code == 302
+    assert [(it.what, it.about["person"]) for it in office.parts.history.entries
+            if it.who == "hal" and it.what in ("added", "removed")] == [("removed", "jane")]
+
+
 def test_attempts_wait_longer_and_longer() -> None:
     """For a name that exists and for one that does not alike, and not for other addresses."""
     moment = [0.0]

@@ -9,7 +9,7 @@ from collections.abc import Callable
 
 from register_files import Refused
 
-from office import rules
+from office import rules, texts
 
 from .history import now
 from .store import Store
@@ -123,18 +123,22 @@ class People:
         # (so that a name that does not exist takes as long)
         self.nobody = self.hasher.hash(secrets.token_urlsafe(18))
 
-    def add(self, name: str, role: str, kind: str = PERSON) -> str:
-        """Adds a person or a program, and returns the drawn password or token, which is shown
-        once.
-        """
+    def see_new(self, name: str, role: str) -> None:
+        """Refuses somebody who cannot be added."""
         if not NAME.fullmatch(name):
             raise Refused("a name is 1 to 64 of a-z, 0-9 and . _ @ + -, and begins with a letter"
                           " or a figure")
         see_role(role)
+        if self.store.row("SELECT 1 FROM person WHERE name=?", name):
+            raise Refused(f"{name} is there already")
+
+    def add(self, name: str, role: str, kind: str = PERSON) -> str:
+        """Adds a person or a program, and returns the drawn password or token, which is shown
+        once.
+        """
         secret = secrets.token_urlsafe(18)
         with self.store.writing() as db:
-            if db.execute("SELECT 1 FROM person WHERE name=?", (name,)).fetchone():
-                raise Refused(f"{name} is there already")
+            self.see_new(name, role)
             db.execute("INSERT INTO person (name, kind, role, hash, must_change, added)"
                        " VALUES (?, ?, ?, ?, ?, ?)",
                        (name, kind, role, self.hash_of(secret, kind), kind == PERSON, now()))
@@ -169,9 +173,19 @@ class People:
             self.changed(name, "hash=?, must_change=?", self.hash_of(secret, kind), kind == PERSON)
         return secret
 
+    def see_removable(self, name: str) -> None:
+        """Refuses to remove a person whose answers wait in a pile, and would be gone with them."""
+        found = self.store.row(
+            "SELECT count(*) AS many FROM answer WHERE person=? AND state<>'done'", name)
+        if found and found["many"]:
+            have = texts.count(found["many"], "answer")
+            raise Refused(f"{name} has {have} in a pile that nobody has recorded, which would be"
+                          f" lost: they are recorded or removed first. {name} can be locked")
+
     def remove(self, name: str) -> None:
         """Removes a person. What they did stays in the history."""
         with self.store.writing() as db:
+            self.see_removable(name)
             db.execute("DELETE FROM person WHERE name=?", (name,))
 
     def set_password(self, person: Person, old: str, new: str) -> None:

@@ -57,7 +57,7 @@ def change() -> Answer:
     try:
         if what == "add":
             kind = PROGRAM if form.get("kind") == PROGRAM else PERSON
-            people.see_role(role)
+            found.see_new(name, role)
             guard.record("added", person=name, role=role, kind=kind)
             secret = found.add(name, role, kind)
             return page(f"{name} is added.", (name, secret, kind == PROGRAM))
@@ -78,6 +78,7 @@ def change() -> Answer:
             found.lock(name, what == "lock")
             return page(f"{name} is {what}ed.")
         if what == "remove":
+            found.see_removable(name)
             guard.record("removed", person=name, role=before)
             found.remove(name)
             return page(f"{name} is removed. What {name} did stays in the history.")
