@@ -10,7 +10,7 @@ import pytest
 from applications import ROUND, Browser, Site, child, office_over, town
 from pages import Page, press
 
-from office.web import children, corrections, flags, wording
+from office.web import children, corrections, effects, flags, wording
 from office.web.people import Person
 from office.web.screens import child as screen
 
@@ -292,6 +292,25 @@ def test_an_import_is_the_first_entry_of_a_child(office: Site) -> None:
         assert [it[1:] for it in table[1:]] == [
             ["jane", f"imported, with the application of {said}", "done"]]
     assert Page(rita.get("/children/1").text).tables["history"][1][1] == ""
+
+
+def test_an_import_is_read_as_the_register_reads_it(office: Site) -> None:
+    """With a byte order mark, lines that end with CR, and quotes: it is in the history of its
+    children, and is known to be done where its answer was lost.
+    """
+    header = "child,name,east,north,looked_after,flags,siblings,day,preferences"
+    fay = "\"12\",\"Abel, Fay\",1,2,no,,,2024-10-20,A;B"
+    data = "\ufeff" + "\r".join([header, fay, "13,Gil,1,2,no,,,2024-10-21,B", ""])
+    assert not effects.is_imported(office.parts.desk.now(), data)
+    result = office.parts.desk.send_import(Person("jane", "officer"), data.encode())
+    assert result.is_done, result
+    assert effects.is_imported(office.parts.desk.now(), data)
+    rita = office.browser("rita", "reader")
+    for number, said in ((12, "20 October 2024: A, B"), (13, "21 October 2024: B")):
+        table = Page(rita.get(f"/children/{number}").text).tables["history"]
+        assert [it[1:] for it in table[1:]] == [
+            ["jane", f"imported, with the application of {said}", "done"]]
+    assert not effects.is_imported(office.parts.desk.now(), f"{header}\n1,{'x' * 200_000}\n")
 
 
 def test_a_name_in_a_button_is_only_a_name() -> None:

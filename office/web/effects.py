@@ -97,9 +97,19 @@ def is_held(register: Register, command: Command) -> bool:
     return bool([lots[it] for it in sorted(lots)] == command["lots"])
 
 
+def rows_of(rows: str) -> list[dict[str, str]]:
+    """The rows of an import, as the register reads them: without a byte order mark, and with lines
+    that end with LF, CR or both. None where they cannot be read: no register takes them.
+    """
+    try:
+        return list(csv.DictReader(io.StringIO(rows.removeprefix("\ufeff"), newline=None)))
+    except csv.Error:
+        return []
+
+
 def is_imported(register: Register, rows: str) -> bool:
     """Whether a register has each child of the rows of an import, by number and name."""
-    found = list(csv.DictReader(io.StringIO(rows)))
+    found = rows_of(rows)
     names = {str(it.number): it.name for it in register.children.values()}
     return bool(found) and all(
         names.get(trimmed(it.get("child") or "")) == trimmed(it.get("name") or "")

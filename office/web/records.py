@@ -1,15 +1,14 @@
 """What the history has of a child, in words: who recorded what and when, and what came of it; with
 the draws in which the child took part.
 """
-import csv
 import dataclasses
-import io
 from collections.abc import Callable, Iterable, Iterator, Mapping
 from typing import Any
 
 from office import commands, days, rules, texts
 from office.model import Register
 
+from . import effects
 from .history import ANSWER, SENDS, SETTLED, Entry, History
 from .wording import draw_in_words, label, sentence
 
@@ -87,14 +86,12 @@ def came_of(entry: Entry, ends: Mapping[int, Entry]) -> tuple[str, bool]:
     return sentence(commands.in_words(answer, entry.about.get("command"))), False
 
 
-def has_row(rows: str, number: int) -> bool:
-    """Whether an import has a child. Its number is the first of a row."""
-    return f"\n{number}," in rows.replace("\r", "")
-
-
-def row_in(rows: str, number: int) -> dict[str, str]:
-    """The row of a child in an import."""
-    return next(it for it in csv.DictReader(io.StringIO(rows)) if it.get("child") == str(number))
+def row_in(rows: str, number: int) -> dict[str, str] | None:
+    """The row of a child in an import, if it has one."""
+    text = str(number)
+    if text not in rows:
+        return None
+    return next((it for it in effects.rows_of(rows) if it.get("child") == text), None)
 
 
 def ends_of(entries: Iterable[Entry]) -> dict[int, Entry]:
@@ -118,8 +115,7 @@ def of_child(history: History, register: Register, number: int) -> list[Record]:
         elif command.get("child") == number:
             found.append(Record(it.at, it.who, in_words(command, before), came, is_done))
             before = command if is_done and command["cmd"] in WHOLE else before
-        elif "import" in it.about and has_row(it.about["import"], number):
-            row = row_in(it.about["import"], number)
+        elif "import" in it.about and (row := row_in(it.about["import"], number)):
             words = f"imported, with the application of {day_in(row)}: {row.get('preferences')}"
             found.append(Record(it.at, it.who, words.replace(";", ", "), came, is_done))
     found += [of_draw(register, at, number, draws.get(at)) for at, outcomes
