@@ -4,7 +4,7 @@ import pathlib
 from collections.abc import Iterator
 
 import pytest
-from applications import ORIGIN, ROUND, Browser, Site, office_over, town
+from applications import ORIGIN, ROUND, Browser, Site, office_over, site, town
 from pages import Page
 from register_files import Refused
 
@@ -231,6 +231,19 @@ def test_a_person_with_a_pile_is_not_removed(office: Site) -> None:
     assert jane.get("/").status_code == 302
     assert [(it.what, it.about["person"]) for it in office.parts.history.entries
             if it.who == "hal" and it.what in ("added", "removed")] == [("removed", "jane")]
+
+
+def test_a_register_that_is_away_is_said(tmp_path: pathlib.Path) -> None:
+    """In words, for a page and for a program; and so is a code that is no code."""
+    with site(tmp_path, "http://127.0.0.1:9") as office:
+        jane = office.browser("jane")
+        for path in ("/child/1", "/draw/1", "/pairs", "/pairs/A", "/school/A/waiting", "/register"):
+            found = jane.client.get(path, base_url=ORIGIN)
+            assert found.status_code == 409, path
+            assert "the register does not answer now" in (found.json or {})["reason"], path
+        for code in ("%20", "A%0d%0aX", "%C3%A9", "A%3Fx"):
+            for path in (f"/pairs/{code}", f"/school/{code}/waiting"):
+                assert jane.client.get(path, base_url=ORIGIN).status_code == 404, path
 
 
 def test_attempts_wait_longer_and_longer() -> None:

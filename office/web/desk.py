@@ -145,12 +145,16 @@ class Desk:
             self.copy = moment, register, document
             return register, document
 
-    def document(self) -> bytes:
-        """The document of the register."""
+    def asked(self, path: str) -> tuple[int, bytes]:
+        """The register's own answer to a path, with its status."""
         try:
-            status, document = self.sender.ask("GET", "/register")
+            return self.sender.ask("GET", path)
         except senders.Ended as error:
             raise Refused(f"the register does not answer now: {error}") from error
+
+    def document(self) -> bytes:
+        """The document of the register."""
+        status, document = self.asked("/register")
         if status != 200:
             said = commands.read(document)
             reason, _ = senders.refusal(status, said if isinstance(said, dict) else {})

@@ -2,7 +2,7 @@
 import flask
 from register_files import Refused
 
-from office import commands
+from office import commands, rules
 
 from .. import guard
 from ..desk import DIFFERS, DONE, REFUSED, Result, Seen
@@ -15,7 +15,7 @@ JSON = "application/json"
 
 def passed(path: str) -> flask.Response:
     """The register's own answer to a path."""
-    status, body = parts().desk.sender.ask("GET", path)
+    status, body = parts().desk.asked(path)
     return flask.Response(body, status, mimetype=JSON if body[:1] == b"{" else "text/plain")
 
 
@@ -63,12 +63,21 @@ def read(number: int) -> flask.Response:
     return passed(flask.request.path)
 
 
+def see_code(code: str) -> None:
+    """Answers that there is no such page, where an address has no code of a school."""
+    if not rules.is_code(code):
+        flask.abort(404)
+
+
 @screen.get("/pairs")
 @screen.get("/pairs/<code>")
 @needs(READ)
 def pairs(code: str = "") -> flask.Response:
     """The pairs of the next round, or of a fill at a school."""
-    return passed(f"/pairs/{code}" if code else "/pairs")
+    if not code:
+        return passed("/pairs")
+    see_code(code)
+    return passed(f"/pairs/{code}")
 
 
 @screen.get("/school/<code>/waiting")
@@ -76,6 +85,7 @@ def pairs(code: str = "") -> flask.Response:
 def waiting(code: str) -> flask.Response:
     """The waiting list of a school."""
     guard.see_own_school(code)
+    see_code(code)
     return passed(f"/school/{code}/waiting")
 
 
