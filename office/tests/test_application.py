@@ -132,6 +132,29 @@ def test_a_command_is_on_record_before_and_after(office: Site) -> None:
     assert "accept child 1 school A" in page and "jane" in page
 
 
+def test_what_seems_to_be_no_command_is_on_record_too(
+    office: Site, monkeypatch: pytest.MonkeyPatch
+) -> None:
+    """The register says what is wrong with it. One that knows more than the application may take
+    it: so it goes no other way than a command, also while a draw has the register closed.
+    """
+    jane = office.browser("jane")
+    found = jane.command({"cmd": "no_such"})
+    assert (found.status_code, (found.json or {}).get("name")) == (400, "UnknownCommand")
+    assert "no_such" in Page(jane.get("/activity/").text).text
+    monkeypatch.setattr("office.commands.wrong_field", lambda _: "a field is new")
+    monkeypatch.setattr(office.parts.desk, "closed", lambda: "Closed for draw 2 by hal.")
+    assert jane.command(ACCEPT).status_code == 503
+    assert office.parts.desk.now().places[1].kind == "offered"
+    monkeypatch.setattr(office.parts.desk, "closed", str)
+    assert jane.command(ACCEPT).json == {"done": True}
+    sent, answer = office.parts.history.entries[-2:]
+    assert (sent.who, sent.what) == ("jane", "sends")
+    assert json.loads(sent.about["line"]) == ACCEPT and answer.about["answer"] == {"done": True}
+    office.parts.history.add("jane", "sends", {"line": "{}"})
+    assert jane.command({"cmd": "decline", "child": 2, "school": "A"}).status_code == 200
+
+
 def test_what_a_colleague_recorded_meanwhile_is_named(office: Site) -> None:
     """A stale page does not decline a place that was accepted since."""
     jane, bo = office.browser("jane"), office.browser("bo")

@@ -23,6 +23,8 @@ Command = dict[str, Any]
 FRESH_SECONDS = 2.0
 # a request that had no answer is looked for once more after this
 AGAIN_SECONDS = 1.0
+# so many characters of a line that is no command are on record
+MOST_LINE = 1000
 # these are held on a screen of their own, with a second person
 DRAWS = ("round", "fill")
 DONE, REFUSED, DIFFERS, UNSENT, LOST = "done", "refused", "differs", "unsent", "not done"
@@ -184,6 +186,16 @@ class Desk:
             line = json.dumps(command, separators=(",", ":"), ensure_ascii=False).encode()
             return self.exchange(who, {"command": command}, lambda: self.sender.send(line))
 
+    def pass_on(self, who: Person, line: bytes) -> Result:
+        """Sends what is no command as far as is known here, for what the register says of it. It
+        may know more, and take it: so this goes in its turn, and is on record before.
+        """
+        with self.lock:
+            if reason := self.reason(False):
+                return Result(UNSENT, reason)
+            about = {"line": line.decode("utf-8", "replace")[:MOST_LINE]}
+            return self.exchange(who, about, lambda: self.sender.send(line))
+
     def send_import(self, who: Person, rows: bytes) -> Result:
         """Sends the rows of an import, which are stored all or not at all."""
         with self.lock:
@@ -295,6 +307,9 @@ class Desk:
 
     def is_done(self, entry: Entry) -> bool:
         """Whether the register is as after a request."""
+        if "line" in entry.about:
+            # (which nothing here knows the effect of)
+            return False
         register = self.now()
         if "command" in entry.about:
             return effects.is_done(register, entry.about["command"])

@@ -3,6 +3,8 @@ from typing import Any
 
 import flask
 
+from office import texts
+
 from ..guard import needs, parts
 from ..history import ANSWER, SENDS, SETTLED, Entry
 from ..people import READ
@@ -39,6 +41,8 @@ def in_words(it: Entry) -> str:
         return f"{it.what} {text_of(it.about)}"
     if "import" in it.about:
         return "import of applications"
+    if "line" in it.about:
+        return f"a line that is no command: {texts.visible(it.about['line'])}"
     named = {name: value for name, value in it.about["command"].items() if name != "lots"}
     return f"{named.pop('cmd')} {text_of(named)}"
 

@@ -112,9 +112,8 @@ def command() -> flask.Response:
     """A command of the page, or of a program."""
     given = commands.read(flask.request.get_data())
     if not isinstance(given, dict) or commands.wrong_field(given):
-        # (the register says what is wrong, and changes nothing)
-        status, body = parts().desk.sender.ask("POST", "/command", flask.request.get_data())
-        return flask.Response(body, status, mimetype=JSON)
+        # (the register says what is wrong)
+        return answered(parts().desk.pass_on(person(), flask.request.get_data()))
     seen = flask.request.headers.get("X-Seen")
     found = parts().desk.send(person(), given, Seen(seen) if seen else None)
     return answered(found)
