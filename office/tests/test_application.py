@@ -217,6 +217,39 @@ def test_people_are_added_and_kept_out(office: Site) -> None:
     assert ("hal", "added", "ann") in kept and ("hal", "locked", "ann") in kept
 
 
+def test_what_is_typed_survives_the_end_of_a_session(office: Site) -> None:
+    """It is shown and sent again after another sign-in; and so is what a page of an earlier session
+    has. Another site finds out nothing, and a password is never shown.
+    """
+    jane = office.browser("jane")
+    jane.get("/flags/")
+    words = {"seen": "{}", "flag-2": " medical <b>need</b>", "flag-3": "\ntwo\nlines"}
+    with office.parts.store.writing() as db:
+        db.execute("DELETE FROM session")
+    found = jane.post("/flags/", words)
+    page = Page(found.text)
+    assert found.status_code == 401 and "Your session has ended" in page.said()
+    assert "medical &lt;b&gt;need" in page.text and "<b>need" not in page.text
+    assert jane.sign_in("jane", office.passwords["jane"]).status_code == 303
+    form = page.form("Send it again")
+    stale = jane.post(form.action, {**words, "form": "of the session before"})
+    again = Page(stale.text)
+    assert stale.status_code == 403 and "an earlier session" in again.said()
+    assert again.form("Send it again").action == form.action == "/flags/"
+    assert set(again.form("Send it again").values) == {"form", *words}
+    sent = jane.post("/flags/", {**words, "flag-3": ""})
+    assert sent.status_code == 303
+    assert office.parts.store.setting("flags") == '{"2": "medical <b>need</b>"}'
+    headers = {"Origin": "https://evil.example", "Accept": "text/html"}
+    other = jane.client.post("/flags/", base_url=ORIGIN, headers=headers, data=words)
+    assert other.status_code == 403 and "medical" not in other.text
+    with office.parts.store.writing() as db:
+        db.execute("DELETE FROM session")
+    secret = {"present": "a sea of grey boats", "new": "a hill of red roofs", "again": "another"}
+    found = jane.post("/password", secret)
+    assert found.status_code == 401 and not any(it in found.text for it in secret.values())
+
+
 def test_a_new_password_ends_the_other_sessions(office: Site) -> None:
     """Whoever has a session that was left open, or was stolen, is out."""
     jane, other, bo = office.browser("jane"), office.browser("jane"), office.browser("bo")

@@ -10,6 +10,7 @@ from register_files import Refused
 from werkzeug.exceptions import HTTPException
 from werkzeug.wrappers import Response as AnyResponse
 
+from . import wording
 from .parts import Parts
 from .people import Person
 
@@ -34,6 +35,13 @@ HEADERS = {
 REFUSED_SECONDS = 60
 # what somebody may do whose password was drawn by somebody else
 BEFORE_CHANGE = ("signing.password", "signing.sign_out", "signing.signed_in")
+# what was typed is kept over the end of a session up to this size, and on these pages never
+MOST_TYPED = 1_000_000
+SECRET = ("signing.sign_in", "signing.password")
+ENDED = ("Your session has ended, and nothing was done. Sign in again, and then send once more what"
+         " you typed: it is below.")
+EARLIER = ("This page was of an earlier session, and nothing was done. What you typed is below:"
+           " read it, and send it again if it still holds.")
 View = TypeVar("View", bound=Callable[..., Any])
 
 
@@ -115,6 +123,24 @@ class Refusals:
             return is_due
 
 
+def again(status: int, reason: str) -> AnyResponse | None:
+    """The answer that keeps what was typed on a page of this site, so that it can be sent again; or
+    None where there is nothing. No password is in it.
+    """
+    request = flask.request
+    is_typed = (
+        request.method == "POST" and wants_page() and request.endpoint not in SECRET
+        and request.headers.get("Origin") == parts().config.origin
+        and (request.content_length or 0) <= MOST_TYPED
+    )
+    typed = [it for it in request.form.items(multi=True) if it[0] != "form"] if is_typed else []
+    if not typed:
+        return None
+    return flask.make_response(flask.render_template(
+        "again.html", reason=reason, typed=typed, has_files=bool(request.files),
+        label=wording.label), status)
+
+
 def see() -> AnyResponse | None:
     """Lets a request pass, or answers it."""
     request = flask.request
@@ -128,9 +154,10 @@ def see() -> AnyResponse | None:
     if right != PUBLIC and found is None:
         if request.method == "GET" and "text/html" in request.headers.get("Accept", ""):
             return flask.redirect(flask.url_for("signing.sign_in", to=target()))
-        flask.abort(401)
+        return again(401, ENDED) or flask.abort(401)
     if request.method not in ("GET", "HEAD") and is_foreign():
-        flask.abort(403, "a request must come from a page of this site")
+        kept = again(403, EARLIER) if found else None
+        return kept or flask.abort(403, "a request must come from a page of this site")
     if right == PUBLIC or found is None:
         return None
     parts().hear()
