@@ -238,6 +238,25 @@ def test_a_correction_shows_what_it_changes(office: Site) -> None:
     assert "East, in metres 7 → 50000" in rows[0][2]
 
 
+def test_a_correction_does_not_undo_another_unseen(office: Site) -> None:
+    """A form that was opened before a colleague's correction has the data from before it: that it
+    would bring them back is said, with who recorded what is there now.
+    """
+    jane, bo = office.browser("jane"), office.browser("bo")
+    page = Page(jane.get("/children/1/correct").text)
+    moved = {**child(1, "Ada Abel", 900), "cmd": "amend", "present": ""}
+    assert bo.command(moved).json == {"done": True}
+    asked = press(jane, "/children/1/correct", page, "Compare with the register", name="Ada Abell")
+    question = Page(asked.text)
+    assert asked.status_code == 409 and "Child 1: bo recorded a correction at" in question.said()
+    assert [it[0] for it in question.tables["changes"][1:]] == ["Name", "North, in metres"]
+    # (who has read it, and goes on, may)
+    done = press(jane, "/children/1/correct", question, "Correct the data of Ada Abel")
+    assert done.status_code == 303
+    found = office.parts.desk.now().children[1]
+    assert (found.name, found.north) == ("Ada Abell", 100)
+
+
 def test_a_correction_that_is_wrong_stays_in_the_form(office: Site) -> None:
     """With each error at its field; one that changes nothing is not sent."""
     jane = office.browser("jane")

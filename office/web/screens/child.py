@@ -177,12 +177,14 @@ def form_page(
     number: int, cells: dict[str, str], wrong: dict[str, str] | None = None, said: str = "",
     status: int = 200,
 ) -> Answer:
-    """The form, with what was typed."""
+    """The form, with what was typed, and what was seen of the child when it was opened."""
     register = child_in(number)
+    present = seen_of(register, {"cmd": "amend", "child": number}).text
     words = flags.present()
     return flask.render_template(
         "correct.html", child=register.children[number], fields=FIELDS, cells=cells,
         wrong=wrong or {}, said=said, is_bad=status != 200, label=wording.label,
+        seen=flask.request.form.get("seen", present),
         is_choice=corrections.is_choice, is_flags=corrections.is_flags,
         flags=[(it, flags.named(it, words)) for it in flags.NUMBERS]), status
 
@@ -204,9 +206,10 @@ def do_correct(number: int) -> Answer:
     if wrong or what == "edit":
         said = "Nothing was sent: see the fields that are marked." if wrong else ""
         return form_page(number, cells, wrong, said, 400 if wrong else 200)
-    said = ""
+    seen = Seen(flask.request.form.get("seen", ""))
+    # (a form that was opened before another correction has the data from before it)
+    said = parts().desk.changed(register, command, seen)
     if what == "send":
-        seen = Seen(flask.request.form.get("seen", ""))
         result = parts().desk.send(person(), command, seen)
         if result.is_done:
             return flask.redirect(flask.url_for("child.show", number=number, recorded="yes"), 303)
