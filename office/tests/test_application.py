@@ -317,6 +317,24 @@ def test_attempts_wait_longer_and_longer() -> None:
     assert found.wait("jane 192.0.2.1", "192.0.2.1") == 0
 
 
+def test_attempts_are_forgotten() -> None:
+    """An office has one address: what failed there in a month would lock all out at each slip."""
+    moment = [0.0]
+    found = people.Attempts(lambda: moment[0])
+    for _ in range(20):
+        found.fail("192.0.2.1")
+        moment[0] += found.wait("192.0.2.1")
+    found.fail("192.0.2.1")
+    assert found.wait("192.0.2.1") == people.LONGEST_WAIT
+    # (who goes on trying gains nothing by the wait)
+    moment[0] += people.LONGEST_WAIT + people.FORGOTTEN_AFTER - 1
+    found.fail("192.0.2.1")
+    assert found.wait("192.0.2.1") == people.LONGEST_WAIT
+    moment[0] += people.LONGEST_WAIT + people.FORGOTTEN_AFTER + 1
+    found.fail("192.0.2.1")
+    assert found.wait("192.0.2.1") == 0
+
+
 def test_a_name_that_exists_is_answered_as_one_that_does_not(office: Site) -> None:
     """In words, in the wait, and with a slow hash for both."""
     office.add("jane", "officer")

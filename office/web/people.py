@@ -44,6 +44,8 @@ IDLE_SECONDS, SESSION_SECONDS = 30 * 60, 10 * 3600
 # so many attempts that fail are free; each after them doubles the wait, up to the longest
 FREE_ATTEMPTS, LONGEST_WAIT = 5, 300
 HASHES_AT_ONCE = 4
+# an office has one address for all: failures are forgotten so many seconds after the last wait
+FORGOTTEN_AFTER = 3600
 WRONG = "The name or the password is wrong."
 
 
@@ -95,7 +97,8 @@ class Attempts:
         """Counts one that failed."""
         with self.lock:
             for key in keys:
-                count = self.failed.pop(key, (0, 0.0))[0] + 1
+                count, until = self.failed.pop(key, (0, 0.0))
+                count = 1 if self.clock() - until > FORGOTTEN_AFTER else count + 1
                 wait = min(LONGEST_WAIT, 2 ** min(count - FREE_ATTEMPTS, 30)) if (
                     count >= FREE_ATTEMPTS) else 0
                 self.failed[key] = count, self.clock() + wait
