@@ -1,14 +1,16 @@
 """The application: who may do what, what is on record, and what is sent only if nothing changed."""
 import json
 import pathlib
+import sqlite3
 from collections.abc import Iterator
+from typing import Any
 
 import pytest
 from applications import ORIGIN, ROUND, Browser, Site, office_over, site, town
 from pages import Page
 from register_files import Refused
 
-from office.web import guard, history, people
+from office.web import guard, history, people, store
 from office.web.desk import seen_of
 
 ACCEPT = {"cmd": "accept", "child": 1, "school": "A"}
@@ -333,6 +335,38 @@ def test_attempts_are_forgotten() -> None:
     moment[0] += people.LONGEST_WAIT + people.FORGOTTEN_AFTER + 1
     found.fail("192.0.2.1")
     assert found.wait("192.0.2.1") == 0
+
+
+def test_a_store_that_was_full_goes_on(tmp_path: pathlib.Path) -> None:
+    """A transaction that cannot be ended is taken back whole, with its own error; the next one
+    begins.
+    """
+    found = store.Store(str(tmp_path / "office.db"))
+
+    class Full:
+        """A connection whose disk is full when a transaction is to be ended."""
+
+        def execute(self, text: str, *given: Any) -> Any:
+            """Runs a statement."""
+            if text == "COMMIT":
+                raise sqlite3.OperationalError("disk I/O error")
+            return kept.execute(text, *given)
+
+        def __getattr__(self, name: str) -> Any:
+            return getattr(kept, name)
+
+    kept, found.db = found.db, Full()  # type: ignore[assignment]
+    with pytest.raises(sqlite3.OperationalError, match="disk I/O error"):
+        found.set("flags", "{}")
+    with pytest.raises(sqlite3.OperationalError, match="is full"):
+        with found.writing() as db:
+            # (as SQLite does itself where it cannot go on)
+            db.execute("ROLLBACK")
+            raise sqlite3.OperationalError("database or disk is full")
+    found.db = kept
+    found.set("name", "value")
+    assert (found.setting("flags"), found.setting("name")) == ("", "value")
+    found.close()
 
 
 def test_a_name_that_exists_is_answered_as_one_that_does_not(office: Site) -> None:
