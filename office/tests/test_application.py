@@ -2,6 +2,7 @@
 import json
 import pathlib
 import sqlite3
+import time
 from collections.abc import Iterator
 from typing import Any
 
@@ -10,8 +11,9 @@ from applications import ORIGIN, ROUND, Browser, Site, office_over, site, town
 from pages import Page
 from register_files import Refused
 
-from office.web import guard, history, people, store
+from office.web import app, guard, history, people, store
 from office.web.desk import seen_of
+from office.web.screens import activity
 
 ACCEPT = {"cmd": "accept", "child": 1, "school": "A"}
 DECLINE = {"cmd": "decline", "child": 1, "school": "A"}
@@ -367,6 +369,20 @@ def test_a_store_that_was_full_goes_on(tmp_path: pathlib.Path) -> None:
     found.set("name", "value")
     assert (found.setting("flags"), found.setting("name")) == ("", "value")
     found.close()
+
+
+def test_a_day_of_the_activity_is_that_of_the_clock(monkeypatch: pytest.MonkeyPatch) -> None:
+    """In summer the first hour of a day is of the day before by the history, which is in UTC."""
+    monkeypatch.setenv("TZ", "Europe/London")
+    time.tzset()
+    try:
+        late = history.Entry(1, "2025-06-01T23:30:00.000+00:00", "jane", "signed in", {})
+        assert app.moment(late.at) == "2 June 2025, 00:30"
+        assert activity.is_meant(late, "", "2025-06-02", "")
+        assert not activity.is_meant(late, "", "2025-06-01", "")
+    finally:
+        monkeypatch.undo()
+        time.tzset()
 
 
 def test_a_name_that_exists_is_answered_as_one_that_does_not(office: Site) -> None:

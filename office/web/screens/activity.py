@@ -1,4 +1,5 @@
 """All that was done: by person, by child, by day."""
+import datetime
 from typing import Any
 
 import flask
@@ -13,11 +14,16 @@ screen = flask.Blueprint("activity", __name__, url_prefix="/activity")
 SHOWN = 200
 
 
+def day_of(it: Entry) -> str:
+    """The day of an entry by the clock of this machine, as the moment beside it."""
+    return datetime.datetime.fromisoformat(it.at).astimezone().date().isoformat()
+
+
 def is_meant(it: Entry, who: str, day: str, child: str) -> bool:
     """Whether an entry is one of those that were asked for."""
     number = str(it.about.get("command", {}).get("child", ""))
     return it.what not in (ANSWER, SETTLED) and (not who or it.who == who) and (
-        not day or it.at.startswith(day)) and (not child or number == child)
+        not day or day_of(it) == day) and (not child or number == child)
 
 
 @screen.get("/")
