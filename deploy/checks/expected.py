@@ -56,7 +56,7 @@ def units_differ(folder: pathlib.Path, prefix: str) -> list[str]:
     text = "\n".join(lines_of((HERE / "units").read_text(encoding="utf-8"))) + "\n"
     blocks = re.split(r"(?m)^(\S.*)\n", text.replace("/usr/local/", f"{prefix}/"))[1:]
     wanted = [(name, *it) for name, own in zip(blocks[::2], blocks[1::2]) for it in directives(own)]
-    suffixes = (".service", ".socket", ".timer", ".conf")
+    suffixes = (".service", ".socket", ".timer", ".path")
     paths = [it for it in sorted(folder.rglob("admissions*")) if it.suffix in suffixes]
     found = [
         (str(path.relative_to(folder)), *it) for path in paths

@@ -299,7 +299,7 @@ def test_a_register_that_is_away_is_said(tmp_path: pathlib.Path) -> None:
         jane = office.browser("jane")
         for path in ("/child/1", "/draw/1", "/pairs", "/pairs/A", "/school/A/waiting", "/register"):
             found = jane.client.get(path, base_url=ORIGIN)
-            assert found.status_code == 409, path
+            assert found.status_code == 503, path
             assert "the register does not answer now" in (found.json or {})["reason"], path
         for code in ("%20", "A%0d%0aX", "%C3%A9", "A%3Fx"):
             for path in (f"/pairs/{code}", f"/school/{code}/waiting"):

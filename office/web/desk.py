@@ -117,6 +117,10 @@ def local(at: str) -> str:
     return f"{found:%H:%M}{day}"
 
 
+class Away(Refused):
+    """The register does not answer."""
+
+
 class Desk:
     """The register of one application."""
 
@@ -152,7 +156,7 @@ class Desk:
         try:
             return self.sender.ask("GET", path)
         except senders.Ended as error:
-            raise Refused(f"the register does not answer now: {error}") from error
+            raise Away(f"the register does not answer now: {error}") from error
 
     def document(self) -> bytes:
         """The document of the register."""
@@ -160,7 +164,7 @@ class Desk:
         if status != 200:
             said = commands.read(document)
             reason, _ = senders.refusal(status, said if isinstance(said, dict) else {})
-            raise Refused(f"the register cannot be read now: {reason}")
+            raise Away(f"the register cannot be read now: {reason}")
         return document
 
     def register(self) -> Register:

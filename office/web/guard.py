@@ -11,6 +11,7 @@ from werkzeug.exceptions import HTTPException
 from werkzeug.wrappers import Response as AnyResponse
 
 from . import wording
+from .desk import Away
 from .parts import Parts
 from .people import Person
 
@@ -214,8 +215,8 @@ def failed(status: int, reason: str) -> tuple[str, int] | flask.Response:
 
 
 def on_refused(error: Exception) -> tuple[str, int] | flask.Response:
-    """What cannot be done, in words."""
-    return failed(409, str(error))
+    """What cannot be done, in words; a register that is away may be asked again."""
+    return failed(503 if isinstance(error, Away) else 409, str(error))
 
 
 def on_http(error: HTTPException) -> tuple[str, int] | flask.Response:
