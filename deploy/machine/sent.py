@@ -16,7 +16,8 @@ Three things are not printed, but named on the standard error with file and
 line: a command or import of which no answer is known, with who sent it and
 when; an import that was done, with who sent it; and the first line of a
 history that was changed, after which nothing is read. What is before that line
-is printed. The rows of an import are no command: its line says after how many
+is printed; where the change may be in the answer just before it, that is taken
+for unknown. The rows of an import are no command: its line says after how many
 of the printed commands it was done, and with --rows they are written to the
 new FOLDER, each import to a CSV file of that number.
 

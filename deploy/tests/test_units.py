@@ -34,7 +34,10 @@ LINES = {
         "User": ("admissions", ""),
     },
     "admissions-second-copy@.service": {
-        "ExecStartPre": ("-+/usr/local/lib/admissions/settings-copy %i", "users, settings and log"),
+        "ExecStartPre": (
+            "-+/usr/local/lib/admissions/settings-copy %i",
+            "people, settings and history",
+        ),
         "ExecStart": (
             "/usr/local/lib/admissions/second-copy %i",
             "The copies go to the second place",

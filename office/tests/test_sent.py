@@ -377,12 +377,13 @@ def test_a_file_of_something_else_is_named(made: Made, tmp_path: Path) -> None:
 
 
 @pytest.mark.parametrize("make_it", [
-    lambda it: it.symlink_to("/etc/passwd"), os.mkfifo, lambda it: it.mkdir()])
+    lambda it: it.symlink_to("aside"), os.mkfifo, lambda it: it.mkdir()])
 def test_what_is_no_file_of_the_application_is_not_read(
     made: Made, make_it: Callable[[Path], object]
 ) -> None:
-    """Nor is anybody waited for."""
-    made.path.unlink()
+    """Nor is a link followed, or anybody waited for."""
+    made.done(1, "Ann")
+    made.path.rename(made.path.with_name("aside"))
     make_it(made.path)
     status, out, errors = sent(made)
     assert (status, out, errors.count("\n")) == (1, "", 1)
