@@ -12,8 +12,7 @@ from .programs import call, program
 NAME = re.compile("[a-z0-9]([a-z0-9-]{0,38}[a-z0-9])?")
 PHASES = (model.PRIMARY, model.SECONDARY)
 REGISTERS, COPIES = pathlib.Path("/var/lib/admissions"), pathlib.Path("/var/backups/admissions")
-SETTINGS, LOGS = pathlib.Path("/etc/admissions"), pathlib.Path("/var/log/admissions")
-OFFICES = pathlib.Path("/var/lib/admissions-office")
+SETTINGS, OFFICES = pathlib.Path("/etc/admissions"), pathlib.Path("/var/lib/admissions-office")
 
 
 @dataclasses.dataclass(frozen=True)
@@ -43,10 +42,6 @@ class Register:
     @property
     def settings(self) -> pathlib.Path:
         return SETTINGS / self.name
-
-    @property
-    def logs(self) -> pathlib.Path:
-        return LOGS / self.name
 
     @property
     def office(self) -> pathlib.Path:

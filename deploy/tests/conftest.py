@@ -16,7 +16,7 @@ from machine import registers, second_copy, settings_copy, setup, sites, status 
 
 # the modules that name a folder of the machine by a constant of registers
 WITH_FOLDERS = (registers, second_copy, settings_copy, setup, sites, status)
-FOLDERS = {"REGISTERS": "lib", "COPIES": "backups", "SETTINGS": "etc", "LOGS": "log",
+FOLDERS = {"REGISTERS": "lib", "COPIES": "backups", "SETTINGS": "etc",
            "OFFICES": "office"}
 
 
@@ -61,7 +61,7 @@ def register_fixture(
     """A register with its folders, and a stand-in for the program that shows it."""
     register = registers.Register("secondary-2025")
     for path in (
-        register.folder, register.copies, register.settings, register.logs, register.office
+        register.folder, register.copies, register.settings, register.office
     ):
         path.mkdir()
     register.file.write_text(document(), encoding="utf-8")

@@ -45,7 +45,7 @@ def test_the_room_on_the_disks(
     monkeypatch: pytest.MonkeyPatch,
 ) -> None:
     os.truncate(register.file, bytes_of_register)
-    for full in (register.folder, register.copies, register.office, register.logs):
+    for full in (register.folder, register.copies, register.office):
 
         def usage(path: pathlib.Path, here: pathlib.Path = full) -> Usage:
             return Usage(10**12, 0, free if path == here else 10**12)
