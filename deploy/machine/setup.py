@@ -390,6 +390,9 @@ def make_settings(register: Register, given: argparse.Namespace) -> typing.Itera
         yield from certificates.make(register, given.site)
     if given.authority and files.write(AUTHORITY, given.authority + "\n", 0o644):
         yield f"the authority is {given.authority}"
+        if is_booted():
+            # (each application has read the name)
+            call(tool("systemctl", "systemd"), "try-restart", "admissions-office@*.service")
     if files.write(path, given.site + "\n", 0o644):
         yield f"the site is {given.site}"
 

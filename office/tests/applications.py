@@ -5,6 +5,7 @@ import html.parser
 import pathlib
 from collections.abc import Iterator
 from typing import Any
+from unittest import mock
 
 import flask
 import flask.testing
@@ -12,6 +13,7 @@ from conftest import ROOT, make
 from served import served
 
 from office.web import app, people
+from office.web.copies import Copies
 from office.web.parts import Config, Parts
 
 ORIGIN = "https://admissions.example"
@@ -91,6 +93,8 @@ class Site:
 
     def __init__(self, flasks: flask.Flask) -> None:
         self.app = flasks
+        # what copies were made for, where the machine makes none
+        self.copied: list[str] = []
         self.parts: Parts = flasks.extensions["office"]
         self.passwords: dict[str, str] = {}
 
@@ -120,14 +124,25 @@ class Site:
 
 @contextlib.contextmanager
 def site(folder: pathlib.Path, door: str) -> Iterator[Site]:
-    """The application before a desk."""
+    """The application before a desk, on a machine that makes no copies: what they would be for is
+    in `copied`.
+    """
+    copied: list[str] = []
+
+    def made(_: Copies, purpose: str) -> int:
+        copied.append(purpose)
+        return len(copied)
+
     config = Config("secondary-2025", ORIGIN, door, folder / "office", folder / "copies",
                     ROOT / "deploy" / "site", "Tŷ \"Ddewi\" Council")
-    found = app.create(config)
-    try:
-        yield Site(found)
-    finally:
-        found.extensions["office"].close()
+    with mock.patch.object(Copies, "make", made):
+        found = app.create(config)
+        office = Site(found)
+        office.copied = copied
+        try:
+            yield office
+        finally:
+            found.extensions["office"].close()
 
 
 @contextlib.contextmanager

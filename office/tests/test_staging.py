@@ -559,6 +559,25 @@ def test_two_officers_store_at_once(office: Site, screens: Screens) -> None:
     assert len(imports(office)) == 1 and has(office.parts.desk.now()) == expected(GOOD)
 
 
+def test_a_copy_is_made_before_anything_is_stored(
+    office: Site, screens: Screens, monkeypatch: pytest.MonkeyPatch
+) -> None:
+    """Without one nothing is sent, and the table stays as it was."""
+    screens.add(("a.csv", lines(GOOD)))
+    before, digest = states(office), screens.digest()
+
+    def fails(_: str) -> int:
+        raise Refused("there is no copy: the machine has not answered")
+
+    with monkeypatch.context() as patch:
+        patch.setattr(office.app.extensions["staging"].committing, "copy", fails)
+        found = screens.store(digest)
+    assert found.status_code == 409 and "there is no copy" in Seen(found.text).text
+    assert (imports(office), states(office), office.copied) == ([], before, [])
+    assert screens.store(digest).status_code == 303
+    assert (len(imports(office)), office.copied) == (1, ["before applications are stored"])
+
+
 def test_what_has_changed_is_not_stored(office: Site, screens: Screens) -> None:
     """A row, one that was withdrawn, one more, a child in the register; and a reload after it."""
     screens.add(("a.csv", lines(GOOD[:3])))

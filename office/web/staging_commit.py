@@ -10,6 +10,7 @@ import dataclasses
 import functools
 import hashlib
 import json
+from collections.abc import Callable
 
 from register_files import Refused
 
@@ -26,13 +27,9 @@ from .staging_files import Note
 from .staging_page import title_of
 from .staging_rows import COMMITTED, OPEN, SENDING, WITHDRAWN, Staged, packed_notes
 
+# what the copy is for that is made before rows are sent, and without which nothing is sent
+PURPOSE = "before applications are stored"
 CHANGED = "The table or the register has changed since it was shown, and nothing was sent."
-
-
-def before_commit() -> None:
-    """What is done before rows are sent, and without which nothing is sent: the place of the copy
-    of the register that is made before an import.
-    """
 
 
 @dataclasses.dataclass(frozen=True)
@@ -138,8 +135,12 @@ class Outcome:
 class Committing:
     """Stores the table of one application in its register."""
 
-    def __init__(self, staging: Staging, checker: Checker, desk: Desk, record: History) -> None:
+    def __init__(
+        self, staging: Staging, checker: Checker, desk: Desk, record: History,
+        copy: Callable[[str], object],
+    ) -> None:
         self.staging, self.checker, self.desk, self.history = staging, checker, desk, record
+        self.copy = copy
 
     def found(self, register: Register) -> Commit:
         """What would be stored now."""
@@ -161,7 +162,7 @@ class Committing:
             if not found.rows:
                 self.mark(found.equal, COMMITTED)
                 return Outcome(True, "", None, len(found.equal))
-            before_commit()
+            self.copy(PURPOSE)
             # (an earlier entry may have sent the same rows, to a register that was restored since)
             sent = f"{len(self.history.entries)} {digest_of(found.csv)}"
             self.mark([it.staged for it in found.rows], SENDING, sent)

@@ -29,7 +29,7 @@ def begin(state: Any) -> None:
     found = state.app.extensions["office"]
     staging, checker = Staging(found.store, found.history), Checker()
     state.app.extensions["staging"] = Tools(
-        staging, checker, Committing(staging, checker, found.desk, found.history))
+        staging, checker, Committing(staging, checker, found.desk, found.history, found.copies.make))
 
 
 def tools() -> Tools:
