@@ -151,10 +151,10 @@ class Desk:
             self.copy = moment, register, document
             return register, document
 
-    def asked(self, path: str) -> tuple[int, bytes]:
-        """The register's own answer to a path, with its status."""
+    def asked(self, path: str, question: bytes | None = None) -> tuple[int, bytes]:
+        """The register's own answer to a path, or to a question that changes nothing."""
         try:
-            return self.sender.ask("GET", path)
+            return self.sender.ask("GET" if question is None else "POST", path, question)
         except senders.Ended as error:
             raise Away(f"the register does not answer now: {error}") from error
 

@@ -119,6 +119,14 @@ def command() -> flask.Response:
     return answered(found)
 
 
+@screen.post("/what-if")
+@needs(READ)
+def what_if() -> flask.Response:
+    """The school of a child by another list, which changes nothing."""
+    status, body = parts().desk.asked("/what-if", flask.request.get_data())
+    return flask.Response(body, status, mimetype=JSON)
+
+
 @screen.post("/import")
 @needs(RECORD)
 def rows() -> flask.Response:

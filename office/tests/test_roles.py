@@ -1,0 +1,131 @@
+"""People of each role who try at once what is not theirs: refused, on record, and nothing changes.
+
+What is whose is stated here for each address, and not taken from the application.
+"""
+import pathlib
+import threading
+from collections.abc import Iterator
+from typing import Any
+
+import pytest
+from applications import ORIGIN, ROUND, Browser, Site, office_over, town
+
+HEAD, OFFICER, SUPERVISOR, READER = "head", "officer", "supervisor", "reader"
+ADMINISTRATOR, SCHOOL = "administrator", "school-A"
+ROLES = (HEAD, OFFICER, SUPERVISOR, READER, ADMINISTRATOR, SCHOOL)
+READS, RECORDS = {HEAD, OFFICER, READER}, {HEAD, OFFICER}
+ALL: set[str] = set(ROLES)
+# who may see the pages of a screen, and who may send what it sends
+SCREENS: dict[str, tuple[set[str], set[str]]] = {
+    "activity": (READS, set()), "answers": (RECORDS, RECORDS), "applications": (READS, RECORDS),
+    "applications_add": (RECORDS, RECORDS), "applications_commit": (READS, RECORDS),
+    "child": (READS, RECORDS), "draws": (READS, {HEAD}), "flags": (READS, RECORDS),
+    "lists": (READS, set()), "lots": ({SUPERVISOR}, {SUPERVISOR}),
+    "new_schools": (RECORDS, RECORDS), "people": ({HEAD, ADMINISTRATOR}, {HEAD, ADMINISTRATOR}),
+    "register": (READS, RECORDS), "schools": (READS, RECORDS), "season": (ALL, set()),
+    "signing": (ALL, ALL),
+}
+# what differs from its screen
+OTHERS: dict[tuple[str, str], set[str]] = {
+    ("child.ask", "GET"): RECORDS, ("child.correct", "GET"): RECORDS,
+    ("draws.second", "POST"): {HEAD, OFFICER}, ("register.what_if", "POST"): READS,
+    ("register.waiting", "GET"): READS | {SCHOOL}, ("schools.one", "GET"): READS | {SCHOOL},
+    ("schools.workbook", "GET"): READS | {SCHOOL}, ("schools.raise_number", "GET"): RECORDS,
+}
+VALUES = {"number": 1, "name": "accept", "code": "A", "kind": "csv"}
+NAMES = {"draws.step": "close", "draws.second": "confirm", "lists.one": "waiting",
+         "lists.workbook": "waiting"}
+
+
+@pytest.fixture(name="office")
+def office_fixture(tmp_path: pathlib.Path) -> Iterator[Site]:
+    """The application over a register with two schools, after a round."""
+    with office_over(tmp_path, [*town(), ROUND]) as found:
+        yield found
+
+
+def addresses(office: Site) -> list[tuple[str, str, str]]:
+    """Each endpoint with a method and an address of it, but the files that all may read."""
+    found: list[tuple[str, str, str]] = []
+    with office.app.test_request_context(base_url=ORIGIN):
+        urls = office.app.url_map.bind("admissions.example", url_scheme="https")
+        for rule in office.app.url_map.iter_rules():
+            given: dict[str, Any] = {it: VALUES[it] for it in rule.arguments}
+            if rule.endpoint in NAMES:
+                given["name"] = NAMES[rule.endpoint]
+            if rule.endpoint == "file":
+                continue
+            for method in sorted((rule.methods or set()) - {"HEAD", "OPTIONS"}):
+                built = urls.build(rule.endpoint, given, method=method)
+                found.append((rule.endpoint, method, built))
+    return found
+
+
+def may(endpoint: str, method: str) -> set[str]:
+    """Whose an address is."""
+    screen = SCREENS[endpoint.partition(".")[0]]
+    return OTHERS.get((endpoint, method), screen[method == "POST"])
+
+
+def asked(browser: Browser, method: str, path: str) -> int:
+    """The status of a request as a browser of this person sends it from a page of the site."""
+    if method == "POST":
+        return int(browser.post(path).status_code)
+    return int(browser.get(path).status_code)
+
+
+def kept(office: Site) -> list[Any]:
+    """The register, and what the application keeps of people and drafts."""
+    rows = [[tuple(row) for row in office.parts.store.rows(f"SELECT * FROM {table}")]
+            for table in ("person", "staged_file", "staged_row", "school_draft", "answer", "draw",
+                          "draw_step", "lot", "setting")]
+    return [office.parts.desk.read(True)[1], rows]
+
+
+def test_each_role_tries_what_is_not_its_own_at_once(office: Site) -> None:
+    """At every address of the application."""
+    browsers = {role: office.browser(role.lower(), role) for role in ROLES}
+    theirs = addresses(office)
+    assert len(theirs) > 60
+    before, statuses = kept(office), dict[tuple[str, str, str], int]()
+    gate = threading.Barrier(len(ROLES))
+
+    def tries(role: str) -> None:
+        gate.wait()
+        for endpoint, method, path in theirs:
+            if role not in may(endpoint, method):
+                statuses[role, method, path] = asked(browsers[role], method, path)
+
+    runs = [threading.Thread(target=tries, args=(role,)) for role in ROLES]
+    for it in runs:
+        it.start()
+    for it in runs:
+        it.join()
+    wanted = {(role, method, path) for role in ROLES for endpoint, method, path in theirs
+              if role not in may(endpoint, method)}
+    assert set(statuses) == wanted and len(wanted) > 150
+    assert {it for it, status in statuses.items() if status != 403} == set()
+    assert kept(office) == before
+    on_record = {(it.who, it.about["asked"]) for it in office.parts.history.entries
+                 if it.what == "refused"}
+    assert on_record == {(role.lower(), f"{method} {path}"[:80]) for role, method, path in wanted}
+    assert {it.what for it in office.parts.history.entries} == {"signed in", "refused"}
+
+
+def test_each_role_sees_what_is_its_own(office: Site) -> None:
+    """Each page that a role may see is there, or says of a thing that it is not there."""
+    for role in ROLES:
+        browser = office.browser(role.lower(), role)
+        for endpoint, method, path in addresses(office):
+            if method == "GET" and role in may(endpoint, method):
+                assert asked(browser, method, path) in (200, 204, 302, 303, 404, 409), (role, path)
+
+
+def test_the_head_of_a_school_sees_no_other(office: Site) -> None:
+    """Neither its page, nor its workbook, nor its list."""
+    browser = office.browser("alpha", SCHOOL)
+    for path in ("/schools/{}", "/schools/{}/workbook", "/school/{}/waiting"):
+        assert asked(browser, "GET", path.format("A")) == 200
+        for other in ("B", "ZZ", "A%20", "a"):
+            assert asked(browser, "GET", path.format(other)) in (403, 404), (path, other)
+        assert asked(browser, "GET", path.format("B")) == 403
