@@ -326,6 +326,50 @@ def test_storing_goes_on_where_it_stopped(empty: Site, monkeypatch: pytest.Monke
     assert said == ["The register has it already, with the same data.", "Done, and stored."]
 
 
+def test_a_line_that_a_colleague_changed_is_not_overwritten(empty: Site) -> None:
+    """What was typed stays, beside the present line, and may be stored after that."""
+    jane, bo = empty.browser("jane"), empty.browser("bo")
+    drafted(jane, HEADER + "A,Alpha,1,1,1,\n")
+    number = Draft(empty.parts.store).rows()[0][0]
+    path = f"/schools/new/{number}"
+    page, other = Page(jane.get(path).text), Page(bo.get(path).text)
+    assert press(bo, path, other, "Change the line", pan="30").status_code == 303
+    wrong = press(jane, path, page, "Change the line", pan="many", north="7")
+    assert wrong.status_code == 400
+    found = press(jane, path, Page(wrong.text), "Change the line", pan="1", north="7")
+    page = Page(found.text)
+    assert found.status_code == 409 and "Somebody else has changed this line" in page.said()
+    assert page.tables["Each line as it will be stored"][1][2:5] == ["30", "1", "1"]
+    form = page.form("Change the line").values
+    assert (form["pan"], form["north"]) == (["1"], ["7"])
+    assert press(jane, path, page, "Change the line", pan="30").status_code == 303
+    assert Draft(empty.parts.store).cells(number) == {
+        "school": "A", "name": "Alpha", "pan": "30", "east": "1", "north": "7", "criteria": ""}
+
+
+def test_a_line_that_is_changed_while_others_are_stored_stays(
+    empty: Site, monkeypatch: pytest.MonkeyPatch
+) -> None:
+    """Only what was shown is stored; a line that was changed since remains in the draft."""
+    jane = empty.browser("jane")
+    page = drafted(jane, HEADER + "A,Alpha,1,1,1,\nB,Beta,1,2,2,\nC,Gamma,1,3,3,\n")
+    draft, send = Draft(empty.parts.store), empty.parts.desk.send
+    _, (second, cells), _ = draft.rows()
+
+    def meanwhile(*given: Any) -> Any:
+        with empty.parts.store.writing() as db:
+            db.execute("UPDATE school_draft SET cells=? WHERE number=?",
+                       (json.dumps({**cells, "pan": "9"}), second))
+        return send(*given)
+
+    monkeypatch.setattr(empty.parts.desk, "send", meanwhile)
+    found = press(jane, "", page, "Store 3 schools")
+    assert found.status_code == 409 and [it["school"] for it in stored(empty)] == ["A", "C"]
+    assert draft.rows() == [(second, {**cells, "pan": "9"})]
+    rows = Page(found.text).tables["outcomes"]
+    assert rows[2][0] == "B" and "changed or removed" in rows[2][2]
+
+
 def test_a_school_with_other_data_is_named(empty: Site) -> None:
     """A colleague stored it meanwhile; the others are stored."""
     jane, desk = empty.browser("jane"), empty.parts.desk

@@ -19,6 +19,8 @@ from .store import Store
 
 MOST = LIMITS["schools"].most
 THERE = Result(DONE, "The register has it already, with the same data.")
+CHANGED = Result(DIFFERS, "The line was changed or removed since it was shown. Nothing was sent for"
+                          " it.")
 
 
 @dataclasses.dataclass(frozen=True)
@@ -56,19 +58,28 @@ class Draft:
                 raise Refused(f"a register has at most {MOST} schools, and the draft would have"
                               f" {count}")
 
-    def change(self, number: int, cells: Cells) -> None:
-        """Replaces a line."""
+    def change(self, number: int, cells: Cells, seen: str) -> None:
+        """Replaces a line that is still as it was seen."""
         with self.store.writing() as db:
-            changed = db.execute("UPDATE school_draft SET cells=? WHERE number=?",
-                                 (json.dumps(cells), number))
-            if not changed.rowcount:
+            present = self.cells(number)
+            if present is None:
                 raise Refused("this line is not in the draft any more: it was stored or removed"
                               " meanwhile")
+            if seen_line(present) != seen:
+                raise Refused("somebody else has changed this line since it was shown. Nothing was"
+                              " changed: compare what you typed with the line above")
+            db.execute("UPDATE school_draft SET cells=? WHERE number=?",
+                       (json.dumps(cells), number))
 
     def remove(self, *numbers: int) -> None:
         """Removes lines."""
         with self.store.writing() as db:
             db.executemany("DELETE FROM school_draft WHERE number=?", [(it,) for it in numbers])
+
+
+def seen_line(cells: Cells) -> str:
+    """A line of a draft as it was seen, in short."""
+    return hashlib.sha256(json.dumps(cells, sort_keys=True).encode()).hexdigest()
 
 
 def digest(lines: Iterable[Line]) -> str:
@@ -98,7 +109,8 @@ def store_all(desk: Desk, who: Person, draft: Draft, words: Words, shown: str) -
     found = []
     for line in lines:
         assert line.command is not None
-        result = store_one(desk, who, line)
+        is_shown = draft.cells(line.number) == line.cells
+        result = store_one(desk, who, line) if is_shown else CHANGED
         found.append(Outcome(line.command["school"], line.command["name"], result))
         if result.is_done:
             draft.remove(line.number)

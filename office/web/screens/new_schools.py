@@ -35,8 +35,9 @@ def order_of(line: Line, words: flags.Words) -> list[tuple[str, str]]:
 def page(
     cells: Cells | None = None, wrong: dict[str, str] | None = None, said: str = "",
     status: int = 200, outcomes: list[Outcome] | None = None, number: int | None = None,
+    seen: str = "",
 ) -> Answer:
-    """The draft, with the form of one school: a new one, or a line of the draft."""
+    """The draft, with the form of one school: a new one, or a line of the draft as it was seen."""
     words, known, is_away = flags.present(), {}, False
     try:
         known = parts().desk.register().schools
@@ -51,6 +52,7 @@ def page(
         is_ready=school_drafts.is_ready(lines) and not is_away, cells=cells or NONE,
         wrong=wrong or {}, said=said, is_bad=status != 200, rows=rows, forms=schools.menu(words),
         outcomes=outcomes or [], number=number, label=label, columns=COLUMNS, limits=LIMITS,
+        seen=seen,
     ), status
 
 
@@ -142,23 +144,27 @@ def edit(number: int) -> Answer:
     if cells is None:
         flask.abort(404)
     _, wrong = schools.read(cells, flags.present())
-    return page(cells, wrong, number=number)
+    return page(cells, wrong, number=number, seen=school_drafts.seen_line(cells))
 
 
 @screen.post("/<int:number>")
 @needs(RECORD)
 def change(number: int) -> Answer:
     """A line of the draft that was corrected."""
-    cells = cells_of_form()
+    cells, seen = cells_of_form(), flask.request.form.get("seen", "")
     command, wrong = schools.read(cells, flags.present())
     if command is None:
         return page(cells, wrong, "The line is as before: see the fields that are marked.", 400,
-                    number=number)
+                    number=number, seen=seen)
     try:
         guard.record("changed the draft of schools", before=draft().cells(number), now=cells)
-        draft().change(number, cells)
+        draft().change(number, cells, seen)
     except Refused as error:
-        return page(cells, {}, sentence(str(error)), 409)
+        present = draft().cells(number)
+        if present is None:
+            return page(cells, {}, sentence(str(error)), 409)
+        return page(cells, {}, sentence(str(error)), 409, number=number,
+                    seen=school_drafts.seen_line(present))
     return to_draft("changed")
 
 
