@@ -777,7 +777,15 @@ def test_what_looks_wrong_is_read_before_it_closes(small: Machine) -> None:
         found = hal.step(number, "close")
         assert found.status_code == 409 and "something looks wrong" in found.text.lower()
         assert office.parts.desk.closed() == ""
-        assert hal.step(number, "close", agreed="yes").status_code == 303
+        read = Fields(page).values["agreed"]
+        # (what was not there when the page was read was not agreed to)
+        office.parts.draws.today = lambda: datetime.date(2025, 3, 2)
+        found = hal.step(number, "close", agreed=read)
+        assert found.status_code == 409 and "It is 6 days after today." in found.text
+        first_day(office)
+        assert hal.step(number, "close", agreed="yes").status_code == 409
+        assert office.parts.desk.closed() == ""
+        assert hal.step(number, "close", agreed=read).status_code == 303
         entries = office.parts.history.entries
         about = [it.about for it in entries if it.what == "closed the register"]
         assert len(about) == 1 and "It is a Saturday." in about[0]["agreed"]

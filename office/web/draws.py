@@ -52,15 +52,20 @@ class Draws(DrawStore):
         """What is to be read before it closes the register."""
         return draws_checks.checks(self.desk.register(), draw.terms, self.today())
 
-    def close(self, who: Person, number: int, seen: int, is_agreed: bool) -> None:
-        """Closes the register for all others. What is in flight is ended first."""
+    def close(
+        self, who: Person, number: int, seen: int, is_agreed: bool, read: str | None = None,
+    ) -> None:
+        """Closes the register for all others. What is in flight is ended first. `read` is what
+        looked wrong when the person agreed to it, where that was on a page.
+        """
         with self.turn(number, seen, BEGUN) as draw, self.desk.lock:
             self.desk.settle()
             register = self.desk.now()
             see_terms(register, draw.terms)
-            found = [it.said for it in draws_checks.checks(register, draw.terms, self.today())
-                     if it.is_risk]
-            if found and not is_agreed:
+            checks = draws_checks.checks(register, draw.terms, self.today())
+            found = [it.said for it in checks if it.is_risk]
+            is_read = read is None or read == draws_checks.agreed_to(checks)
+            if found and not (is_agreed and is_read):
                 raise Refused("something looks wrong: read it, and say that it is right")
             self.record(who, "closed the register", draw, agreed=found)
             with self.moving(draw, who, CLOSED, " ".join(found)):

@@ -3,7 +3,9 @@ looks wrong in it.
 """
 import dataclasses
 import datetime
+import hashlib
 import re
+from collections.abc import Iterable
 
 from office import days, model, risks, texts
 from office.model import Register
@@ -102,6 +104,11 @@ def season_checks(register: Register) -> list[Check]:
                         f" close on {end}."),
         Check("Holidays", f"{held[:1].upper()}{held[1:]}."),
     ]
+
+
+def agreed_to(found: Iterable[Check]) -> str:
+    """What looks wrong, in short: who agrees to it has read this and nothing else."""
+    return hashlib.sha256("\n".join(it.said for it in found if it.is_risk).encode()).hexdigest()
 
 
 def checks(register: Register, terms: Terms, today: datetime.date) -> list[Check]:

@@ -10,7 +10,7 @@ from werkzeug.wrappers import Response
 from office import days
 from office.model import Register
 
-from .. import draws_outcome
+from .. import draws_checks, draws_outcome
 from ..draws import Draws, held_in, next_state
 from ..draws_lots import sheet_of
 from ..draws_terms import (
@@ -99,12 +99,14 @@ def draw_page(number: int, reason: str = "", status: int = 200) -> Answer:
     if draw.state == SENDING and standing < draw.terms.fills:
         state = SENDING
     step = next((it for it in STEPS if it.state == state), None)
+    checks = checks_of(draw, register)
+    agreed = draws_checks.agreed_to(checks)
     return flask.render_template(
         "draw.html", draw=draw, reason=reason or trouble, steps=STEPS, step=step,
         action=ACTIONS.get(state, ""), button=button_of(draw, state, standing),
         standing=standing, why_not=why_not(draw, state), register=register,
-        checks=checks_of(draw, register), outcome=outcome_of(draw, register),
-        is_agreed=flask.request.form.get("agreed") == "yes", ends=(GIVEN_UP, RESTORED),
+        checks=checks, outcome=outcome_of(draw, register), agreed=agreed,
+        is_agreed=flask.request.form.get("agreed") == agreed, ends=(GIVEN_UP, RESTORED),
         may_give_up=draw.state in UNSENT, may_restore=draw.state in SENT,
         waits_for_lots=draw.state == LOTS, is_sealed=bool(draw.digest),
     ), status
@@ -176,7 +178,7 @@ def sealed(number: int) -> flask.Response:
 Step = Callable[[Draws, int, int], None]
 OWN: dict[str, Step] = {
     "close": lambda it, number, seen: it.close(
-        person(), number, seen, flask.request.form.get("agreed") == "yes"),
+        person(), number, seen, True, flask.request.form.get("agreed", "")),
     "copy": lambda it, number, seen: it.copy(person(), number, seen),
     "give": lambda it, number, seen: it.give(person(), number, seen),
     "rehearse": lambda it, number, seen: it.rehearse(person(), number, seen),
