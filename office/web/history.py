@@ -96,9 +96,8 @@ class History:
             os.close(self.fd)
             raise Refused(f"{path} is in use by another application") from error
         self.entries: list[Entry] = []
-        # the requests of which no answer is known yet, and the places of the entries by children
+        # the requests of which no answer is known yet
         self.open: dict[int, Entry] = {}
-        self.children: dict[int, list[int]] = {}
         # what was told from outside, by its key
         self.told: set[str] = set()
         self.before, self.length = FIRST, 0
@@ -173,14 +172,10 @@ class History:
         self.entries.append(entry)
         if "told" in entry.about:
             self.told.add(entry.about["told"])
-        request = entry
         if entry.what == SENDS:
             self.open[entry.number] = entry
         elif entry.what in (ANSWER, SETTLED):
             self.open.pop(entry.about["of"], None)
-            request = self.entries[entry.about["of"] - 1]
-        if child := request.about.get("command", {}).get("child"):
-            self.children.setdefault(child, []).append(entry.number)
 
     def open_requests(self) -> list[Entry]:
         """The requests to the register of which no answer is known yet."""
@@ -195,11 +190,6 @@ class History:
                  if it.what == ANSWER and commands.is_done(it.about["answer"])
                  or it.what == SETTLED and it.about["done"]}
         return (it for it in reversed(found) if it.number in known)
-
-    def of_child(self, number: int) -> list[Entry]:
-        """The entries about a child, the last first."""
-        with self.lock:
-            return [self.entries[it - 1] for it in reversed(self.children.get(number, []))]
 
     def close(self) -> None:
         """Ends the use of the file."""
