@@ -15,7 +15,7 @@ from office import lot_sheets, texts
 
 from .. import draws_sheet
 from ..draws_drafts import Typed
-from ..draws_lots import MISSING, Cell, Sheet, errors_of_sheet
+from ..draws_lots import MISSING, MOST_SEED, MOST_TEXT, Cell, Sheet, errors_of_sheet
 from ..draws_terms import BEGUN, LOTS, Draw
 from ..guard import needs, parts, person
 from ..people import LOTS as RIGHT
@@ -91,7 +91,8 @@ def sheet_page(
         rows=[row_of(it, wrong, typed) for it in rows], at=at, pages=pages, wrong=wrong,
         missing=sum(it == MISSING for it in wrong.values()), seeds=sheet.seeds(),
         ties=sum(it.tie > 0 for it in sheet.rows), count_all=len(sheet.rows),
-        free=free_cells(sheet),
+        free=free_cells(sheet), most_lot=lot_sheets.MOST_LOT, most_text=MOST_TEXT,
+        most_seed=MOST_SEED,
     ), status
 
 

@@ -5,7 +5,7 @@ import flask
 from register_files import Refused
 from werkzeug.wrappers import Response
 
-from .. import authority, guard
+from .. import authority, guard, people
 from ..guard import PUBLIC, SIGNED_IN, needs, parts, person
 
 screen = flask.Blueprint("signing", __name__)
@@ -125,4 +125,5 @@ def password() -> Answer:
             return flask.redirect("/", 303)
         except Refused as error:
             said = str(error)
-    return flask.render_template("password.html", said=said), 403 if said else 200
+    return flask.render_template(
+        "password.html", said=said, least=people.LEAST_PASSWORD), 403 if said else 200
