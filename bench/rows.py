@@ -120,7 +120,7 @@ class Rows:
         )
 
     def are_children(self):
-        return len(self.children) == len(self.rows["child"]) and all(self.is_child(*row) for row in self.rows["child"])
+        return len(self.children) == len(self.rows["child"]) and all(self.is_child(*row[:7]) for row in self.rows["child"])
 
     def are_applications(self):
         return len(self.lists) == len(self.rows["application"]) and all(self.is_application(*row) for row in self.rows["application"])
@@ -190,7 +190,7 @@ class Rows:
 
     def are_imported(self):
         imported = self.rows["imported"]
-        return len({row[0] for row in imported}) == len(imported) and all(self.is_child(*row[:7]) and self.is_application(row[0], *row[7:]) for row in imported)
+        return len({row[0] for row in imported}) == len(imported) and all(self.is_child(*row[:7]) and self.is_application(row[0], *row[-2:]) for row in imported)
 
     def are_present(self):
         present, owners = self.rows["present"], (self.children, {row[0] for row in self.rows["imported"]})

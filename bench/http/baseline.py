@@ -72,9 +72,9 @@ def amend(conn, command):
     if any(conn.execute("SELECT 1 FROM school WHERE code = ?", (code,)).fetchone() is None for code in siblings):
         return 409, {"name": "UnknownSchool", "refused": 1}
     flags = sum(1 << it for it in set(command["flags"]))
-    row = (number, name, command["east"], command["north"], int(command["looked_after"]), flags, ";".join(siblings))
+    row = (name, command["east"], command["north"], int(command["looked_after"]), flags, ";".join(siblings), number)
     conn.execute("BEGIN")
-    conn.execute("INSERT OR REPLACE INTO child (child, name, east, north, looked_after, flags, siblings) VALUES (?, ?, ?, ?, ?, ?, ?)", row)
+    conn.execute("UPDATE child SET name = ?, east = ?, north = ?, looked_after = ?, flags = ?, siblings = ? WHERE child = ?", row)
     conn.execute("COMMIT")
     return 200, {"done": True}
 

@@ -3,6 +3,7 @@
 It goes on from the model of examples/season.
 """
 import datetime
+import json
 import pathlib
 import sys
 
@@ -13,6 +14,9 @@ import model  # noqa: E402
 from ranking_model import standing  # noqa: E402
 
 CLOSING, LAST = "2024-10-31", "2025-12-31"
+RULES = json.loads((TOP / "office" / "rules.json").read_text("utf-8"))
+# what the fields of a child are that a command leaves out
+OMITTED = {it["field"]: it["omitted"] for it in RULES["commands"]["amend"] if it["optional"]}
 
 
 def offer_day(holidays):
@@ -57,7 +61,7 @@ class Register(model.Season):
         self.schools[it["school"]]["pan"] = it["pan"]
 
     def do_add_child(self, it):
-        self.children[it["child"]] = {"present": "", **it}
+        self.children[it["child"]] = {**OMITTED, **it}
 
     do_amend = do_add_child
 
@@ -146,7 +150,7 @@ class Register(model.Season):
                 "reminded": place["reminded"],
                 "school": place["school"],
             },
-            "present": it["present"],
+            **{name: it[name] for name in OMITTED},
             "siblings": it["siblings"],
         }
 

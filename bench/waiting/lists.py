@@ -12,7 +12,7 @@ from ranking_model import standing  # noqa: E402
 def rank(school, child):
     """Class and distance, of rows of the two tables."""
     code, _, _, east, north, criteria = school
-    _, _, x, y, looked_after, flags, siblings = child
+    _, _, x, y, looked_after, flags, siblings, *_ = child
     given = {"east": x, "north": y, "looked_after": bool(looked_after), "flags": [it for it in range(16) if flags >> it & 1], "siblings": siblings.split(";")}
     return standing({"school": code, "east": east, "north": north, "criteria": [it for it in criteria.split(";") if it]}, given)
 

@@ -1,5 +1,5 @@
-"""The text of each refusal as the page has it, and the limits that its forms keep: those of the
-office's commands, without the values of a command."""
+"""The text of each refusal as the page has it, the limits that its forms keep, and what a command
+may leave out: those of the office's commands, without the values of a command."""
 
 import pathlib
 import re
@@ -12,6 +12,8 @@ from office import rules  # noqa: E402
 
 ERRORS = ROOT / "docs/ERRORS.md"
 LIMITS = rules.LIMITS
+# what the fields of a child are that a command leaves out
+OMITTED = {name: it.omitted for name, it in rules.COMMANDS["amend"].items() if it.is_optional}
 
 
 def sentences(*texts: str) -> str:

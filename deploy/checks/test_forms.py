@@ -13,7 +13,7 @@ from checks.commands import Command, amendment
 from checks.page import (
     RESULT, confirm, field, found, in_focus, kept, opened, outdate, press, press_no, question, text,
     visit, whom, write)
-from checks.refusals import LIMITS
+from checks.refusals import LIMITS, OMITTED
 from checks.world import MARKUP_OF_CHILD, World
 
 TODAY = "2 April 2025"
@@ -179,7 +179,7 @@ def test_a_correction_sends_every_other_field_as_it_was(world: World, page: Brow
     page.posted.clear()
     confirm(page)
     assert [json.loads(body) for body in page.posted] == [
-        amendment(8, "D'Arcy Tŷ-Bell", 800, flags=[2, 5], present="PRIM7")]
+        OMITTED | amendment(8, "D'Arcy Tŷ-Bell", 800, flags=[2, 5], present="PRIM7")]
     assert data(world, 8)["name"] == "D'Arcy Tŷ-Bell"
 
 
@@ -219,18 +219,18 @@ def test_what_somebody_else_corrected_meanwhile_is_not_overwritten(
 def test_a_field_that_the_page_does_not_know_is_sent_as_it_was(
         world: World, page: Browser) -> None:
     document = json.loads(world.ask("/register", "jane").body)
-    next(it for it in document["children"] if it["child"] == 9)["boarder"] = True
+    next(it for it in document["children"] if it["child"] == 9)["later_field"] = True
     given = {"/command": '{"done":true}', "/register": json.dumps(document)}
     page.rule = lambda method, path: (200, given[path]) if path in given else None
     outdate(page)
     page.value("location.hash = '#child/9/amend'")
-    page.wait("document.getElementById('other-boarder')")
+    page.wait("document.getElementById('other-later_field')")
     write(page, north="901")
     page.value(f"document.querySelector('{AMEND}').click()")
     page.posted.clear()
     confirm(page)
     assert [json.loads(body) for body in page.posted] == [
-        amendment(9, "Child of 9", 901, siblings=["A"], present="", boarder=True)]
+        OMITTED | amendment(9, "Child of 9", 901, siblings=["A"], later_field=True)]
     page.rule = None
     opened(page, "/?again")
 

@@ -21,6 +21,9 @@ BUILT = ROOT / "bin" / "admissions"
 FOUND = str(BUILT) if BUILT.exists() else shutil.which("admissions")
 PROGRAM = os.environ.get("ADMISSIONS") or FOUND or ""
 HEADER = "child,name,east,north,looked_after,flags,siblings,day,preferences,present"
+# what the fields of a child are that a command leaves out
+OMITTED = {it["field"]: it["omitted"] for it in json.loads(
+    (ROOT / "office" / "rules.json").read_text("utf-8"))["commands"]["amend"] if it["optional"]}
 OFFICE = ("audit", "check", "figures", "letters", "lots", "query", "send", "trial", "why")
 Command = dict[str, Any]
 Ran = subprocess.CompletedProcess[str]

@@ -1,14 +1,17 @@
-"""Registers as files, written by the text of docs/FORMATS.md and without the program."""
+"""Registers as files: an empty one of the program, with rows as docs/FORMATS.md describes them,
+also those to which no commands lead.
+"""
 import datetime
+import functools
 import pathlib
-import re
 import sqlite3
+import subprocess
+import tempfile
 from collections.abc import Collection, Iterable, Mapping, Sequence
 from typing import Any
 
-ROOT = pathlib.Path(__file__).resolve().parents[2]
-FORMATS = (ROOT / "docs" / "FORMATS.md").read_text("utf-8")
-TABLES = re.findall(r"^CREATE TABLE .*$", FORMATS, re.MULTILINE)
+from conftest import PROGRAM
+
 KINDS = {"offered": 1, "accepted": 2, "plan": 3}
 # a school or a child as the commands have it
 Command = Mapping[str, Any]
@@ -20,6 +23,15 @@ Draw = tuple[str, Mapping[int, str | None], Mapping[tuple[str, int], int], Colle
 def number(day: str) -> int:
     """A day as files have it."""
     return (datetime.date.fromisoformat(day) - datetime.date(1970, 1, 1)).days
+
+
+@functools.cache
+def empty_register() -> bytes:
+    """A file of secondary entry in 2025, as the program makes it."""
+    with tempfile.TemporaryDirectory() as folder:
+        path = pathlib.Path(folder) / "reg.db"
+        subprocess.run([PROGRAM, "init", path, "secondary", "2025"], check=True)
+        return path.read_bytes()
 
 
 def write(
@@ -36,41 +48,54 @@ def write(
     "plan".
     """
     path.unlink(missing_ok=True)
+    path.write_bytes(empty_register())
     conn = sqlite3.connect(path)
     # (these files need not outlive a power loss)
     conn.execute("PRAGMA synchronous = OFF")
-    for it in TABLES:
-        conn.execute(it)
-    insert(conn, "meta", [(1, 2, 2, 2025, "", len(draws))])
-    insert(conn, "school", (
+    conn.execute("UPDATE meta SET draws = ?", [len(draws)])
+    insert(conn, "school", "code name pan east north criteria", (
         (it["school"], it["name"], it["pan"], it["east"], it["north"], ";".join(it["criteria"]))
         for it in schools.values()
     ))
-    insert(conn, "child", map(row_of_child, children.values()))
+    insert(conn, "child", "child name east north looked_after flags siblings",
+           map(row_of_child, children.values()))
     present = ((it["child"], it.get("present")) for it in children.values())
-    insert(conn, "present", ((child, 0, school) for child, school in present if school))
-    insert(conn, "application", (
+    insert(conn, "present", "child imported school",
+           ((child, 0, school) for child, school in present if school))
+    insert(conn, "application", "child day preferences", (
         (child, number("2024-11-20" if child in late else "2024-10-31"), ";".join(listed))
         for child, listed in lists.items()
     ))
-    for child, (school, kind) in (places or {}).items():
-        day = number("2025-03-03") if kind == "offered" else None
-        insert(conn, "place", [(child, school, KINDS[kind], day, None)])
-    insert(conn, "left_list", sorted(left))
+    day = number("2025-03-03")
+    insert(conn, "place", "child school kind day", (
+        (child, school, KINDS[kind], day if kind == "offered" else None)
+        for child, (school, kind) in (places or {}).items()
+    ))
+    insert(conn, "left_list", "child school", sorted(left))
     for at, (day_of, outcomes, lots, fresh) in enumerate(draws, 1):
-        insert(conn, "draw", [(at, at, None, number(day_of))])
-        insert(conn, "offer", (
+        insert(conn, "draw", "draw round day", [(at, at, number(day_of))])
+        insert(conn, "offer", "draw child school fresh", (
             (at, child, school, int(child in fresh)) for child, school in outcomes.items()
         ))
-        insert(conn, "lot", ((at, school, child, lot) for (school, child), lot in lots.items()))
+        insert(conn, "lot", "draw school child lot",
+               ((at, school, child, lot) for (school, child), lot in lots.items()))
     conn.commit()
     conn.close()
 
 
-def insert(conn: sqlite3.Connection, table: str, rows: Iterable[Sequence[object]]) -> None:
-    """Adds rows to a table."""
-    for row in rows:
-        conn.execute(f"INSERT INTO {table} VALUES ({', '.join('?' for _ in row)})", row)
+def insert(
+    conn: sqlite3.Connection, table: str, columns: str, rows: Iterable[Sequence[object]]
+) -> None:
+    """Adds rows with these columns to a table. Each other column, as that of a new field, has 0 or
+    the empty text; or NULL, where it may be NULL.
+    """
+    there = conn.execute("SELECT name, type, \"notnull\" FROM pragma_table_info(?)", [table])
+    others = {name: (0 if kind == "INTEGER" else "") if must else None
+              for name, kind, must in there if name not in columns.split()}
+    names = [*columns.split(), *others]
+    conn.executemany(
+        f"INSERT INTO {table} ({', '.join(names)}) VALUES ({', '.join('?' for _ in names)})",
+        ((*row, *others.values()) for row in rows))
 
 
 def row_of_child(it: Command) -> tuple[object, ...]:

@@ -1,5 +1,5 @@
 """The example season as its model (examples/season/model.py) works it out, which shares no code
-with the program or the commands, and its figures. It needs no package.
+with the program or the commands, and its figures.
 """
 import collections
 import csv
@@ -8,7 +8,7 @@ import json
 from types import ModuleType
 from typing import Any, TypedDict
 
-from files import ROOT
+from conftest import ROOT
 
 SEASON = ROOT / "examples" / "season"
 Command = dict[str, Any]

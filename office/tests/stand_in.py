@@ -1,6 +1,7 @@
-"""The program as if a child had one more field, `boarder`, which it keeps as flag 15.
+"""The program as if a child had one more field, `later_field`, which it keeps as flag 15.
 
-BEHIND is the program itself. What is imported is added to the file IMPORTED.
+BEHIND is the program itself, and LAST the last column that it imports. What is imported is added to
+the file IMPORTED.
 """
 import csv
 import json
@@ -8,7 +9,7 @@ import os
 import subprocess
 import sys
 
-PROGRAM, FLAG = os.environ["BEHIND"], 15
+PROGRAM, FIELD, FLAG = os.environ["BEHIND"], "later_field", 15
 # a line with a field of the wrong kind
 WRONG_KIND = b'{"cmd":"accept","child":""}\n'
 
@@ -20,10 +21,10 @@ def line_of(text: bytes) -> bytes:
     except ValueError:
         return text
     if command.get("cmd") in ("add_child", "amend"):
-        boarder = command.pop("boarder", False)
-        if not isinstance(boarder, bool):
+        value = command.pop(FIELD, False)
+        if not isinstance(value, bool):
             return WRONG_KIND
-        command["flags"] = command["flags"] + [FLAG] * boarder
+        command["flags"] = command["flags"] + [FLAG] * value
     return json.dumps(command).encode() + b"\n"
 
 
@@ -43,19 +44,19 @@ def do(register: str) -> int:
 
 
 def import_file(register: str, name: str) -> int:
-    """Imports rows, whose last column it may be, after that of the present school."""
+    """Imports rows, whose last column it may be, after all that the program imports."""
     with open(name, newline="", encoding="utf-8") as file:
         head, *rows = csv.reader(file)
     with open(os.environ["IMPORTED"], "a", encoding="utf-8") as file:
         print(*(",".join(it) for it in (head, *rows)), sep="\n", file=file)
-    if head[-2:] != ["present", "boarder"]:
+    if head[-2:] != [os.environ["LAST"], FIELD]:
         return subprocess.call([PROGRAM, "import", register, name])
     for at, row in enumerate(rows, 1):
-        boarder = row.pop()
-        if boarder not in ("yes", "no"):
+        value = row.pop()
+        if value not in ("yes", "no"):
             print(f"fault: row {at}: BadText", file=sys.stderr)
             return 1
-        if boarder == "yes":
+        if value == "yes":
             row[5] = ";".join(filter(None, [row[5], str(FLAG)]))
     with open(f"{name}.known", "w", newline="", encoding="utf-8") as file:
         csv.writer(file, lineterminator="\n").writerows([head[:-1], *rows])
@@ -68,7 +69,7 @@ def show(words: list[str]) -> int:
     if ran.returncode == 0:
         found = json.loads(ran.stdout)
         for it in found.get("children", []):
-            it["boarder"] = FLAG in it["flags"]
+            it[FIELD] = FLAG in it["flags"]
             it["flags"] = [flag for flag in it["flags"] if flag != FLAG]
         print(json.dumps(found, ensure_ascii=False))
     return ran.returncode

@@ -18,7 +18,8 @@ from typing import Any
 
 import openpyxl
 import pytest
-from conftest import HEADER, PROGRAM, ROOT, Command, Office, Ran, apply, child, do, make, school
+from conftest import (
+    HEADER, OMITTED, PROGRAM, ROOT, Command, Office, Ran, apply, child, do, make, school)
 from files import write
 from model_season import MODEL
 from programs import RUN_FOR_EACH, SERVED, noted, noting, way_in, words_before
@@ -653,7 +654,7 @@ def test_an_amend_repeats_all(office: Office, tmp_path: Path) -> None:
         ran = office("query", "reg.db", "amend", "--child", it["child"])
         assert ran.returncode == 0 and ran.stdout.count("\n") == 1
         lines.append(json.loads(ran.stdout))
-        assert lines[-1] == {"present": "", **it, "cmd": "amend"}
+        assert lines[-1] == {**OMITTED, **it, "cmd": "amend"}
     do(reg, lines)
     assert dump(reg) == was
     do(reg, [{**lines[0], "name": "Ann Abell"}])

@@ -193,7 +193,8 @@ def test_each_kind_and_each_column_has_a_reader() -> None:
     kinds = {it.kind.removeprefix(rules.LIST) for listed in rules.COMMANDS.values()
              for it in listed.values()}
     assert kinds == commands.KINDS.keys()
-    assert list(fields.READERS) == list(fields.COLUMNS) == HEADER.split(",")
+    assert list(fields.COLUMNS)[: len(fields.READERS)] == list(fields.READERS) == HEADER.split(",")
+    assert all(map(fields.reader_of, rules.COLUMNS.values()))
     assert {it.value for it in rules.CRITERIA if it.value} == commands.VALUES.keys()
 
 

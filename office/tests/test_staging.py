@@ -18,7 +18,7 @@ from register_files import Refused
 from served import served
 from staged import COLUMNS, Screens, Seen, csv_of, workbook
 
-from office import check, sheet, sheet_apart
+from office import check, fields, sheet, sheet_apart
 from office.model import Register
 from office.senders import Ended
 from office.web import staging_check, staging_commit, staging_form, store
@@ -462,7 +462,7 @@ def test_duplicates_are_side_by_side_and_merged(office: Site, screens: Screens) 
                                 {**both, "what": "merge"}).status_code == 303
     staging = office.app.extensions["staging"].staging
     # (the day of the row that is kept stays, and what it had not is filled)
-    wanted = dict(zip(COLUMNS, changed(again, 9, "PRIM7"))) | {"siblings": "OAK"}
+    wanted = {**fields.OMITTED, **dict(zip(COLUMNS, changed(again, 9, "PRIM7"))), "siblings": "OAK"}
     assert staging.row(at[0]).cells == wanted
     assert staging.row(at[1]).state == WITHDRAWN
     stale = screens.browser.post("/applications/duplicates", {**both, "what": "merge"})
