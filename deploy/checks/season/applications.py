@@ -1,0 +1,140 @@
+"""Applications from a workbook: what is wrong in it is corrected at its cells, and all are stored; and
+plans.
+"""
+from typing import Any
+
+from selenium.webdriver.common.by import By
+from selenium.webdriver.remote.webelement import WebElement
+
+from . import town
+from .allocation import Child
+from .hands import Hands
+from .office import HAL, Office
+
+
+def from_workbook(office: Office) -> None:
+    """The workbook is added, and what is wrong is named at its cells."""
+    report, hal = office.report, office.people[HAL]
+    given = list(office.season.children.values())
+    report.step("applications from a workbook, with ten that have an error")
+    path = office.folder / "applications.xlsx"
+    town.write(path, town.COLUMNS, town.rows(given))
+    hal.press("Applications")
+    hal.choose("Add workbooks (.xlsx) or CSV files", path)
+    hal.press("Add the files")
+    hal.see(f"applications.xlsx is added: {len(given) + 1} rows.")
+    wrong = len(town.FAULTS) + 1
+    hal.see(f"{len(given) + 1} rows: {wrong} with errors, {len(town.LATE)} to look at.")
+    for child, fault in town.wrong_rows(given):
+        said = found_at(hal, child, fault.column)
+        report.see(fault.said in said, f"at {fault.column} of child {child.number} is {said!r},"
+                   f" and not {fault.said!r}")
+    twice = found_at(hal, town.doubled(given), "child")
+    report.see(town.DOUBLED in twice, f"at the doubled child is {twice!r}")
+
+
+def row_of(hands: Hands, child: Child) -> WebElement:
+    """The row of a child: of two with its number, the one with its home."""
+    rows: list[WebElement] = hands.driver.execute_script(
+        "const value = (row, name) => row.querySelector(`input[name=${name}]`)?.value;"
+        "return [...document.querySelectorAll('.cells tbody tr')].filter("
+        "(row) => value(row, 'child') === arguments[0])", str(child.number))
+    if len(rows) > 1:
+        rows = [it for it in rows if cell(it, "east").get_attribute("value") == str(child.east)]
+    return rows[0]
+
+
+def cell(row: WebElement, column: str) -> WebElement:
+    """The field of a cell."""
+    return row.find_element(By.CSS_SELECTOR, f"input[name={column}]")
+
+
+def found_at(hands: Hands, child: Child, column: str) -> str:
+    """What is said at a cell that is marked as wrong."""
+    field = cell(row_of(hands, child), column)
+    if field.get_attribute("aria-invalid") != "true":
+        return ""
+    about = field.get_attribute("aria-describedby")
+    return hands.text(f"[id='{about}']")
+
+
+def corrected(office: Office) -> None:
+    """Each cell is corrected where it is, and saved by Enter; the doubled row is withdrawn."""
+    report, hal = office.report, office.people[HAL]
+    given = list(office.season.children.values())
+    report.step("they are corrected at their cells")
+    left = len(town.FAULTS) + 1
+    for child, fault in town.wrong_rows(given):
+        field = cell(row_of(hal, child), fault.column)
+        if field != hal.driver.switch_to.active_element:
+            hal.into(field)
+        hal.replace(town.texts_of(child)[fault.column])
+        hal.enter()
+        left -= 1
+        hal.see("nothing is wrong in it.", f"child {child.number}, {fault.column}")
+        hal.see(f"{len(given) + 1} rows: {left} with errors")
+    twice = row_of(hal, town.doubled(given))
+    hal.press("Withdraw", twice)
+    hal.see(f"{len(given)} rows: 0 with errors, {len(town.LATE)} to look at.")
+
+
+def stored(office: Office) -> None:
+    """All are stored by the question that names how many there are."""
+    report, hal = office.report, office.people[HAL]
+    given = list(office.season.children.values())
+    report.step("they are stored")
+    hal.press("Store in the register")
+    facts, late = hal.facts(), len(town.LATE)
+    in_time = len(given) - late
+    report.same(facts.get("Children"), str(len(given)), "children to be stored")
+    report.see(facts.get("In time", "").startswith(f"{in_time},"),
+               f"in time: {facts.get('In time')}")
+    report.same(facts.get("Late"), str(late), "late ones to be stored")
+    report.same(facts.get("Looked after"), str(sum(it.looked_after for it in given)),
+                "looked after of those to be stored")
+    hal.see(f"shall {len(given)} applications of {len(given)} children be stored, {in_time} in time"
+            f" and {late} late?")
+    hal.press(f"Store {len(given)} applications")
+    hal.see(f"Stored in the register: {len(given)} applications")
+    kept = {it["child"]: it for it in office.read("/register")["children"]}
+    for child in given:
+        report.same(data_of(kept.get(child.number)), wanted_of(child),
+                    f"child {child.number} in the register")
+
+
+def data_of(found: Any) -> dict[str, Any] | None:
+    """A child of the register with its application."""
+    if not found or not found["application"]:
+        return None
+    names = ("child", "name", "east", "north", "looked_after", "flags", "siblings", "present")
+    listed = [it["school"] for it in found["application"]["preferences"]]
+    return {name: found[name] for name in names} | {
+        "day": found["application"]["day"], "preferences": listed}
+
+
+def wanted_of(child: Child) -> dict[str, Any]:
+    """The same of a child of the town."""
+    return {"child": child.number, "name": child.name, "east": child.east, "north": child.north,
+            "looked_after": child.looked_after, "flags": list(child.flags),
+            "siblings": list(child.siblings), "present": child.present,
+            "day": child.day.isoformat(), "preferences": list(child.preferences)}
+
+
+def plans(office: Office) -> None:
+    """Two plans, typed as a column into the pile, and recorded after a question that names them."""
+    report, hal, season = office.report, office.people[HAL], office.season
+    report.step("two plans are recorded")
+    named = [(list(season.children.values())[at], school) for at, school in ((9, "A"), (33, "DEAN"))]
+    hal.press("Answers")
+    hal.tab_to("A column of numbers or names, or rows as decline,23,ELM,Bo Bell")
+    hal.type("\n".join(f"plan,{it.number},{school},{it.name}" for it, school in named))
+    hal.press("Add to the pile")
+    hal.press("Record 2 answers")
+    hal.see("2 of them are final:")
+    for it, school in named:
+        hal.see(f"plan: child {it.number}, {it.name}, at {school}")
+    hal.press("Record 2 answers")
+    hal.see("2 of 2 answers are recorded.")
+    for it, school in named:
+        season.plan(it.number, school)
+    office.compare("the plans")

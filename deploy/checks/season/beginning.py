@@ -1,0 +1,111 @@
+"""The begin of the season: people sign in, the schools, the words of flags, who may do what."""
+from selenium.webdriver.common.keys import Keys
+
+from . import town
+from .hands import Hands
+from .office import (
+    ABBEY, HAL, OFFICER, PROGRAM, READER, RITA, SUP, SUPERVISOR, Office,
+)
+
+
+def password_of(who: str) -> str:
+    """The password that somebody chooses."""
+    return f"the own password of {who}"
+
+
+def sign_in(hands: Hands, drawn: str) -> None:
+    """Signs in with a drawn password, and changes it, which is asked for at once."""
+    hands.open("/")
+    hands.type(hands.who)
+    hands.key(Keys.TAB)
+    hands.type(drawn)
+    hands.enter()
+    hands.report.same(hands.title, "Your password", f"what {hands.who} sees first")
+    hands.fill("Present password", drawn)
+    for label in ("New password", "New password again"):
+        hands.fill(label, password_of(hands.who))
+    hands.enter()
+
+
+def first_sign_in(office: Office) -> None:
+    """The head of the office signs in."""
+    office.report.step("the head of the office signs in, and changes the password")
+    jane = office.arrive(office.first[0])
+    sign_in(jane, office.first[1])
+    office.report.same(jane.title, "Season", "the first screen of the head of the office")
+    jane.see("Next: Schools")
+
+
+def schools(office: Office) -> None:
+    """The schools from a workbook: shown whole, and stored."""
+    office.report.step("schools from a workbook")
+    jane, path = office.jane, office.folder / "schools.xlsx"
+    town.write_schools(path)
+    jane.press("Add schools")
+    jane.choose("Sheet", path)
+    lines = jane_adds(jane)
+    for it in town.SCHOOLS:
+        row = next((row for row in lines if row[0] == it.code), [""] * 6)
+        office.report.same(row[:5], [it.code, it.name, str(it.pan), str(it.east), str(it.north)],
+                           f"the line of {it.code} in the draft")
+        office.report.see(all(one in row[5] for one in it.criteria),
+                          f"the criteria of {it.code} in the draft: {row[5]}")
+    jane.press(f"Store {len(town.SCHOOLS)} schools")
+    jane.see(f"{len(town.SCHOOLS)} schools are stored.")
+    office.report.same(len(jane.rows("#outcomes")), len(town.SCHOOLS), "schools that were stored")
+
+
+def jane_adds(jane: Hands) -> list[list[str]]:
+    """Adds the sheet that was chosen to the draft, and returns its lines."""
+    buttons = jane.driver.find_elements("css selector", "form[action$='/sheet']")
+    jane.press("Add to the draft", buttons[0])
+    return jane.captioned("Each line as it will be stored")
+
+
+def flags(office: Office) -> None:
+    """Words for flags."""
+    office.report.step("words for flags")
+    jane = office.jane
+    jane.press("Flags")
+    for number, words in town.FLAG_WORDS.items():
+        jane.fill(f"Words of flag {number}", words)
+    jane.enter()
+    jane.see("The words are stored.")
+    rows = {row[0]: row[2] for row in jane.rows("table")}
+    office.report.same(rows.get("2"), "A, FERN", "the schools with flag 2 among their criteria")
+
+
+def people(office: Office) -> None:
+    """People are added with their roles, and a program with a token."""
+    office.report.step("people are added, and sign in")
+    jane = office.jane
+    jane.press("People")
+    roles = ((HAL, OFFICER), (SUP, SUPERVISOR), (RITA, READER), (ABBEY, "school-A"),
+             (PROGRAM, READER))
+    for name, role in roles:
+        jane.fill("Name or mail address, in small letters", name)
+        jane.pick("Role", role, role)
+        if name == PROGRAM:
+            jane.pick("Who it is", "a program", "a pr")
+        jane.press("Add")
+        jane.see(f"{name} is added.")
+        office.drawn[name] = jane.text("#secret")
+    listed = {row[0]: row[1] for row in jane.captioned("Who may sign in")}
+    for name, role in roles:
+        shown = f"{name} (program)" if name == PROGRAM else name
+        office.report.see(shown in listed, f"{name} is not in the list of people: {listed}")
+
+
+def arrivals(office: Office) -> None:
+    """Each signs in and sees what is theirs."""
+    firsts = {HAL: "Season", SUP: "Lots", RITA: "Season", ABBEY: "A Abbey School"}
+    menus = {
+        HAL: "Season Schools Applications Children Answers Draws Lists Flags The page Activity",
+        SUP: "Lots", ABBEY: "",
+        RITA: "Season Schools Applications Children Draws Lists Flags The page Activity"}
+    for who, first in firsts.items():
+        hands = office.arrive(who)
+        sign_in(hands, office.drawn[who])
+        office.report.same(hands.title, first, f"the first screen of {who}")
+        office.report.same(hands.text("nav"), menus[who], f"the menu of {who}")
+        hands.look(f"The first screen of {who}")

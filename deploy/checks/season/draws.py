@@ -1,0 +1,208 @@
+"""A round, or fills at one school in one closure: closed, copied, lots drawn and sealed, rehearsed,
+confirmed by a second person, held, audited and opened.
+"""
+import dataclasses
+import datetime
+import hashlib
+import random
+from collections.abc import Sequence
+
+from . import town
+from .allocation import Pair, lot_of_seed
+from .hands import Hands, until
+from .office import HAL, SUP, Office
+
+AGREED = "I have read what looks wrong above, and it is right"
+
+
+@dataclasses.dataclass(frozen=True)
+class Draw:
+    """A draw: its first number; the school and the number of fills, or a round; its day; the seed of the
+    lots that decide nothing; and whether the others come in a workbook.
+    """
+
+    first: int
+    day: datetime.date
+    seed: str
+    school: str = ""
+    fills: int = 1
+    is_workbook: bool = False
+
+    @property
+    def numbers(self) -> str:
+        """How the screens name it."""
+        last = self.first + self.fills - 1
+        return f"draws {self.first} to {last}" if self.fills > 1 else f"draw {self.first}"
+
+    @property
+    def words(self) -> str:
+        """What is drawn, in words."""
+        fills = f"{self.fills} fills" if self.fills > 1 else "1 fill"
+        return f"{self.numbers}: {f'{fills} at {self.school}' if self.school else 'a round'}"
+
+    @property
+    def title(self) -> str:
+        """The same as a heading."""
+        return self.words[0].upper() + self.words[1:]
+
+
+# the lots of each pair, one for each draw of the row
+Lots = dict[Pair, list[int]]
+
+
+def held(office: Office, draw: Draw) -> None:
+    """A draw from its begin to its end, compared with the rules."""
+    office.today(draw.day)
+    office.report.step(f"{draw.words}: begun, closed and copied")
+    pairs = office.season.waiting(draw.school) if draw.school else office.season.pairs()
+    lots = lots_of(office, draw, pairs)
+    begun(office, draw)
+    closed(office, draw, len(pairs))
+    office.report.step(f"{draw.words}: lots")
+    drawn(office, draw, pairs, lots)
+    office.report.step(f"{draw.words}: rehearsed and confirmed")
+    rehearsed(office, draw, lots)
+    office.report.step(f"{draw.words}: held, audited and opened")
+    sent(office, draw)
+    office.compare(draw.words)
+    for at in range(draw.fills):
+        document = office.read(f"/draw/{draw.first + at}")
+        kept = {(it["school"], it["child"]): it["lot"] for it in document["lots"]}
+        wanted = {pair: lots[pair][at] for pair in lots if pair in kept}
+        office.report.same(kept, wanted, f"the lots of draw {draw.first + at}")
+
+
+def lots_of(office: Office, draw: Draw, pairs: Sequence[Pair]) -> Lots:
+    """The lots: those that decide are drawn by the supervisor, the others by the seed."""
+    urn = random.Random(draw.first)
+    tied = {pair for group in office.season.ties(pairs) for pair in group}
+    found: Lots = {}
+    for pair in pairs:
+        for at in range(draw.fills):
+            found.setdefault(pair, []).append(
+                urn.randrange(1 << 32) if pair in tied
+                else lot_of_seed(draw.seed, draw.first + at, pair))
+    return found
+
+
+def begun(office: Office, draw: Draw) -> None:
+    """The head of the office begins it."""
+    jane = office.jane
+    jane.press("Draws")
+    if draw.school:
+        jane.pick("What is drawn", "fills", "fills")
+    if jane.field("Day of the draw").get_attribute("value") != draw.day.isoformat():
+        jane.type_day("Day of the draw", draw.day)
+    if draw.school:
+        jane.pick("School, for fills", f"{draw.school} ", f"{draw.school} ")
+        jane.fill("How many fills there", str(draw.fills))
+        jane.enter()
+    else:
+        jane.press(f"Begin draw {draw.first}")
+    office.report.same(jane.title, draw.title, "the heading of the draw")
+
+
+def closed(office: Office, draw: Draw, pairs: int) -> None:
+    """The register is closed for all others, copied, and its pairs are given to the supervisor."""
+    report, jane = office.report, office.jane
+    facts = jane.facts()
+    report.see(facts.get("Lots", "").startswith(f"{pairs} pairs of "), f"pairs: {facts.get('Lots')}")
+    if jane.has(AGREED):
+        jane.press(AGREED, is_new=False)
+    jane.press("Close for all others")
+    hal = office.people[HAL]
+    hal.open("/")
+    report.see(hal.text("#answer").startswith(f"Closed for {draw.numbers} by {jane.who}"),
+               f"the officer sees that it is closed: {hal.text('#answer')!r}")
+    jane.press("Make the copy")
+    jane.press("Give the pairs to the supervisor")
+    report.see(f"{pairs} pairs" in jane.text("details ol") or jane.facts().get("State") == "lots",
+               f"the state of the draw: {jane.facts().get('State')}")
+
+
+def drawn(office: Office, draw: Draw, pairs: Sequence[Pair], lots: Lots) -> None:
+    """The supervisor draws those that decide, the seed the others, and all are sealed."""
+    report, sup = office.report, office.people[SUP]
+    tied = [pair for group in office.season.ties(pairs) for pair in group]
+    sup.reload()
+    if sup.title == "Lots":
+        sup.press(draw.title)
+    report.same(sup.title, f"Lots of {draw.words}", "what the supervisor sees")
+    sup.see(f"{len(pairs)} pairs of a school and a child. {len(tied)} ")
+    if draw.is_workbook:
+        by_workbook(office, sup, draw, {pair: lots[pair][0] for pair in tied})
+    elif tied:
+        by_keys(sup, draw, tied, lots)
+    others = (len(pairs) - len(tied)) * draw.fills
+    sup.fill("Seed", draw.seed)
+    sup.enter()
+    sup.see(f"{others} lots are drawn by the seed.")
+    if sup.has("Show all lots"):
+        sup.press("Show all lots")
+    digest = hashlib.sha256(sealed_text(draw, lots).encode()).hexdigest()
+    report.same(sup.text("#digest"), digest, "the digest of the lots")
+    sup.press(f"Seal the lots of {draw.numbers}")
+    sup.see(f"Sealed by {sup.who}")
+
+
+def by_workbook(office: Office, sup: Hands, draw: Draw, lots: dict[Pair, int]) -> None:
+    """The sheet of the screen is filled in a spreadsheet, and taken."""
+    sup.press("a workbook", is_new=False)
+    path = office.downloads(SUP) / f"lots-{draw.first}.xlsx"
+    until(path.exists, "the sheet of lots")
+    office.report.same(town.fill_lots(path, lots), len(lots), "pairs of the sheet with a lot")
+    sup.choose("File (.xlsx or .csv)", path)
+    sup.press("Take the lots of the file")
+    sup.see(f"The file has {len(lots)} lots of {draw.numbers}: {len(lots)} new or changed.")
+
+
+def by_keys(sup: Hands, draw: Draw, tied: Sequence[Pair], lots: Lots) -> None:
+    """The lots are typed in the table, and saved by Enter."""
+    for pair in tied:
+        for at in range(draw.fills):
+            sup.tab_to(f"Lot of draw {draw.first + at} {pair[0]} {pair[1]}")
+            sup.type(str(lots[pair][at]))
+    sup.enter()
+    sup.see(f"{len(tied) * draw.fills} lots saved.")
+
+
+def sealed_text(draw: Draw, lots: Lots) -> str:
+    """The text whose digest is the seal, as the screen describes it."""
+    lines = [f"{draw.words}, {draw.day.isoformat()}"]
+    lines += [" ".join(map(str, [*pair, *lots[pair]])) for pair in sorted(lots)]
+    return "".join(f"{it}\n" for it in lines)
+
+
+def rehearsed(office: Office, draw: Draw, lots: Lots) -> None:
+    """The draw is rehearsed. The outcome must be that of the rules, and a second person confirms it."""
+    report, jane, hal, season = office.report, office.jane, office.people[HAL], office.season
+    before = dict(season.places)
+    jane.reload()
+    jane.press("Rehearse")
+    got: list[tuple[int, int, str | None]] = []
+    if draw.school:
+        for at in range(draw.fills):
+            there = season.waiting(draw.school)
+            first = season.fill(draw.school, {pair: lots[pair][at] for pair in there})
+            got.append((draw.first + at, first, draw.school))
+    else:
+        outcome = season.round({pair: it[0] for pair, it in lots.items()})
+        got = [(draw.first, child, school) for child, school in outcome.items()]
+    shown = [[row[0], row[1], row[3], row[4]] for row in jane.captioned("By child")]
+    wanted = [[str(number), str(child), before.get(child, "none"), school or "none"]
+              for number, child, school in got]
+    report.same(shown, wanted, f"the outcome of the rehearsal of {draw.numbers}")
+    hal.press("Draws")
+    hal.press(draw.title)
+    hal.press(f"Confirm {draw.numbers}")
+
+
+def sent(office: Office, draw: Draw) -> None:
+    """It is held, audited, and the register is opened for all."""
+    report, jane = office.report, office.jane
+    jane.reload()
+    jane.press(f"Hold {draw.numbers}")
+    jane.press(f"Audit {draw.numbers}")
+    jane.see("The outcome is that of the rehearsal, and the second program has worked out the same.")
+    jane.press("Open for all")
+    report.same(jane.facts().get("State"), "opened", f"the state of {draw.numbers}")

@@ -1,0 +1,315 @@
+"""A person at a browser. What they press and type is counted, and each screen that they see is looked
+at: its width on a small screen, and what the browser's console says.
+
+A click is a press of a button, of a link, of a box or of a file field, by mouse or by key; a click
+into a field, to type there, is counted apart. A key is each key that is pressed.
+"""
+import base64
+import contextlib
+import dataclasses
+import pathlib
+import re
+import time
+from collections.abc import Callable, Iterator
+from typing import Any
+
+from selenium.common.exceptions import WebDriverException
+from selenium.webdriver.common.action_chains import ActionChains
+from selenium.webdriver.common.by import By
+from selenium.webdriver.common.keys import Keys
+from selenium.webdriver.remote.webdriver import WebDriver
+from selenium.webdriver.remote.webelement import WebElement
+
+# for so long a step may take: a copy of the register, or a rehearsal
+SECONDS = 180
+WIDTH, HEIGHT, SMALL = 1280, 900, 320
+# no screen needs so many steps by Tab to one of its fields
+MOST_TABS = 400
+PLAIN = """
+const plain = (text) => (text ?? "").replace(/\\s+/g, " ").trim();
+const of = (it) => it.getAttribute("aria-label")
+  ?? (it.getAttribute("aria-labelledby")
+    ? it.getAttribute("aria-labelledby").split(" ").map((id) => document.getElementById(id)?.textContent).join(" ")
+    : it.labels?.length ? it.labels[0].textContent : it.textContent);
+"""
+# the label of the field that has the focus
+FOCUSED = PLAIN + "return plain(of(document.activeElement));"
+# what can be pressed, that is shown, with a text
+PRESSED = PLAIN + """
+const [text, within] = arguments;
+return [...(within ?? document).querySelectorAll("button, a, summary, input[type=checkbox]")].filter(
+  (it) => plain(it.type === "checkbox" ? of(it) : it.textContent) === text && it.getClientRects().length > 0);
+"""
+FIELDS = PLAIN + """
+return [...document.querySelectorAll("input, select, textarea")].filter((it) => plain(of(it)) === arguments[0]);
+"""
+# in which order the browser has the parts of a day
+PARTS = """
+return new Intl.DateTimeFormat().formatToParts(new Date(2001, 1, 3)).map((it) => it.type)
+  .filter((it) => it !== "literal").join(" ");
+"""
+DIGITS = {"day": "%d", "month": "%m", "year": "%Y"}
+
+
+class Stopped(Exception):
+    """Why the season cannot go on."""
+
+
+@dataclasses.dataclass
+class Counts:
+    """What all persons have pressed: buttons, links and boxes; fields to type there; and keys."""
+
+    clicks: int = 0
+    fields: int = 0
+    keys: int = 0
+
+
+@dataclasses.dataclass
+class Report:
+    """What was seen, and how often something was not as it must be."""
+
+    passed: int = 0
+    failed: list[str] = dataclasses.field(default_factory=list)
+    counts: Counts = dataclasses.field(default_factory=Counts)
+    # which screens were looked at
+    screens: set[str] = dataclasses.field(default_factory=set)
+
+    def see(self, is_so: object, name: str) -> bool:
+        """Counts something that must be so."""
+        if is_so:
+            self.passed += 1
+        else:
+            self.failed.append(name)
+            print(f"FAILED: {name}", flush=True)
+        return bool(is_so)
+
+    def same(self, found: object, wanted: object, name: str) -> None:
+        """Counts two things that must be equal."""
+        self.see(found == wanted, f"{name}: {shortly(found)}, and not {shortly(wanted)}")
+
+    def step(self, text: str) -> None:
+        """Prints what is done, with the clicks so far."""
+        it = self.counts
+        print(f"{it.clicks:3} clicks, {it.fields:2} into fields, {it.keys:5} keys: {text}",
+              flush=True)
+
+
+def shortly(value: object) -> str:
+    """A value as it is printed of something that failed."""
+    text = repr(value)
+    return text if len(text) <= 300 else f"{text[:300]}.."
+
+
+def until(what: Callable[[], object], name: str, seconds: float = SECONDS) -> Any:
+    """Waits until something is so, and returns it."""
+    end = time.monotonic() + seconds
+    while True:
+        with contextlib.suppress(WebDriverException):
+            if found := what():
+                return found
+        if time.monotonic() > end:
+            raise Stopped(f"{name}: not within {seconds:.0f} seconds")
+        time.sleep(0.05)
+
+
+class Hands:
+    """A person at a browser of their own."""
+
+    def __init__(self, driver: WebDriver, who: str, base: str, report: Report,
+                 pictures: pathlib.Path | None) -> None:
+        self.driver, self.who, self.base = driver, who, base
+        self.report, self.pictures = report, pictures
+        self.resize(WIDTH, HEIGHT)
+
+    # what is seen
+
+    def text(self, selector: str) -> str:
+        """The text of the first element of a selector, on one line; "" where there is none."""
+        found = self.driver.find_elements(By.CSS_SELECTOR, selector)
+        return " ".join(found[0].text.split()) if found else ""
+
+    @property
+    def title(self) -> str:
+        """The heading of the screen."""
+        return self.text("h1")
+
+    @property
+    def main(self) -> str:
+        """All text of the screen."""
+        return self.text("main")
+
+    def see(self, text: str, name: str = "") -> None:
+        """The screen must have a text."""
+        self.report.see(text in self.main, f"{self.who} at '{self.title}' does not see"
+                        f" {text!r}{f' ({name})' if name else ''}: {self.main[:600]}")
+
+    def rows(self, selector: str) -> list[list[str]]:
+        """The texts of the cells of a table's body."""
+        found: list[list[str]] = self.driver.execute_script(
+            PLAIN + "return [...document.querySelectorAll(arguments[0] + ' tbody tr')].map("
+            "(row) => [...row.cells].map((it) => plain(it.textContent)));", selector)
+        return found
+
+    def captioned(self, caption: str) -> list[list[str]]:
+        """The texts of the table whose caption begins so."""
+        self.driver.execute_script(
+            PLAIN + "document.querySelectorAll('table').forEach((it) => it.toggleAttribute("
+            "'data-seen', plain(it.caption?.textContent).startsWith(arguments[0])));", caption)
+        return self.rows("table[data-seen]")
+
+    def facts(self) -> dict[str, str]:
+        """What lists of names and values say."""
+        found = self.driver.execute_script(
+            PLAIN + "return [...document.querySelectorAll('.facts div')].map((it) =>"
+            "[plain(it.children[0].textContent), plain(it.children[1].textContent)]);")
+        return dict(found)
+
+    def has(self, text: str) -> bool:
+        """Whether there is something to press with a text."""
+        return bool(self.driver.execute_script(PRESSED, text, None))
+
+    # what is pressed
+
+    def press(self, text: str, within: WebElement | None = None, is_new: bool = True) -> None:
+        """Clicks what has a text. Another page follows, if not said otherwise."""
+        found = self.driver.execute_script(PRESSED, text, within)
+        if not found:
+            raise Stopped(f"{self.who} at '{self.title}' finds nothing to press with {text!r}:"
+                          f" {self.main[:1500]}")
+        self.report.counts.clicks += 1
+        with self.new_page(text) if is_new else contextlib.nullcontext():
+            found[0].click()
+
+    def into(self, element: WebElement) -> None:
+        """Clicks into a field, to type there."""
+        self.report.counts.fields += 1
+        element.click()
+
+    def choose(self, label: str, path: pathlib.Path) -> None:
+        """Chooses a file in a field."""
+        self.report.counts.clicks += 1
+        self.field(label).send_keys(str(path))
+
+    def field(self, label: str) -> WebElement:
+        """The field with a label."""
+        found = self.driver.execute_script(FIELDS, label)
+        if not found:
+            raise Stopped(f"{self.who} at '{self.title}' finds no field {label!r}")
+        it: WebElement = found[0]
+        return it
+
+    def tab_to(self, label: str) -> None:
+        """Goes to the field with a label by Tab."""
+        self.field(label)
+        for _ in range(MOST_TABS):
+            if self.driver.execute_script(FOCUSED) == label:
+                return
+            self.key(Keys.TAB)
+        raise Stopped(f"{self.who} at '{self.title}' does not come to {label!r} by Tab")
+
+    def key(self, *keys: str) -> None:
+        """Presses a key; the others before it are held meanwhile."""
+        self.report.counts.keys += 1
+        actions = ActionChains(self.driver)
+        for it in keys[:-1]:
+            actions.key_down(it)
+        actions.send_keys(keys[-1])
+        for it in keys[:-1]:
+            actions.key_up(it)
+        actions.perform()
+
+    def type(self, text: str) -> None:
+        """Types a text."""
+        self.report.counts.keys += len(text)
+        ActionChains(self.driver).send_keys(text).perform()
+
+    def replace(self, text: str) -> None:
+        """Types a text in place of what a field has."""
+        self.key(Keys.CONTROL, "a")
+        self.key(Keys.DELETE) if not text else self.type(text)
+
+    def fill(self, label: str, text: str) -> None:
+        """Goes to a field by Tab, and types a text in place of what it has."""
+        self.tab_to(label)
+        self.replace(text)
+
+    def pick(self, label: str, text: str, begin: str) -> None:
+        """Goes to a menu by Tab, and chooses what begins with what is typed."""
+        self.tab_to(label)
+        self.type(begin)
+        chosen = self.driver.execute_script(
+            "return arguments[0].selectedOptions[0]?.textContent", self.field(label))
+        if not str(chosen).startswith(text):
+            raise Stopped(f"{begin!r} chooses {chosen!r} of {label}, and not {text!r}")
+
+    def type_day(self, label: str, day: Any) -> None:
+        """Goes to a field of a day by Tab, and types the day in the browser's order of its parts."""
+        self.tab_to(label)
+        order = str(self.driver.execute_script(PARTS)).split()
+        self.type("".join(f"{day:{DIGITS[it]}}" for it in order))
+        value = self.field(label).get_attribute("value")
+        if value != day.isoformat():
+            raise Stopped(f"{label} has {value} after {day} was typed ({order})")
+
+    def enter(self) -> None:
+        """Presses Enter, from which another page follows."""
+        with self.new_page("Enter"):
+            self.key(Keys.ENTER)
+
+    # pages
+
+    def open(self, path: str) -> None:
+        """Types an address of the site."""
+        self.driver.get(self.base + path)
+        self.look()
+
+    def reload(self) -> None:
+        """Loads the page again, by F5."""
+        self.report.counts.keys += 1
+        self.driver.refresh()
+        self.look()
+
+    @contextlib.contextmanager
+    def new_page(self, name: str) -> Iterator[None]:
+        """Waits for another page, and looks at it."""
+        mark = f"{time.monotonic_ns()}"
+        self.driver.execute_script("document.documentElement.dataset.mark = arguments[0]", mark)
+        yield
+        until(lambda: self.driver.execute_script(
+            "return document.documentElement.dataset.mark !== arguments[0] &&"
+            " document.readyState === 'complete'", mark), f"a page after {name!r}")
+        self.look()
+
+    def resize(self, width: int, height: int) -> None:
+        """Sets the size of the window."""
+        self.driver.execute_cdp_cmd("Emulation.setDeviceMetricsOverride", {
+            "width": width, "height": height, "deviceScaleFactor": 1, "mobile": False})
+
+    def look(self, name: str = "") -> None:
+        """Looks at the screen: the console, and once of each screen its width and its picture."""
+        for it in self.driver.get_log("browser"):
+            is_bad = it["level"] == "SEVERE" or it.get("source") == "security"
+            if is_bad or "Autofocus" in it["message"]:
+                self.report.see(False, f"the console of {self.who} at '{self.title}':"
+                                f" {it['message']}")
+        name = name or re.sub(r"[0-9]+", "N", self.title)
+        if name in self.report.screens:
+            return
+        self.report.screens.add(name)
+        self.report.see(self.title, f"a screen without a heading: {self.driver.current_url}")
+        self.picture(name)
+        self.resize(SMALL, HEIGHT)
+        width = self.driver.execute_script("return document.documentElement.scrollWidth")
+        self.report.see(width <= SMALL, f"'{name}' is {width} pixels wide on a screen of {SMALL}")
+        self.picture(name, "-small")
+        self.resize(WIDTH, HEIGHT)
+
+    def picture(self, name: str, end: str = "") -> None:
+        """Keeps a picture of the whole page."""
+        if self.pictures is None:
+            return
+        known = {"captureBeyondViewport": True, "format": "png"}
+        data = self.driver.execute_cdp_cmd("Page.captureScreenshot", known)["data"]
+        number = f"{len(self.report.screens):02}"
+        plain = re.sub(r"[^A-Za-z0-9]+", "-", name).strip("-")[:50]
+        (self.pictures / f"{number}-{plain}{end}.png").write_bytes(base64.b64decode(data))
