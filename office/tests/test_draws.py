@@ -852,8 +852,8 @@ NOT_BEGUN = [
     ({"kind": "fill", "school": "OAK", "fills": "99", "day": OFFER_DAY}, "from 1 to 50"),
     ({"kind": "fill", "school": "OAK", "fills": "-1", "day": OFFER_DAY}, "from 1 to 50"),
     ({"kind": "fill", "school": "OAK", "fills": "٣", "day": OFFER_DAY}, "from 1 to 50"),
-    ({"kind": "round", "fills": "2", "day": "2025-02-30"}, "choose the day"),
-    ({"kind": "round", "fills": "<b>", "day": "<b>"}, "choose the day"),
+    ({"kind": "round", "fills": "2", "day": "2025-02-30"}, "type the day of the draw as"),
+    ({"kind": "round", "fills": "<b>", "day": "<b>"}, "type the day of the draw as"),
 ]
 
 
@@ -867,6 +867,21 @@ def test_a_draw_that_cannot_be(small: Machine) -> None:
             assert "<b>" not in found.text
             assert Fields(found.text).values["fills"] == given["fills"]
         assert office.parts.draws.listed() == []
+
+
+@pytest.mark.parametrize("typed_day, read", [
+    ("4/3/2025", "Tuesday 4 March 2025."), ("4 March 2025", "Tuesday 4 March 2025."),
+    ("2025-03-04", "Tuesday 4 March 2025.")])
+def test_the_day_is_typed_as_people_write_it(small: Machine, typed_day: str, read: str) -> None:
+    """In an order that no browser decides: the offer day is proposed, and what was typed is said
+    with its weekday.
+    """
+    with small.office() as office:
+        first_day(office)
+        hal = office.browser("hal", "head")
+        assert Fields(hal.get("/draws/").text).values["day"] == "3 March 2025"
+        assert hal.post("/draws/", {"kind": "round", "day": typed_day}).status_code == 303
+        assert read in hal.get("/draws/1").text
 
 
 def test_the_file_of_the_store_keeps_no_name(small: Machine) -> None:

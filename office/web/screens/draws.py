@@ -19,6 +19,7 @@ from ..draws_terms import (
 )
 from ..guard import needs, parts, person
 from ..people import CONFIRM, DRAW, READ
+from ..wording import day_of
 
 screen = flask.Blueprint("draws", __name__, url_prefix="/draws")
 Answer = str | Response | tuple[str, int]
@@ -46,7 +47,7 @@ def list_page(reason: str = "", status: int = 200) -> Answer:
     return flask.render_template(
         "draws.html", draws=draws.listed(), present=draws.present(), register=register,
         reason=reason or trouble, kind=given.get("kind", "round"), given=given,
-        day=given.get("day", day.isoformat()), most=MOST_FILLS, schools=schools_of(register),
+        day=given.get("day", days.in_words(day)), most=MOST_FILLS, schools=schools_of(register),
     ), status
 
 
@@ -68,11 +69,11 @@ def show() -> Answer:
 def begin() -> Answer:
     """Begins a draw."""
     form = flask.request.form
-    day, count = days.read(form.get("day", "")), form.get("fills", "1").strip()
+    day, count = day_of(form.get("day", "")), form.get("fills", "1").strip()
     school = form.get("school", "") if form.get("kind") == "fill" else None
     try:
         if day is None:
-            raise Refused("choose the day of the draw")
+            raise Refused("type the day of the draw as 3 March 2025 or 3/3/2025")
         if school == "":
             raise Refused("choose the school of the fills")
         if school and not (count.isascii() and count.isdigit() and len(count) < 4):
