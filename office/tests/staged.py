@@ -88,6 +88,11 @@ class Seen(html.parser.HTMLParser):
         return {(int(form.removeprefix("form-")), name) for (form, name), it in self.fields.items()
                 if it.get("aria-invalid") == "true"}
 
+    def focused(self) -> list[tuple[int, str]]:
+        """The cells that get the focus when the page is loaded."""
+        return [(int(form.removeprefix("form-")), name) for (form, name), it in self.fields.items()
+                if "autofocus" in it]
+
     def value(self, name: str) -> str:
         """A field that is of no row."""
         return next(it.get("value", "") for (form, at), it in self.fields.items()

@@ -133,8 +133,10 @@ def test_each_fault_is_found_and_corrected_at_its_cell(office: Site, screens: Sc
     assert screens.store().status_code == 409 and not imports(office)
     for at, (place, _) in enumerate(FAULTS):
         found = screens.save(where[at], **{COLUMNS[place]: GOOD[at][place]})
-        assert found.status_code == 303 and f"#row-{where[at]}" in found.location
-        assert "nothing is wrong in it" in screens.see(f"?row={where[at]}").texts["answer"]
+        assert found.status_code == 303 and "#" not in found.location
+        seen = screens.see(f"?row={where[at]}")
+        assert "nothing is wrong in it" in seen.texts["answer"]
+        assert seen.focused() == [(where[it], places[it]) for it in range(at + 1, 11)][:1]
     assert not screens.see().wrong()
     page = screens.see("commit/")
     assert page.buttons.count("Store 12 applications") == 1

@@ -158,9 +158,13 @@ def page_of(table: Table, which: str, find: str, number: int, first: int | None 
 
 
 def focus_of(page: Page, first: int | None) -> tuple[int, str] | None:
-    """The cell at which a person goes on: the first that is wrong in the row that was saved."""
-    return next(((line.row.id, cell.column) for line in page.lines if line.row.id == first
-                 for cell in line.cells if cell.is_wrong or cell.now is not None), None)
+    """The cell at which a person goes on who has saved a row: the first that is wrong in it, or in
+    those after it.
+    """
+    if first is None:
+        return None
+    return next(((line.row.id, cell.column) for line in page.lines for cell in line.cells
+                 if cell.is_wrong or cell.now is not None), None)
 
 
 def changes(table: Table) -> tuple[list[str], int]:

@@ -51,11 +51,11 @@ def page(text: str = "", is_bad: bool = False, first: int | None = None,
 
 
 def to_table(**more: Any) -> Response:
-    """The way back to the page of the table that was seen."""
+    """The way back to the page of the table that was seen. (It names no row of the page: a browser
+    that goes to one gives the focus to no cell.)
+    """
     kept: dict[str, Any] = {it: flask.request.args.get(it) for it in KEPT}
-    anchor = f"row-{more['row']}" if "row" in more else None
-    return flask.redirect(
-        flask.url_for("applications.show", _anchor=anchor, **kept, **more), 303)
+    return flask.redirect(flask.url_for("applications.show", **kept, **more), 303)
 
 
 @screen.get("/")
