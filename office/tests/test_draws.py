@@ -283,6 +283,24 @@ def test_a_second_round(machine: Machine, town: Town) -> None:
                 sum(own[it] == code != wanted[it] for it in own))
 
 
+def test_a_draw_is_not_said_to_be_missing_while_the_register_is_away(small: Machine) -> None:
+    """Of a draw that is held, the page says nothing that it cannot know, and offers no step."""
+    with small.office() as office:
+        number = begun(office)
+        brought(office, number, "sending")
+        hal = office.browser("hal", "head")
+        page = hal.get(f"/draws/{number}").text
+        assert "the register has 1 of 1 draw" in page
+        assert "Next: audit draw 1" in page and "Audit draw 1</button>" in page
+        small.stop()
+        page = hal.get(f"/draws/{number}").text
+        assert "The register does not answer now." in page
+        for said in ("the register has", "Next:", "Hold draw 1", "Audit draw 1"):
+            assert said not in page, said
+        small.start()
+        assert "Audit draw 1</button>" in hal.get(f"/draws/{number}").text
+
+
 def test_three_fills_in_one_closure(small: Machine) -> None:
     """Each offers a place to the first by class, metres and the lot of its own draw; who has a
     place by an earlier fill of the row takes no part in the next.

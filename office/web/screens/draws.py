@@ -102,10 +102,11 @@ def draw_page(number: int, reason: str = "", status: int = 200) -> Answer:
     step = next((it for it in STEPS if it.state == state), None)
     checks = checks_of(draw, register)
     agreed = draws_checks.agreed_to(checks)
+    button = button_of(draw, state, standing)
     return flask.render_template(
         "draw.html", draw=draw, reason=reason or trouble, steps=STEPS, step=step,
-        action=ACTIONS.get(state, ""), button=button_of(draw, state, standing),
-        standing=standing, why_not=why_not(draw, state), register=register,
+        action=ACTIONS.get(state, ""), button=button, standing=standing,
+        why_not=why_not(draw, state, register), register=register,
         checks=checks, outcome=outcome_of(draw, register), agreed=agreed,
         is_agreed=flask.request.form.get("agreed") == agreed, ends=(GIVEN_UP, RESTORED),
         may_give_up=draw.state in UNSENT, may_restore=draw.state in SENT,
@@ -126,9 +127,11 @@ def button_of(draw: Draw, state: str, standing: int) -> str:
     return f"{text} {draw.terms.numbers}" if text and state in NAMING else text
 
 
-def why_not(draw: Draw, state: str) -> str:
+def why_not(draw: Draw, state: str, register: Register | None) -> str:
     """Why the person cannot do the next step, or ""."""
     who = person()
+    if register is None:
+        return "The register does not answer now. Load this page again in a moment."
     if draw.restore_by:
         return f"{draw.restore_by} has asked to restore the copy from before the draw."
     if state == SEALED:
