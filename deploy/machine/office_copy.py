@@ -6,9 +6,9 @@ The request is the number in the file `requests/copy` in the application's
 folder. The desk of the register NAME is stopped, the register is copied by
 admissions-backup, and the desk is started, whatever came of it. The copy
 office-NUMBER-TIME.db is in the folder `office` beside the nightly copies of
-NAME, and the application's group reads it. The answer is in `requests/copy.done`: the name
-of the copy, or an error. A request that is no number is refused there, and
-the desk is not stopped.
+NAME, and the application's group reads it. The answer is in
+`requests/copy.done`: the name of the copy, or an error. A request that is no
+number is refused there, and the desk is not stopped.
 
 example:
   office-copy secondary-2025

@@ -49,17 +49,7 @@ from . import answers, certificates, files, holidays, people, settings_copy, sit
 from .answers import ask, confirm
 from .desk import status_of
 from .programs import OFFICE, USER, call, is_booted, program, tool
-from .registers import (
-    COPIES,
-    OFFICES,
-    PHASES,
-    REGISTERS,
-    SETTINGS,
-    Register,
-    known,
-    named,
-    stored,
-)
+from .registers import PHASES, SETTINGS, Register, known, named, stored
 
 NEEDED = {
     "nginx": "nginx",

@@ -326,8 +326,8 @@ def is_young(register: Register) -> bool:
 
 
 def room_of(register: Register) -> State:
-    """The room on the disks of the register, its copies and its application: ten times the register,
-    and 200 MB at least."""
+    """The room on the disks of the register, its copies and its application: ten times the
+    register, and 200 MB at least."""
     needed = max(LEAST_ROOM, ROOM_FACTOR * register.file.stat().st_size)
     folders = (register.folder, register.copies, register.office)
     rooms = [(shutil.disk_usage(path).free, path) for path in folders if path.is_dir()]

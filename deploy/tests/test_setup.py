@@ -16,7 +16,7 @@ import tempfile
 import typing
 
 import pytest
-from conftest import ROOT, document
+from conftest import document
 from machine import answers, files, holidays, people, registers, settings_copy, setup
 from office.web import authority
 from register_files import Refused

@@ -28,8 +28,8 @@ def begin(state: Any) -> None:
     """Makes them with an application."""
     found = state.app.extensions["office"]
     staging, checker = Staging(found.store, found.history), Checker()
-    state.app.extensions["staging"] = Tools(
-        staging, checker, Committing(staging, checker, found.desk, found.history, found.copies.make))
+    committing = Committing(staging, checker, found.desk, found.history, found.copies.make)
+    state.app.extensions["staging"] = Tools(staging, checker, committing)
 
 
 def tools() -> Tools:
