@@ -48,6 +48,12 @@ def test_the_path_after_the_sign_in_is_of_this_site(office: Site) -> None:
         assert Browser(office.app).post("/sign-in", given).location == "/", to
 
 
+def test_a_browser_that_asks_for_an_icon_finds_no_error(office: Site) -> None:
+    """Nor does it get one: the request is made by the browser alone."""
+    found = Browser(office.app).get("/favicon.ico")
+    assert (found.status_code, found.data) == (204, b"")
+
+
 RIGHTS = [
     # (method and path, and who may)
     ("GET /", "head officer supervisor reader administrator school-A"),

@@ -68,6 +68,12 @@ def create(config: Config) -> flask.Flask:
     def file(name: str) -> flask.Response:
         return flask.send_from_directory(config.site, name)
 
+    @needs(PUBLIC)
+    def icon() -> tuple[str, int]:
+        return "", 204
+
+    # (a browser asks for it on its own, and reports an error where it is not found)
+    app.add_url_rule("/favicon.ico", "icon", icon)
     app.url_map.converters["file"] = FileName
     app.add_url_rule("/<file:name>", "file", file)
     guard.guarded(app)
