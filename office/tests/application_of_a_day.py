@@ -1,4 +1,4 @@
-"""The application for which the day in the file TODAY is today: `python3 -m office.web` with its words.
+"""The application as `python3 -m office.web` serves it: the day in the file TODAY is today.
 """
 import datetime
 import os
@@ -21,9 +21,11 @@ def main() -> None:
     """Serves it."""
     setattr(datetime, "date", Day)
     # (what it imports takes the class from there)
-    from office.web.__main__ import main as serve
+    from office.web import __main__, copies
 
-    serve()
+    # (on a machine that is busy a copy takes longer than on that of an office)
+    copies.ANSWER_SECONDS = copies.BACK_SECONDS = 600.0
+    __main__.main()
 
 
 if __name__ == "__main__":

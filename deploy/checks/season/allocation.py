@@ -1,5 +1,5 @@
-"""Who gets which place, worked out from the rules alone: a second statement of them, which shares no
-code with the product.
+"""Who gets which place, worked out from the rules alone: a second statement of them, which shares
+no code with the product.
 
 A school ranks children by class, then by straight-line distance in whole metres, then by lot; the
 smaller value is first. Children ask the schools of their lists, best first, and each school keeps

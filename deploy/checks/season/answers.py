@@ -40,11 +40,15 @@ def recorded(office: Office, school: str) -> None:
         report.same(row[2:6], [season.children[it].name, what, season.places[it], ""],
                     f"the answer of child {it} in the pile")
     hal.press(f"Record {ANSWERS} answers")
+    hal.look("Answers, the question")
     hal.see(f"{len(declined)} of them are final:")
     for it in declined:
         hal.see(f"decline: child {it}, {season.children[it].name}, at {season.places[it]}")
     hal.press(f"Record {ANSWERS} answers")
-    hal.see(f"{ANSWERS} of {ANSWERS} answers are recorded.")
+    # (where it takes long, the page says how far it is)
+    done = f"{ANSWERS} of {ANSWERS} answers are recorded."
+    until(lambda: done in hal.main, f"the page says that {done}")
+    hal.look("Answers, recorded")
     report.step(f"{ANSWERS} answers are recorded, typed with {keys} keys")
     kinds = {it["child"]: it["place"] and it["place"]["kind"]
              for it in office.read("/register")["children"]}

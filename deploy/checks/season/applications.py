@@ -1,5 +1,5 @@
-"""Applications from a workbook: what is wrong in it is corrected at its cells, and all are stored; and
-plans.
+"""Applications from a workbook: what is wrong in it is corrected at its cells, and all are stored;
+and plans.
 """
 from typing import Any
 
@@ -23,6 +23,7 @@ def from_workbook(office: Office) -> None:
     hal.choose("Add workbooks (.xlsx) or CSV files", path)
     hal.press("Add the files")
     hal.see(f"applications.xlsx is added: {len(given) + 1} rows.")
+    hal.look("Applications, with errors")
     wrong = len(town.FAULTS) + 1
     hal.see(f"{len(given) + 1} rows: {wrong} with errors, {len(town.LATE)} to look at.")
     for child, fault in town.wrong_rows(given):
@@ -65,17 +66,34 @@ def corrected(office: Office) -> None:
     report.step("they are corrected at their cells")
     left = len(town.FAULTS) + 1
     for child, fault in town.wrong_rows(given):
-        field = cell(row_of(hal, child), fault.column)
-        if field != hal.driver.switch_to.active_element:
-            hal.into(field)
-        hal.replace(town.texts_of(child)[fault.column])
-        hal.enter()
+        typed(hal, child, fault.column, town.texts_of(child)[fault.column])
         left -= 1
         hal.see("nothing is wrong in it.", f"child {child.number}, {fault.column}")
         hal.see(f"{len(given) + 1} rows: {left} with errors")
+        if fault.column == "preferences" and left == len(town.FAULTS) - 2:
+            slip(hal, child)
     twice = row_of(hal, town.doubled(given))
     hal.press("Withdraw", twice)
     hal.see(f"{len(given)} rows: 0 with errors, {len(town.LATE)} to look at.")
+
+
+def typed(hal: Hands, child: Child, column: str, text: str) -> None:
+    """A cell gets another text, and its row is saved."""
+    field = cell(row_of(hal, child), column)
+    if field != hal.driver.switch_to.active_element:
+        hal.into(field)
+    hal.replace(text)
+    hal.enter()
+
+
+def slip(hal: Hands, child: Child) -> None:
+    """A cell that was right gets a wrong text, and is corrected: it has the focus meanwhile."""
+    typed(hal, child, "preferences", "A;A")
+    hal.see("1 error left")
+    here = cell(row_of(hal, child), "preferences")
+    hal.report.see(here == hal.driver.switch_to.active_element,
+                   "the cell that is still wrong does not have the focus after the save")
+    typed(hal, child, "preferences", town.texts_of(child)["preferences"])
 
 
 def stored(office: Office) -> None:
@@ -124,7 +142,8 @@ def plans(office: Office) -> None:
     """Two plans, typed as a column into the pile, and recorded after a question that names them."""
     report, hal, season = office.report, office.people[HAL], office.season
     report.step("two plans are recorded")
-    named = [(list(season.children.values())[at], school) for at, school in ((9, "A"), (33, "DEAN"))]
+    children = list(season.children.values())
+    named = [(children[9], "A"), (children[33], "DEAN")]
     hal.press("Answers")
     hal.tab_to("A column of numbers or names, or rows as decline,23,ELM,Bo Bell")
     hal.type("\n".join(f"plan,{it.number},{school},{it.name}" for it, school in named))

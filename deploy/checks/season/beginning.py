@@ -44,6 +44,7 @@ def schools(office: Office) -> None:
     jane.press("Add schools")
     jane.choose("Sheet", path)
     lines = jane_adds(jane)
+    jane.look("Add schools, a draft")
     for it in town.SCHOOLS:
         row = next((row for row in lines if row[0] == it.code), [""] * 6)
         office.report.same(row[:5], [it.code, it.name, str(it.pan), str(it.east), str(it.north)],
@@ -90,6 +91,7 @@ def people(office: Office) -> None:
         jane.press("Add")
         jane.see(f"{name} is added.")
         office.drawn[name] = jane.text("#secret")
+    jane.look("People, all of them")
     listed = {row[0]: row[1] for row in jane.captioned("Who may sign in")}
     for name, role in roles:
         shown = f"{name} (program)" if name == PROGRAM else name

@@ -17,8 +17,8 @@ AGREED = "I have read what looks wrong above, and it is right"
 
 @dataclasses.dataclass(frozen=True)
 class Draw:
-    """A draw: its first number; the school and the number of fills, or a round; its day; the seed of the
-    lots that decide nothing; and whether the others come in a workbook.
+    """A draw: its first number; its day; the seed of the lots that decide nothing; the school and
+    the number of fills, or a round; and whether the other lots come in a workbook.
     """
 
     first: int
@@ -91,14 +91,11 @@ def begun(office: Office, draw: Draw) -> None:
     jane.press("Draws")
     if draw.school:
         jane.pick("What is drawn", "fills", "fills")
-    if jane.field("Day of the draw").get_attribute("value") != draw.day.isoformat():
-        jane.type_day("Day of the draw", draw.day)
+    jane.type_day("Day of the draw", draw.day)
     if draw.school:
         jane.pick("School, for fills", f"{draw.school} ", f"{draw.school} ")
         jane.fill("How many fills there", str(draw.fills))
-        jane.enter()
-    else:
-        jane.press(f"Begin draw {draw.first}")
+    jane.enter()
     office.report.same(jane.title, draw.title, "the heading of the draw")
 
 
@@ -106,27 +103,25 @@ def closed(office: Office, draw: Draw, pairs: int) -> None:
     """The register is closed for all others, copied, and its pairs are given to the supervisor."""
     report, jane = office.report, office.jane
     facts = jane.facts()
-    report.see(facts.get("Lots", "").startswith(f"{pairs} pairs of "), f"pairs: {facts.get('Lots')}")
+    report.see(facts.get("Lots", "").startswith(f"{pairs} pairs of "),
+               f"pairs: {facts.get('Lots')}")
     if jane.has(AGREED):
         jane.press(AGREED, is_new=False)
+        office.ticks += 1
     jane.press("Close for all others")
+    report.same(jane.facts().get("State"), "lots", f"the state of {draw.numbers}")
+    jane.look("A draw that waits for lots")
     hal = office.people[HAL]
     hal.open("/")
     report.see(hal.text("#answer").startswith(f"Closed for {draw.numbers} by {jane.who}"),
                f"the officer sees that it is closed: {hal.text('#answer')!r}")
-    jane.press("Make the copy")
-    jane.press("Give the pairs to the supervisor")
-    report.see(f"{pairs} pairs" in jane.text("details ol") or jane.facts().get("State") == "lots",
-               f"the state of the draw: {jane.facts().get('State')}")
 
 
 def drawn(office: Office, draw: Draw, pairs: Sequence[Pair], lots: Lots) -> None:
     """The supervisor draws those that decide, the seed the others, and all are sealed."""
     report, sup = office.report, office.people[SUP]
     tied = [pair for group in office.season.ties(pairs) for pair in group]
-    sup.reload()
-    if sup.title == "Lots":
-        sup.press(draw.title)
+    sup.open("/")
     report.same(sup.title, f"Lots of {draw.words}", "what the supervisor sees")
     sup.see(f"{len(pairs)} pairs of a school and a child. {len(tied)} ")
     if draw.is_workbook:
@@ -137,8 +132,7 @@ def drawn(office: Office, draw: Draw, pairs: Sequence[Pair], lots: Lots) -> None
     sup.fill("Seed", draw.seed)
     sup.enter()
     sup.see(f"{others} lots are drawn by the seed.")
-    if sup.has("Show all lots"):
-        sup.press("Show all lots")
+    sup.look("All lots, to be sealed")
     digest = hashlib.sha256(sealed_text(draw, lots).encode()).hexdigest()
     report.same(sup.text("#digest"), digest, "the digest of the lots")
     sup.press(f"Seal the lots of {draw.numbers}")
@@ -174,11 +168,12 @@ def sealed_text(draw: Draw, lots: Lots) -> str:
 
 
 def rehearsed(office: Office, draw: Draw, lots: Lots) -> None:
-    """The draw is rehearsed. The outcome must be that of the rules, and a second person confirms it."""
+    """The draw is rehearsed: its outcome must be that of the rules. A second person confirms it."""
     report, jane, hal, season = office.report, office.jane, office.people[HAL], office.season
     before = dict(season.places)
     jane.reload()
     jane.press("Rehearse")
+    jane.look(f"{'Fills' if draw.school else 'A round'}, rehearsed")
     got: list[tuple[int, int, str | None]] = []
     if draw.school:
         for at in range(draw.fills):
@@ -188,11 +183,13 @@ def rehearsed(office: Office, draw: Draw, lots: Lots) -> None:
     else:
         outcome = season.round({pair: it[0] for pair, it in lots.items()})
         got = [(draw.first, child, school) for child, school in outcome.items()]
-    shown = [[row[0], row[1], row[3], row[4]] for row in jane.captioned("By child")]
-    wanted = [[str(number), str(child), before.get(child, "none"), school or "none"]
-              for number, child, school in got]
+    shown = sorted((int(row[0]), int(row[1]), row[3], row[4])
+                   for row in jane.captioned("By child"))
+    wanted = sorted((number, child, before.get(child, "none"), school or "none")
+                    for number, child, school in got)
     report.same(shown, wanted, f"the outcome of the rehearsal of {draw.numbers}")
-    hal.press("Draws")
+    hal.open("/")
+    hal.see(f"{draw.title} is in progress. Next: confirm {draw.numbers}.")
     hal.press(draw.title)
     hal.press(f"Confirm {draw.numbers}")
 
@@ -202,7 +199,8 @@ def sent(office: Office, draw: Draw) -> None:
     report, jane = office.report, office.jane
     jane.reload()
     jane.press(f"Hold {draw.numbers}")
-    jane.press(f"Audit {draw.numbers}")
-    jane.see("The outcome is that of the rehearsal, and the second program has worked out the same.")
+    jane.see("The outcome is that of the rehearsal, and the second program has worked out the"
+             " same.")
+    jane.look("A draw that was audited")
     jane.press("Open for all")
     report.same(jane.facts().get("State"), "opened", f"the state of {draw.numbers}")

@@ -1,5 +1,5 @@
-"""A person at a browser. What they press and type is counted, and each screen that they see is looked
-at: its width on a small screen, and what the browser's console says.
+"""A person at a browser. What they press and type is counted, and each screen that they see is
+looked at: its width on a small screen, and what the browser's console says.
 
 A click is a press of a button, of a link, of a box or of a file field, by mouse or by key; a click
 into a field, to type there, is counted apart. A key is each key that is pressed.
@@ -7,6 +7,7 @@ into a field, to type there, is counted apart. A key is each key that is pressed
 import base64
 import contextlib
 import dataclasses
+import datetime
 import pathlib
 import re
 import time
@@ -20,16 +21,16 @@ from selenium.webdriver.common.keys import Keys
 from selenium.webdriver.remote.webdriver import WebDriver
 from selenium.webdriver.remote.webelement import WebElement
 
-# for so long a step may take: a copy of the register, or a rehearsal
-SECONDS = 180
+# for so long a step may take on a machine that is busy: a copy of the register, or a rehearsal
+SECONDS = 600
 WIDTH, HEIGHT, SMALL = 1280, 900, 320
 # no screen needs so many steps by Tab to one of its fields
 MOST_TABS = 400
 PLAIN = """
 const plain = (text) => (text ?? "").replace(/\\s+/g, " ").trim();
+const named = (ids) => ids.split(" ").map((it) => document.getElementById(it)?.textContent);
 const of = (it) => it.getAttribute("aria-label")
-  ?? (it.getAttribute("aria-labelledby")
-    ? it.getAttribute("aria-labelledby").split(" ").map((id) => document.getElementById(id)?.textContent).join(" ")
+  ?? (it.hasAttribute("aria-labelledby") ? named(it.getAttribute("aria-labelledby")).join(" ")
     : it.labels?.length ? it.labels[0].textContent : it.textContent);
 """
 # the label of the field that has the focus
@@ -37,18 +38,14 @@ FOCUSED = PLAIN + "return plain(of(document.activeElement));"
 # what can be pressed, that is shown, with a text
 PRESSED = PLAIN + """
 const [text, within] = arguments;
-return [...(within ?? document).querySelectorAll("button, a, summary, input[type=checkbox]")].filter(
-  (it) => plain(it.type === "checkbox" ? of(it) : it.textContent) === text && it.getClientRects().length > 0);
+const found = (within ?? document).querySelectorAll("button, a, summary, input[type=checkbox]");
+const said = (it) => plain(it.type === "checkbox" ? of(it) : it.textContent);
+return [...found].filter((it) => said(it) === text && it.getClientRects().length > 0);
 """
 FIELDS = PLAIN + """
-return [...document.querySelectorAll("input, select, textarea")].filter((it) => plain(of(it)) === arguments[0]);
+const found = document.querySelectorAll("input, select, textarea");
+return [...found].filter((it) => plain(of(it)) === arguments[0]);
 """
-# in which order the browser has the parts of a day
-PARTS = """
-return new Intl.DateTimeFormat().formatToParts(new Date(2001, 1, 3)).map((it) => it.type)
-  .filter((it) => it !== "literal").join(" ");
-"""
-DIGITS = {"day": "%d", "month": "%m", "year": "%Y"}
 
 
 class Stopped(Exception):
@@ -73,6 +70,7 @@ class Report:
     counts: Counts = dataclasses.field(default_factory=Counts)
     # which screens were looked at
     screens: set[str] = dataclasses.field(default_factory=set)
+    began: float = dataclasses.field(default_factory=time.monotonic)
 
     def see(self, is_so: object, name: str) -> bool:
         """Counts something that must be so."""
@@ -90,8 +88,9 @@ class Report:
     def step(self, text: str) -> None:
         """Prints what is done, with the clicks so far."""
         it = self.counts
-        print(f"{it.clicks:3} clicks, {it.fields:2} into fields, {it.keys:5} keys: {text}",
-              flush=True)
+        seconds = time.monotonic() - self.began
+        print(f"{seconds:4.0f} s, {it.clicks:3} clicks, {it.fields:2} into fields,"
+              f" {it.keys:5} keys: {text}", flush=True)
 
 
 def shortly(value: object) -> str:
@@ -242,14 +241,12 @@ class Hands:
         if not str(chosen).startswith(text):
             raise Stopped(f"{begin!r} chooses {chosen!r} of {label}, and not {text!r}")
 
-    def type_day(self, label: str, day: Any) -> None:
-        """Goes to a field of a day by Tab, and types the day in the browser's order of its parts."""
+    def type_day(self, label: str, day: datetime.date) -> None:
+        """Goes to a field of a day by Tab, and types the day, if it is not there already."""
         self.tab_to(label)
-        order = str(self.driver.execute_script(PARTS)).split()
-        self.type("".join(f"{day:{DIGITS[it]}}" for it in order))
-        value = self.field(label).get_attribute("value")
-        if value != day.isoformat():
-            raise Stopped(f"{label} has {value} after {day} was typed ({order})")
+        wanted = f"{day.day} {day:%B} {day.year}"
+        if self.field(label).get_attribute("value") != wanted:
+            self.replace(wanted)
 
     def enter(self) -> None:
         """Presses Enter, from which another page follows."""
@@ -258,10 +255,10 @@ class Hands:
 
     # pages
 
-    def open(self, path: str) -> None:
+    def open(self, path: str, name: str = "") -> None:
         """Types an address of the site."""
         self.driver.get(self.base + path)
-        self.look()
+        self.look(name)
 
     def reload(self) -> None:
         """Loads the page again, by F5."""
@@ -286,21 +283,25 @@ class Hands:
             "width": width, "height": height, "deviceScaleFactor": 1, "mobile": False})
 
     def look(self, name: str = "") -> None:
-        """Looks at the screen: the console, and once of each screen its width and its picture."""
+        """Looks at the screen: the console, and once of each screen its width and its picture. A
+        name is given to a screen that has much to show, or no heading.
+        """
         for it in self.driver.get_log("browser"):
             is_bad = it["level"] == "SEVERE" or it.get("source") == "security"
             if is_bad or "Autofocus" in it["message"]:
                 self.report.see(False, f"the console of {self.who} at '{self.title}':"
                                 f" {it['message']}")
+        self.report.see(name or self.title, f"no heading at {self.driver.current_url}")
         name = name or re.sub(r"[0-9]+", "N", self.title)
         if name in self.report.screens:
             return
         self.report.screens.add(name)
-        self.report.see(self.title, f"a screen without a heading: {self.driver.current_url}")
         self.picture(name)
         self.resize(SMALL, HEIGHT)
-        width = self.driver.execute_script("return document.documentElement.scrollWidth")
-        self.report.see(width <= SMALL, f"'{name}' is {width} pixels wide on a screen of {SMALL}")
+        wide, room = self.driver.execute_script(
+            "const it = document.documentElement; return [it.scrollWidth, it.clientWidth];")
+        self.report.see(wide <= room <= SMALL, f"'{name}' is {wide} pixels wide where there are"
+                        f" {room}")
         self.picture(name, "-small")
         self.resize(WIDTH, HEIGHT)
 
@@ -308,8 +309,12 @@ class Hands:
         """Keeps a picture of the whole page."""
         if self.pictures is None:
             return
-        known = {"captureBeyondViewport": True, "format": "png"}
+        # (so that no bar covers the right edge)
+        self.driver.execute_cdp_cmd("Emulation.setScrollbarsHidden", {"hidden": True})
+        size = self.driver.execute_cdp_cmd("Page.getLayoutMetrics", {})["cssContentSize"]
+        known = {"captureBeyondViewport": True, "format": "png", "clip": {**size, "scale": 1}}
         data = self.driver.execute_cdp_cmd("Page.captureScreenshot", known)["data"]
+        self.driver.execute_cdp_cmd("Emulation.setScrollbarsHidden", {"hidden": False})
         number = f"{len(self.report.screens):02}"
         plain = re.sub(r"[^A-Za-z0-9]+", "-", name).strip("-")[:50]
         (self.pictures / f"{number}-{plain}{end}.png").write_bytes(base64.b64decode(data))

@@ -1,4 +1,5 @@
-"""The office of the season: its people, each at a browser of their own, and what is known of the town.
+"""The office of the season: its people, each at a browser of their own, and what is known of the
+town.
 """
 import contextlib
 import dataclasses
@@ -30,6 +31,8 @@ class Office:
     stack: contextlib.ExitStack
     pictures: pathlib.Path | None = None
     clock: Clock | None = None
+    # how often something that looked wrong had to be said to be right
+    ticks: int = 0
     people: dict[str, Hands] = dataclasses.field(default_factory=dict)
     drawn: dict[str, str] = dataclasses.field(default_factory=dict)
     # the season as the rules make it, once the days are known

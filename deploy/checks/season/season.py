@@ -2,17 +2,20 @@
 import contextlib
 import datetime
 import pathlib
+from collections.abc import Callable
 
-from . import answers, applications, beginning, draws, town
+from selenium.common.exceptions import WebDriverException
+
+from . import answers, applications, beginning, draws
 from .draws import Draw
 from .hands import Report, Stopped
 from .office import ABBEY, HAL, RITA, SUP, Clock, Office
 from .site import Site
 
-# at most so many clicks, beside those into a field to type there
-MOST_CLICKS = 40
-# the school at which vacancies are filled; and the days of the fills and of the second round, so many
-# days after the offer day
+# what a season should cost in clicks
+AIM = 40
+# the school at which vacancies are filled, and how many; and so many days after the offer day are
+# the fills and the second round
 SCHOOL, FILLS, AFTER_FILLS, AFTER_SECOND = "A", 3, 21, 56
 
 
@@ -25,10 +28,16 @@ def hold(site: Site, first: tuple[str, str], folder: pathlib.Path,
     with contextlib.ExitStack() as stack:
         office = Office(site, first, folder, report, stack, pictures, clock)
         try:
-            for step in STEPS:
+            for step, most in STEPS:
+                before = report.counts.clicks - office.ticks
                 step(office)
-        except Stopped as error:
+                clicks = report.counts.clicks - office.ticks - before
+                report.see(clicks <= most, f"{step.__doc__} {clicks} clicks, and not {most}")
+        except (Stopped, WebDriverException) as error:
             report.see(False, f"the season stops: {error}")
+    total, most = report.counts.clicks, sum(most for _, most in STEPS) + office.ticks
+    report.step(f"the end of the season: at most {most} clicks; the aim is {AIM}")
+    report.see(total <= most, f"{total} clicks, and not {most}")
     return report
 
 
@@ -67,14 +76,16 @@ def other_screens(office: Office) -> None:
     office.report.step("the other screens")
     hal, rita, season = office.people[HAL], office.people[RITA], office.season
     placed = next(it for it in season.places if it not in season.plans)
-    for path in ("/", "/schools/", f"/schools/{SCHOOL}", f"/children/?find={placed}",
+    hal.open("/", "Season, near its end")
+    hal.open("/draws/", "Draws, all of them")
+    for path in ("/schools/", f"/schools/{SCHOOL}", f"/children/?find={placed}",
                  f"/children/{placed}", f"/children/{placed}/correct", "/lists/", "/lists/list",
                  "/lists/children", "/lists/vacancies", "/activity/", "/applications/add/",
-                 "/applications/duplicates", "/applications/withdrawn", f"/schools/{SCHOOL}/raise",
-                 "/flags/", "/answers/", "/draws/", "/password"):
+                 "/applications/duplicates", "/applications/withdrawn", f"/schools/{SCHOOL}/raise"):
         hal.open(path)
+    hal.open("/records", "The page")
     rita.open("/")
-    rita.see("Second round" if False else "Waiting lists")
+    rita.see("held for")
     abbey = office.people[ABBEY]
     abbey.open("/")
     intake = {int(row[0]) for row in abbey.rows("#intake")}
@@ -83,18 +94,30 @@ def other_screens(office: Office) -> None:
     office.people[SUP].open("/")
 
 
-def counted(office: Office) -> None:
-    """How much was pressed."""
-    it = office.report.counts
-    office.report.step("the end of the season")
-    office.report.see(it.clicks <= MOST_CLICKS, f"{it.clicks} clicks for the season: at most"
-                      f" {MOST_CLICKS}")
-
-
-STEPS = (
-    beginning.first_sign_in, beginning.schools, beginning.flags, beginning.people,
-    beginning.arrivals, ready, applications.from_workbook, applications.corrected,
-    applications.stored, applications.plans, first_round, first_answers, fills, second_round,
-    other_screens, counted,
+# the steps, each with the clicks that its screens ask for. (A tick that what looks wrong is right
+# is beside these: it is asked for on another day than that of the draw.)
+STEPS: tuple[tuple[Callable[[Office], None], int], ...] = (
+    (beginning.first_sign_in, 0),
+    # the screen, the file, the draft, and the schools in it
+    (beginning.schools, 4),
+    (beginning.flags, 1),
+    # the screen, and each of five who are added
+    (beginning.people, 6),
+    (beginning.arrivals, 0),
+    (ready, 0),
+    # the screen, the file, and its rows
+    (applications.from_workbook, 3),
+    # the row that is withdrawn
+    (applications.corrected, 1),
+    (applications.stored, 2),
+    # the screen, the pile, the question, and its answer
+    (applications.plans, 4),
+    # for the head of the office the screen, the close, the rehearsal, the draw and the end; for the
+    # officer the draw and the confirmation; for the supervisor the seal, and the sheet, its file
+    # and its lots
+    (first_round, 11),
+    (first_answers, 3),
+    (fills, 8),
+    (second_round, 8),
+    (other_screens, 0),
 )
-assert town.SCHOOLS[0].code == SCHOOL

@@ -22,19 +22,18 @@ from selenium.webdriver.chrome.options import Options
 from selenium.webdriver.chrome.service import Service
 from selenium.webdriver.remote.webdriver import WebDriver
 
-# the programs that are needed, each with its Debian package
-PROGRAMS = {"chromium": "chromium", "chromedriver": "chromium-driver"}
 ARGUMENTS = (
     "--headless=new", "--disable-gpu", "--disable-dev-shm-usage", "--no-first-run",
     "--disable-background-networking", "--disable-component-update", "--disable-extensions",
     "--no-proxy-server", "--lang=en-GB")
-SECONDS = 120
+# for so long a page may load on a machine that is busy
+SECONDS = 600
 
 
 @dataclasses.dataclass(frozen=True)
 class Site:
-    """An application: its address as browsers show it, without a path; the certificate of a site that
-    no authority has signed; and where it is (HOST:PORT), if its name does not say that.
+    """An application: its address as browsers show it, without a path; the certificate of a site
+    that no authority has signed; and where it is (HOST:PORT), if its name does not say that.
     """
 
     url: str
@@ -117,9 +116,3 @@ class Site:
             return json.loads(body)
         finally:
             asking.close()
-
-
-def missing() -> list[str]:
-    """Which programs are not here, each with its package."""
-    return [f"{name} (package {package})" for name, package in PROGRAMS.items()
-            if not shutil.which(name)]

@@ -1,5 +1,5 @@
-"""The town of the season: its schools, its children and the workbooks of the office, with ten rows in
-which something is wrong.
+"""The town of the season: its schools, its children and the workbooks of the office, with ten rows
+in which something is wrong.
 """
 import dataclasses
 import datetime
@@ -33,8 +33,8 @@ LATE = (5, 9)
 
 @dataclasses.dataclass(frozen=True)
 class Fault:
-    """A cell of the office's workbook in which something is wrong: what the screen must say of it, and
-    what it is corrected to. A row that is wrong as a whole is withdrawn.
+    """A cell of the office's workbook in which something is wrong, and what the screen must say of
+    it.
     """
 
     column: str

@@ -1,5 +1,9 @@
-"""A whole season in the application, as its people live it in a browser: deploy/checks/season over the
-application with a machine. It is skipped where there is no Chromium, or nothing to drive it.
+"""A whole season in the application, as its people live it in a browser: deploy/checks/season over
+the application with a machine. It needs a browser and some minutes, so it is run by its name alone:
+
+ADMISSIONS=bin/admissions /usr/bin/python3 -m pytest -s office/tests/whole_season.py
+
+With PICTURES=FOLDER it leaves there a picture of each screen, wide and small.
 """
 import contextlib
 import datetime
@@ -14,8 +18,7 @@ import pytest
 from conftest import ROOT, make
 from draw_site import NAME, Machine, machine_over
 
-pytest.importorskip("selenium")
-from checks.season import season, site  # noqa: E402
+from checks.season import needs  # noqa: E402
 
 FIRST = "jane"
 HERE = pathlib.Path(__file__).resolve().parent
@@ -31,8 +34,8 @@ def free_port() -> int:
 
 @contextlib.contextmanager
 def application(machine: Machine, today: pathlib.Path) -> Iterator[tuple[str, str]]:
-    """The application as a process of its own, for which the day of a file is today: its address, and
-    the drawn password of its first person.
+    """The application as a process of its own, for which the day of a file is today: its address,
+    and the drawn password of its first person.
     """
     (machine.state / "copies").symlink_to(machine.copies)
     place = f"127.0.0.1:{free_port()}"
@@ -63,11 +66,13 @@ def is_answering(place: str) -> bool:
     return True
 
 
-@pytest.mark.skipif(bool(site.missing()), reason=f"missing: {', '.join(site.missing())}")
 def test_a_season_as_people_live_it(
     tmp_path: pathlib.Path, monkeypatch: pytest.MonkeyPatch
 ) -> None:
     """From the first sign-in to the second round, on the days of the season."""
+    assert not needs.missing()
+    from checks.season import season, site
+
     register, today, room = tmp_path / "reg.db", tmp_path / "today", tmp_path / "room"
     make(register, [])
     room.mkdir()
