@@ -85,7 +85,7 @@ def test_what_is_wrong_is_marked_at_its_cell(small: Machine) -> None:
             "lot-OAK-3-0": no_number, "lot-ELM-1-0": "",
             "lot-OAK-4-0": "has a lot above 4294967295", "lot-OAK-5-0": no_number,
             "lot-ELM-2-0": no_number, "lot-ELM-3-0": no_number,
-            "lot-ELM-4-0": "has no lot yet", "lot-ELM-5-0": "has no lot yet",
+            "lot-ELM-4-0": "", "lot-ELM-5-0": "",
         }
         assert (fields.values["lot-OAK-2-0"], fields.values["lot-OAK-3-0"]) == ("7", "<b>x</b>")
         whole = sup.get(f"/lots/{number}/seal")

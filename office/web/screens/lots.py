@@ -60,13 +60,13 @@ def found_sheet(number: int) -> tuple[Draw, Sheet]:
         flask.abort(404)
 
 
-def whole_page(number: int, reason: str = "", status: int = 200) -> Answer:
+def whole_page(number: int, reason: str = "", status: int = 200, said: str = "") -> Answer:
     """All lots, to be sealed, or as they were sealed."""
     draw, sheet = found_sheet(number)
     wrong = sheet.wrong()
     text = "" if wrong else sheet.text()
     return flask.render_template(
-        "lots_whole.html", draw=draw, sheet=sheet, reason=reason, wrong=wrong,
+        "lots_whole.html", draw=draw, sheet=sheet, reason=reason, said=said, wrong=wrong,
         digest="" if wrong else sheet.digest(), head=text.split("\n")[0],
         first=text.split("\n")[1:2], may_seal=draw.state == LOTS and not wrong,
         is_own=draw.who(BEGUN) == person().name,
@@ -94,6 +94,15 @@ def sheet_page(
         free=free_cells(sheet), most_lot=lot_sheets.MOST_LOT, most_text=MOST_TEXT,
         most_seed=MOST_SEED,
     ), status
+
+
+def kept_page(number: int, said: str, shown: int | None = None) -> Answer:
+    """What follows when lots were kept: the table, or all of them to be sealed, where each pair has
+    its lot.
+    """
+    _, sheet = found_sheet(number)
+    return sheet_page(number, said, shown=shown) if sheet.wrong() else (
+        whole_page(number, said=said))
 
 
 def free_cells(sheet: Sheet) -> int:
@@ -141,7 +150,7 @@ def save(number: int) -> Answer:
         return sheet_page(number, reason=f"Nothing was saved: {error}.", status=409)
     to = flask.request.form.get("to", "")
     shown = int(to) if to.isascii() and to.isdigit() and len(to) < 6 else None
-    return sheet_page(number, f"{texts.count(count, 'lot')} saved.", shown=shown)
+    return kept_page(number, f"{texts.count(count, 'lot')} saved.", shown)
 
 
 @screen.post("/<int:number>/seed")
@@ -153,7 +162,7 @@ def seed(number: int) -> Answer:
         count = parts().lots.draw_by_seed(person(), number, flask.request.form.get("seed", ""))
     except Refused as error:
         return sheet_page(number, reason=f"Nothing was drawn: {error}.", status=409)
-    return sheet_page(number, f"{texts.count(count, 'lot is', 'lots are')} drawn by the seed.")
+    return kept_page(number, f"{texts.count(count, 'lot is', 'lots are')} drawn by the seed.")
 
 
 @screen.post("/<int:number>/sheet")
@@ -179,8 +188,8 @@ def upload(number: int) -> Answer:
     except Refused as error:
         return sheet_page(number, reason=f"Nothing was taken: {error}.", status=409)
     of = draw.terms.first + fill
-    return sheet_page(number, f"The file has {texts.count(len(lots), 'lot')} of draw {of}:"
-                              f" {changed} new or changed.")
+    return kept_page(number, f"The file has {texts.count(len(lots), 'lot')} of draw {of}:"
+                             f" {changed} new or changed.")
 
 
 @screen.get("/<int:number>/sheet.<any(xlsx, csv):kind>")
