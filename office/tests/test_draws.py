@@ -182,8 +182,9 @@ def test_a_round_by_five_hands(machine: Machine, town: Town) -> None:
         assert hal.step(1, "copy").status_code == 303
         page = sup.get("/lots/")
         assert page.status_code == 200 and "Draw 1: a round" not in page.text
-        assert hal.step(1, "give").status_code == 303
         assert sup.get("/").location == "/lots/"
+        assert hal.step(1, "give").status_code == 303
+        assert sup.get("/").location == "/lots/1"
         assert 'href="/lots/1"' in sup.get("/lots/").text
         first = Fields(sup.get("/lots/1").text)
         fields = [it for it in first.values if it.startswith("lot-")]
@@ -201,9 +202,13 @@ def test_a_round_by_five_hands(machine: Machine, town: Town) -> None:
         assert values["digest"] == hashlib.sha256(text.encode()).hexdigest()
         given = {"seen": values["seen"], "digest": values["digest"]}
         assert sup.post("/lots/1/seal", given).status_code == 303
+        assert sup.get("/").location == "/lots/"
         assert sup.get("/lots/1/sealed.txt").text == text
         assert hal.browser.get("/draws/1/sealed.txt").text == text
+        link = '<a href="/draws/1">Draw 1: a round</a> is in progress. Next: '
+        assert f"{link}rehearse." in jane.browser.get("/").text
         assert hal.step(1, "rehearse").status_code == 303
+        assert f"{link}confirm draw 1." in jane.browser.get("/").text
         wanted = town.allotted(lots)
         shown = hal.browser.get("/draws/1").text
         placed = sum(it is not None for it in wanted.values())
@@ -215,7 +220,9 @@ def test_a_round_by_five_hands(machine: Machine, town: Town) -> None:
         assert office.parts.desk.now().draws == []
         assert hal.step(1, "send").status_code == 303
         assert hal.step(1, "audit").status_code == 303
+        assert f"{link}open for all." in jane.browser.get("/").text
         assert hal.step(1, "open").status_code == 303
+        assert "is in progress" not in jane.browser.get("/").text
         register = office.parts.desk.now()
         assert register.outcomes[1] == wanted
         assert register.lots(1) == lots

@@ -95,10 +95,7 @@ def found_draw(number: int) -> Draw:
 def draw_page(number: int, reason: str = "", status: int = 200) -> Answer:
     """A draw with its steps."""
     draw, (register, trouble) = found_draw(number), register_now()
-    state = next_state(draw)
-    standing = standing_of(draw, register)
-    if draw.state == SENDING and standing < draw.terms.fills:
-        state = SENDING
+    standing, state = standing_of(draw, register), state_to_come(draw, register)
     step = next((it for it in STEPS if it.state == state), None)
     checks = checks_of(draw, register)
     agreed = draws_checks.agreed_to(checks)
@@ -117,6 +114,21 @@ def draw_page(number: int, reason: str = "", status: int = 200) -> Answer:
 def standing_of(draw: Draw, register: Register | None) -> int:
     """How many draws of the row the register has."""
     return held_in(register, draw) if register and draw.state in SENT else 0
+
+
+def state_to_come(draw: Draw, register: Register | None) -> str:
+    """The state to which the next step leads, or "": the same of a row that is not held to its end.
+    """
+    is_held = draw.state != SENDING or standing_of(draw, register) == draw.terms.fills
+    return next_state(draw) if is_held else SENDING
+
+
+def next_in_words(draw: Draw, register: Register) -> str:
+    """The next step of a draw as its heading has it, or ""."""
+    state = state_to_come(draw, register)
+    title = next((it.title for it in STEPS if it.state == state), "")
+    text = button_of(draw, state, standing_of(draw, register)) or title
+    return text[:1].lower() + text[1:]
 
 
 def button_of(draw: Draw, state: str, standing: int) -> str:

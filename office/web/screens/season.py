@@ -7,10 +7,12 @@ from register_files import Refused
 from werkzeug.wrappers import Response
 
 from .. import steps
+from ..draws_terms import LOTS, Draw
 from ..guard import SIGNED_IN, needs, parts, person
 from ..people import READ
 from ..steps import Step
 from ..wording import sentence, weekday
+from . import draws
 
 screen = flask.Blueprint("season", __name__)
 
@@ -27,7 +29,12 @@ def home() -> str:
         return ""
     if found.school:
         return flask.url_for("schools.one", code=found.school)
-    return flask.url_for("lots.show" if found.may("lots") else "people.show")
+    if not found.may("lots"):
+        return flask.url_for("people.show")
+    draw = parts().draws.present()
+    is_waiting = draw is not None and draw.state == LOTS
+    return flask.url_for("lots.one", number=draw.number) if draw and is_waiting else (
+        flask.url_for("lots.show"))
 
 
 def links(step: Step) -> list[tuple[str, str]]:
@@ -55,8 +62,10 @@ def show() -> str | Response:
         reason = sentence(str(error))
     day = today()
     made = steps.steps(found, day) if found else []
+    draw: Draw | None = parts().draws.present()
     return flask.render_template(
         "season.html", register=found, reason=reason, day=weekday(day),
         rows=[(it, links(it), steps.when(it.by, day) if it.by else "") for it in made],
         next=steps.next_of(made), counts=steps.counts(found) if found else [],
+        draw=draw, next_step=draws.next_in_words(draw, found) if draw and found else "",
         signed_in=parts().people.signed_in(), closed=parts().desk.closed())
