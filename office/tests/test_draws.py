@@ -178,12 +178,11 @@ def test_a_round_by_five_hands(machine: Machine, town: Town) -> None:
         page = hal.browser.get("/draws/1").text
         assert "Monday 3 March 2025." in page and "Is this right?" not in page
         assert f"{len(lots)} pairs of 40 children and 4 schools." in page
-        assert hal.step(1, "close").status_code == 303
-        assert hal.step(1, "copy").status_code == 303
         page = sup.get("/lots/")
         assert page.status_code == 200 and "Draw 1: a round" not in page.text
         assert sup.get("/").location == "/lots/"
-        assert hal.step(1, "give").status_code == 303
+        # (the copy and the pairs follow)
+        assert hal.step(1, "close").status_code == 303
         assert sup.get("/").location == "/lots/1"
         assert 'href="/lots/1"' in sup.get("/lots/").text
         first = Fields(sup.get("/lots/1").text)
@@ -218,8 +217,8 @@ def test_a_round_by_five_hands(machine: Machine, town: Town) -> None:
         assert hal.step(1, "confirm").status_code == 409
         assert jane.step(1, "confirm").status_code == 303
         assert office.parts.desk.now().draws == []
+        # (the audit follows)
         assert hal.step(1, "send").status_code == 303
-        assert hal.step(1, "audit").status_code == 303
         assert f"{link}open for all." in jane.browser.get("/").text
         assert hal.step(1, "open").status_code == 303
         assert "is in progress" not in jane.browser.get("/").text
@@ -289,6 +288,36 @@ def test_a_second_round(machine: Machine, town: Town) -> None:
                 len(new), sum(it in own for it in new),
                 sum(own[it] == wanted[it] == code for it in own),
                 sum(own[it] == code != wanted[it] for it in own))
+
+
+def test_what_follows_a_step_and_cannot_be_done_has_a_button(
+    small: Machine, monkeypatch: pytest.MonkeyPatch
+) -> None:
+    """The step itself is done. Once the machine answers, the others follow one by one."""
+    with small.office() as office:
+        number = begun(office)
+        hal = Person(office, "hal", "head")
+        for name, state, button, following in (
+            ("close", "closed", "Make the copy", ("copy", "give")),
+            ("send", "sending", "Audit draw 1", ("audit",)),
+        ):
+            with monkeypatch.context() as patch:
+                patch.setattr(office.parts.copies, "asked", no_answer)
+                found = hal.step(number, name)
+            assert found.status_code == 409 and "There is no copy: no answer" in found.text
+            assert office.parts.draws.get(number).state == state
+            assert f">{button}</button>" in found.text
+            for it in following:
+                assert hal.step(number, it).status_code == 303, it
+            if name == "close":
+                assert office.parts.draws.get(number).state == "lots"
+                brought(office, number, "confirmed")
+        assert office.parts.draws.get(number).state == "audited"
+
+
+def no_answer(*_: object) -> dict[str, Any]:
+    """What the machine says where it does not answer."""
+    raise Refused("no answer")
 
 
 def test_a_draw_is_not_said_to_be_missing_while_the_register_is_away(small: Machine) -> None:
@@ -812,6 +841,7 @@ def test_what_looks_wrong_is_read_before_it_closes(small: Machine) -> None:
         assert hal.step(number, "close", agreed="yes").status_code == 409
         assert office.parts.desk.closed() == ""
         assert hal.step(number, "close", agreed=read).status_code == 303
+        assert office.parts.draws.get(number).state == "lots"
         entries = office.parts.history.entries
         about = [it.about for it in entries if it.what == "closed the register"]
         assert len(about) == 1 and "It is a Saturday." in about[0]["agreed"]

@@ -141,7 +141,8 @@ STEPS = (
     Step(BEGUN, "What is drawn, and for which day", "Nothing is closed yet."),
     Step(CLOSED, "Closed for all others",
          "Nobody can record anything from then on until the draw is opened or given up. All can"
-         " still read, and what somebody has typed stays.", "Close for all others"),
+         " still read, and what somebody has typed stays. The next two steps follow at once.",
+         "Close for all others"),
     Step(COPIED, "Copy of the register",
          "The register is copied, and the copy is compared with it. For some seconds nobody can"
          " read it. The copy can be restored if the draw goes wrong.", "Make the copy"),
@@ -159,7 +160,7 @@ STEPS = (
          " may be held.", "Confirm"),
     Step(SENDING, "Held",
          "The lots are sent to the register, which allots the places. Only a restore of the copy"
-         " undoes it.", "Hold"),
+         " undoes it. The audit follows at once.", "Hold"),
     Step(AUDITED, "Audit",
          "The register is copied once more. A second program works out the draw from the two"
          " copies, and the outcome is compared with that of the rehearsal.", "Audit"),

@@ -205,6 +205,9 @@ OWN: dict[str, Step] = {
     "ask-restore": lambda it, number, seen: it.ask_restore(person(), number, seen),
     "keep": lambda it, number, seen: it.keep(person(), number, seen),
 }
+# what follows a step at once, as there is nothing to decide in between. Where it cannot be done,
+# the draw is in the state before it, and the page has its button
+FOLLOWING = {"close": ("copy", "give"), "send": ("audit",)}
 SECOND: dict[str, Step] = {
     "confirm": lambda it, number, seen: it.confirm(person(), number, seen),
     "restore": lambda it, number, seen: it.restore(person(), number, seen),
@@ -212,13 +215,15 @@ SECOND: dict[str, Step] = {
 
 
 def done(number: int, steps: dict[str, Step], name: str) -> Answer:
-    """Does a step, and shows the draw."""
+    """Does a step with what follows it at once, and shows the draw."""
     found_draw(number)
     seen = flask.request.form.get("seen", "")
     if name not in steps or not (seen.isascii() and seen.isdigit() and len(seen) < 9):
         flask.abort(404 if name not in steps else 400)
     try:
         steps[name](parts().draws, number, int(seen))
+        for it in FOLLOWING.get(name, ()):
+            OWN[it](parts().draws, number, found_draw(number).version)
     except Refused as error:
         said = str(error)
         end = "" if said.endswith(".") else "."
