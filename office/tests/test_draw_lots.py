@@ -12,11 +12,13 @@ from draw_site import (
     HAL, SUP, Fields, Machine, at_lots, begun, brought, lot_of, machine_over, small_register, typed,
     version,
 )
+from pages import Page
 from register_files import Refused
 
 from office.model import Pair
 from office.web import draws_lots, draws_sheet
 from office.web.draws_drafts import Typed
+from office.web.screens import lots as screen
 
 
 @pytest.fixture(name="register", scope="module")
@@ -63,6 +65,30 @@ def test_sealed_lots_cannot_be_changed(small: Machine) -> None:
             db.execute("UPDATE lot SET text='77' WHERE school='OAK' AND child=1")
         with pytest.raises(Refused, match="the lots are not those that were sealed. The draw must"):
             office.parts.draws.rehearse(HAL, number, version(office, number))
+
+
+def test_each_way_from_the_table_saves_it(
+    small: Machine, monkeypatch: pytest.MonkeyPatch
+) -> None:
+    """To any other page, and to all lots: what was typed is not lost by a link."""
+    monkeypatch.setattr(screen, "CELLS", 2)
+    with small.office() as office:
+        number = begun(office)
+        brought(office, number, "lots")
+        sup = at_lots(office)
+        shown = sup.get(f"/lots/{number}")
+        page, fields = Page(shown.text), Fields(shown.text).values
+        away = [it for it in page.stops if f"/lots/{number}" in it and "sheet." not in it]
+        assert away == []
+        names = [it for it in fields if it.startswith("lot-")]
+        form = page.form("5")
+        found = sup.post(form.action, {**fields, **form.sent_by("5"), names[0]: "77"})
+        assert "Lots, page 5 of 5" in Page(found.text).tables
+        form = page.form("Save, and show all lots")
+        found = sup.post(form.action, {**form.sent_by("Save, and show all lots"), names[1]: "78"})
+        assert (found.status_code, found.location) == (303, f"/lots/{number}/seal")
+        typed_now = office.parts.lots.sheet(number)[1].cells().values()
+        assert sorted(filter(None, typed_now)) == ["77", "78"]
 
 
 def test_what_is_wrong_is_marked_at_its_cell(small: Machine) -> None:

@@ -149,6 +149,8 @@ def save(number: int) -> Answer:
     except Refused as error:
         return sheet_page(number, reason=f"Nothing was saved: {error}.", status=409)
     to = flask.request.form.get("to", "")
+    if to == "all":
+        return flask.redirect(flask.url_for("lots.whole", number=number), 303)
     shown = int(to) if to.isascii() and to.isdigit() and len(to) < 6 else None
     return kept_page(number, f"{texts.count(count, 'lot')} saved.", shown)
 
