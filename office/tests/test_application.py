@@ -449,6 +449,16 @@ def test_a_history_that_was_changed_is_refused(tmp_path: pathlib.Path) -> None:
     assert [it.who for it in history.read(str(path))] == ["jane"] * 5 + ["bo"]
 
 
+def test_a_history_that_is_broken_is_said_without_its_path(tmp_path: pathlib.Path) -> None:
+    """An officer reads it: no screen names a path."""
+    found = history.History(str(tmp_path / "history.jsonl"))
+    found.is_broken = True
+    with pytest.raises(Refused, match="the history could not be written") as error:
+        found.add("jane", "signed in", {})
+    assert str(tmp_path) not in str(error.value)
+    found.close()
+
+
 def test_an_entry_is_as_it_is_read_again(tmp_path: pathlib.Path) -> None:
     """Whatever it is about: keys that are numbers, in another order than their texts; and pairs.
     """

@@ -136,7 +136,7 @@ class History:
         """
         with self.lock:
             if self.is_broken:
-                raise Refused(f"{self.path} could not be written, and nothing is sent until the"
+                raise Refused("the history could not be written, and nothing is sent until the"
                               " application is started again")
             # (as it is read again: a key that is a number would be another one then)
             kept = json.loads(json.dumps(about))
