@@ -2,6 +2,8 @@
 // The field of Answers: an entry leaves it with its Enter and is added while the next one is typed, so that no key is lost. Without this
 // script each entry loads the page again. What could not be added is put into the field for several, also after a reload, and nothing
 // is recorded before all entries are added.
+import { asked } from "./asking.js";
+
 const form = /** @type {HTMLFormElement} */ (document.getElementById("entries"));
 const field = /** @type {HTMLInputElement} */ (document.getElementById("entry"));
 const several = /** @type {HTMLTextAreaElement} */ (document.getElementById("pasted"));
@@ -69,20 +71,6 @@ function show(request) {
   document.getElementById("pile")?.replaceWith(document.importNode(pile, true));
   if (held && document.activeElement?.id !== held) document.getElementById(held)?.focus();
   return true;
-}
-
-// The page at an address. (Read as a document: no text becomes a part of this page)
-/** @param {string} method @param {string} address @param {FormData | null} body @returns {Promise<XMLHttpRequest>} */
-function asked(method, address, body = null) {
-  return new Promise((resolve, reject) => {
-    const request = new XMLHttpRequest();
-    request.open(method, address);
-    request.responseType = "document";
-    request.setRequestHeader("Accept", "text/html");
-    request.onload = () => resolve(request);
-    request.onerror = reject;
-    request.send(body);
-  });
 }
 
 // How far a pile is that is being recorded

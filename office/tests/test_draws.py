@@ -392,7 +392,11 @@ def test_nobody_else_records_while_it_is_closed(small: Machine) -> None:
                 "/import", base_url=ORIGIN, headers={"Origin": ORIGIN}, data="child\n",
                 content_type="text/csv")
             assert rows.status_code == 503 and "Closed for draw 1" in rows.json["reason"]
-        assert "Closed for draw 1 by hal since" in jane.get("/").text
+        for screen in ("/", "/schools/", "/applications/", "/applications/commit/", "/children/",
+                       "/children/1", "/answers/", "/draws/", "/lists/", "/flags/", "/activity/",
+                       "/records"):
+            assert jane.get(screen).text.count("Closed for draw 1 by hal since") == 1, screen
+        assert "Closed for" not in office.browser("sup", "supervisor").get("/lots/").text
         assert office.parts.desk.now().schools["ELM"].pan == 9
         brought(office, number, "opened")
         assert jane.command(command).json == {"done": True}

@@ -12,6 +12,7 @@ from office import texts
 from . import authority, flags, guard
 from .guard import PUBLIC, needs
 from .parts import Config, Parts
+from .people import READ
 from .screens import (
     activity, answers, applications, applications_add, applications_commit, child, draws, lists,
     lots, new_schools, people, register, schools, season, signing,
@@ -94,6 +95,8 @@ def shared() -> dict[str, Any]:
         "person": found,
         "authority": config.authority,
         "register_name": config.name,
+        # (who sees no child is not told of draws either)
+        "closed_now": guard.parts().desk.closed() if found and found.may(READ) else "",
         "menu": [it for it in MENU if found and found.may(it[2])],
         "form_secret": found.form if found else "",
     }

@@ -68,4 +68,4 @@ def show() -> str | Response:
         rows=[(it, links(it), steps.when(it.by, day) if it.by else "") for it in made],
         next=steps.next_of(made), counts=steps.counts(found) if found else [],
         draw=draw, next_step=draws.next_in_words(draw, found) if draw and found else "",
-        signed_in=parts().people.signed_in(), closed=parts().desk.closed())
+        signed_in=parts().people.signed_in())
