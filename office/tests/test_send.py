@@ -198,7 +198,8 @@ def test_ended_in_the_middle(
         known = answered_so_far(tmp_path).count(b"\n")
         ran = wait_for(lambda: office("send", "a.jsonl"), is_free)
         assert ran.returncode == 1 and f"has {known} answers" in ran.stderr
-        ran = office("send", "a.jsonl", "--continue")
+        # (the program of the killed run may still have the register open)
+        ran = wait_for(lambda: office("send", "a.jsonl", "--continue"), is_free)
         refused = ran.stdout.count("the interrupted run may have done it")
         assert ran.returncode == refused <= 1 and count(reg) == 2 + size
         assert (tmp_path / "a.answers").read_text().count(DONE) == size - refused
