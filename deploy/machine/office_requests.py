@@ -3,8 +3,9 @@ else, in a folder of the application. The answer is a file beside it, one object
 number, and the result or an error.
 
 The folder is another user's, so nothing in it is trusted: no link is followed, and of a request
-digits alone are taken. A request is removed once it is answered: where the machine stops before
-that, it is done again.
+digits alone are taken. A request that is begun is renamed, so that who asked can take back only
+one that is not; it is removed once it is answered. Where the machine stops before that, it is done
+again.
 """
 import contextlib
 import json
@@ -12,6 +13,7 @@ import os
 import re
 import stat
 import sys
+import time
 from collections.abc import Callable, Iterator
 
 from register_files import Refused
@@ -20,7 +22,7 @@ from .files import AS_IT_IS
 from .programs import call, tool
 from .registers import Register
 
-FOLDER = "requests"
+FOLDER, BEGUN, DONE = "requests", ".begun", ".done"
 NUMBER = re.compile(rb"([1-9][0-9]{0,8})\n?")
 Result = dict[str, str]
 
@@ -48,11 +50,9 @@ def opened(register: Register) -> Iterator[int]:
 
 
 def number_of(folder: int, name: str) -> int:
-    """The number of a request."""
+    """The number of a request that is begun."""
     try:
-        fd = os.open(name, os.O_RDONLY | AS_IT_IS, dir_fd=folder)
-    except FileNotFoundError as error:
-        raise Refused(f"there is no request {name}") from error
+        fd = os.open(name + BEGUN, os.O_RDONLY | AS_IT_IS, dir_fd=folder)
     except OSError as error:
         raise Wrong("NoFile", f"the request {name} is no file: {error.strerror}") from error
     try:
@@ -82,32 +82,41 @@ def put(folder: int, name: str, text: str) -> None:
     os.fsync(folder)
 
 
+def begin(folder: int, name: str) -> None:
+    """Takes a request, which nobody takes back then. One that was begun before comes first."""
+    if name + BEGUN in os.listdir(folder):
+        return
+    try:
+        os.rename(name, name + BEGUN, src_dir_fd=folder, dst_dir_fd=folder)
+    except FileNotFoundError as error:
+        raise Refused(f"there is no request {name}") from error
+    os.fsync(folder)
+
+
 def handled(register: Register, name: str, work: Callable[[int], Result]) -> int:
     """Does what was asked, and answers. Returns the exit status."""
     with opened(register) as folder:
         number, said = 0, {}
+        begin(folder, name)
         try:
             number = number_of(folder, name)
             said = work(number)
         except Wrong as error:
             said = {"error": error.name, "why": str(error)}
         answer = json.dumps({"number": number, **said}, sort_keys=True)
-        put(folder, f"{name}.done", f"{answer}\n")
-        forget(folder, name, number)
+        put(folder, name + DONE, f"{answer}\n")
+        forget(folder, name + BEGUN)
         print(answer, file=sys.stderr if "error" in said else sys.stdout)
         return 1 if "error" in said else 0
 
 
-def forget(folder: int, name: str, number: int) -> None:
-    """Removes a request that is answered. Another that was made meanwhile is still to be done."""
+def forget(folder: int, begun: str) -> None:
+    """Removes a request that is answered. What is no file is put aside."""
     try:
-        if number_of(folder, name) != number:
-            return
-    except Wrong:
-        pass
-    except Refused:
-        return
-    os.unlink(name, dir_fd=folder)
+        os.unlink(begun, dir_fd=folder)
+    except IsADirectoryError:
+        aside = f".{begun}-{time.time_ns()}"
+        os.rename(begun, aside, src_dir_fd=folder, dst_dir_fd=folder)
 
 
 def unit_of(register: Register) -> str:

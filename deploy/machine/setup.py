@@ -163,7 +163,7 @@ def set_up(register: Register, given: argparse.Namespace, changes: "Changes") ->
 def again() -> int:
     """Makes all sites again, and what the applications behind them need: an earlier version had
     none."""
-    registers = sites.registers_with_site()
+    registers = [it for it in sites.registers_with_site() if it.is_made]
     for register in registers:
         report(make_folders(register))
     report(sites.make_all())

@@ -24,7 +24,7 @@ def main() -> None:
     from office.web import __main__, copies
 
     # (on a machine that is busy a copy takes longer than on that of an office)
-    copies.ANSWER_SECONDS = copies.BACK_SECONDS = 600.0
+    copies.BEGIN_SECONDS = copies.BACK_SECONDS = 600.0
     __main__.main()
 
 

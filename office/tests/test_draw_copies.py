@@ -5,12 +5,14 @@ import json
 import os
 import pathlib
 import sys
+import time
 from collections.abc import Callable, Iterator
 from typing import Any
 
 import pytest
 from draw_site import NAME, RAISED, Machine, machine_over, small_register
-from machine import office_restore, programs
+from machine import office_copy, office_requests, office_restore, programs
+from machine.registers import Register
 from register_files import Refused
 from served import do_over
 
@@ -45,9 +47,10 @@ def test_a_copy_is_that_of_the_register(small: Machine, monkeypatch: pytest.Monk
         with pytest.raises(Refused, match="there is no copy 7"):
             found.path(7)
         do_over(small.address, [RAISED])
-        # from here on the machine does nothing, and its answers are these
+        # from here on the machine takes each request and does nothing, and its answers are these
         small.is_ended.set()
         small.thread.join()
+        monkeypatch.setattr(copies.Copies, "put", lambda *_: None)
         old, name = found.path(1), "office-{:06}-2025-03-03T101112.db"
         answers: list[tuple[dict[str, Any], str]] = [
             ({"copy": old.name}, "another copy than was asked for"),
@@ -68,10 +71,60 @@ def test_a_copy_is_that_of_the_register(small: Machine, monkeypatch: pytest.Monk
                 found.make("a try")
         assert len(found.listed()) == 1
         monkeypatch.setattr(copies, "read", lambda _: {"number": 1, "copy": name.format(1)})
-        monkeypatch.setattr(copies, "ANSWER_SECONDS", 0.2)
+        monkeypatch.setattr(copies, "END_SECONDS", 0.2)
+        with pytest.raises(Refused, match="the machine has begun a copy and not ended it"):
+            found.make("a try")
+
+
+def test_what_the_machine_has_not_begun_is_taken_back(
+    small: Machine, monkeypatch: pytest.MonkeyPatch
+) -> None:
+    """And is not done later, when nobody expects it."""
+    with small.office() as office:
+        found = office.parts.copies
+        assert found.make("a try") == 1
+        do_over(small.address, [RAISED])
+        small.is_ended.set()
+        small.thread.join()
+        monkeypatch.setattr(copies, "BEGIN_SECONDS", 0.2)
         with pytest.raises(Refused, match="the machine has not answered"):
             found.make("a try")
-        assert not (small.state / "requests" / "copy").exists()
+        with pytest.raises(Refused, match="the machine has not answered"):
+            found.restore(1)
+        given = argparse.Namespace(name=NAME)
+        for command in (office_copy, office_restore):
+            with pytest.raises(Refused, match="there is no request"):
+                command.main(given)
+        assert office.parts.desk.now().schools["OAK"].pan == RAISED["pan"]
+
+
+def test_what_the_machine_has_begun_is_awaited(
+    small: Machine, monkeypatch: pytest.MonkeyPatch
+) -> None:
+    """However long it takes; and so is what an application before this one has asked for, whose
+    answer is not that to another request.
+    """
+    real = office_requests.stop
+
+    def slowly(register: Register) -> None:
+        time.sleep(1)
+        real(register)
+
+    monkeypatch.setattr(office_requests, "stop", slowly)
+    monkeypatch.setattr(copies, "BEGIN_SECONDS", 0.3)
+    with small.office() as office:
+        found = office.parts.copies
+        assert found.make("a try") == 1
+        new = small.state / "requests" / "new"
+        new.write_text("1\n")
+        new.rename(new.with_name("restore"))
+        while not new.with_name("restore.begun").exists():
+            time.sleep(0.01)
+        do_over(small.address, [RAISED])
+        count = small.answered
+        found.restore(1)
+        assert small.answered >= count + 1
+        assert not list((small.state / "requests").glob("*.begun"))
 
 
 def answer_of(machine: Machine, what: str) -> dict[str, Any]:
@@ -208,13 +261,14 @@ def test_a_unit_that_is_killed_in_a_restore(
             patch.setattr(office_restore, "call", killed)
             with pytest.raises(Killed):
                 office_restore.main(given)
-        assert request.exists() and not request.with_name("restore.done").exists()
+        begun = request.with_name("restore.begun")
+        assert begun.exists() and not request.with_name("restore.done").exists()
         pan = office.parts.desk.now().schools["OAK"].pan
         assert pan == {"before": 2, "after": 1}[when]
         assert office_restore.main(given) == 0
         answer = answer_of(small, "restore")
         assert (answer["number"], answer["restored"]) == (1, office.parts.copies.path(1).name)
-        assert not request.exists() and copies.is_same(office.parts.desk.now(), before)
+        assert not begun.exists() and copies.is_same(office.parts.desk.now(), before)
         kept = [it.name for it in (small.lib / NAME).iterdir() if ".db." in it.name]
         assert len(kept) == 1
 

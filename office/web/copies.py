@@ -23,10 +23,11 @@ from .history import now
 from .store import Store
 
 # what is asked for; the answer has the same name with DONE
-COPY, RESTORE, DONE = "copy", "restore", ".done"
+COPY, RESTORE, BEGUN, DONE = "copy", "restore", ".begun", ".done"
 NAME = re.compile(r"office-([0-9]{6,9})-[0-9]{4}-[0-9]{2}-[0-9]{2}T[0-9]{6}\.db")
-# for so long the machine may take, and the register until it answers again
-ANSWER_SECONDS, BACK_SECONDS, PAUSE = 60.0, 30.0, 0.05
+# for so long the machine may take to begin, and to end what it has begun; and the register until it
+# answers again
+BEGIN_SECONDS, END_SECONDS, BACK_SECONDS, PAUSE = 60.0, 960.0, 30.0, 0.05
 MOST_BYTES = 4096
 # the errors of the machine that have words of their own; for others it has given them
 ERRORS = {
@@ -147,22 +148,45 @@ class Copies:
 
     def asked(self, what: str, number: int) -> dict[str, Any]:
         """The answer of the machine to a request, or a refusal."""
-        answer = self.requests / f"{what}{DONE}"
+        answer, request = self.requests / f"{what}{DONE}", self.requests / what
         with self.desk.reading:
+            # (which an application before this one has asked for, and whose answer is not this one)
+            self.wait(what, lambda: not self.is_begun(what))
             answer.unlink(missing_ok=True)
-            self.put(self.requests / what, f"{number}\n")
-            end = self.clock() + ANSWER_SECONDS
-            while (found := read(answer)).get("number") != number:
-                if "error" in found and not found.get("number"):
-                    break
-                if self.clock() > end:
-                    # (so that it is not done at a moment when nobody expects it)
-                    (self.requests / what).unlink(missing_ok=True)
+            self.put(request, f"{number}\n")
+            end = self.clock() + BEGIN_SECONDS
+            while request.exists():
+                if self.clock() > end and self.is_taken_back(request):
                     raise Refused("the machine has not answered: tell whoever maintains it")
                 time.sleep(PAUSE)
+            self.wait(what, lambda: is_answer(read(answer), number) and not self.is_begun(what))
+            found = read(answer)
         if "error" in found:
             raise Refused(ERRORS.get(str(found["error"]), str(found.get("why", ""))))
         return found
+
+    def is_begun(self, what: str) -> bool:
+        """Whether the machine does what was asked, which nobody can take back then."""
+        return os.path.lexists(self.requests / f"{what}{BEGUN}")
+
+    def is_taken_back(self, request: pathlib.Path) -> bool:
+        """Takes back a request, so that it is not done when nobody expects it; unless the machine
+        has begun it meanwhile.
+        """
+        try:
+            request.unlink()
+        except FileNotFoundError:
+            return False
+        return True
+
+    def wait(self, what: str, is_so: Callable[[], bool]) -> None:
+        """Waits for the end of what the machine has begun."""
+        end = self.clock() + END_SECONDS
+        while not is_so():
+            if self.clock() > end:
+                raise Refused(f"the machine has begun a {what} and not ended it: nothing else can"
+                              " be asked of it now. Tell whoever maintains it")
+            time.sleep(PAUSE)
 
     def put(self, path: pathlib.Path, text: str) -> None:
         """Writes a file in one step."""
@@ -172,6 +196,11 @@ class Copies:
             file.flush()
             os.fsync(file.fileno())
         os.rename(new, path)
+
+
+def is_answer(found: dict[str, Any], number: int) -> bool:
+    """Whether an answer is that to a request; an error may know no number."""
+    return found.get("number") == number or "error" in found and not found.get("number")
 
 
 def read(path: pathlib.Path) -> dict[str, Any]:
