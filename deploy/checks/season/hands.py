@@ -118,6 +118,7 @@ class Hands:
                  pictures: pathlib.Path | None) -> None:
         self.driver, self.who, self.base = driver, who, base
         self.report, self.pictures = report, pictures
+        self.width = 0
         self.resize(WIDTH, HEIGHT)
 
     # what is seen
@@ -279,6 +280,7 @@ class Hands:
 
     def resize(self, width: int, height: int) -> None:
         """Sets the size of the window."""
+        self.width = width
         self.driver.execute_cdp_cmd("Emulation.setDeviceMetricsOverride", {
             "width": width, "height": height, "deviceScaleFactor": 1, "mobile": False})
 
@@ -312,7 +314,8 @@ class Hands:
         # (so that no bar covers the right edge)
         self.driver.execute_cdp_cmd("Emulation.setScrollbarsHidden", {"hidden": True})
         size = self.driver.execute_cdp_cmd("Page.getLayoutMetrics", {})["cssContentSize"]
-        known = {"captureBeyondViewport": True, "format": "png", "clip": {**size, "scale": 1}}
+        clip = {"x": 0, "y": 0, "width": self.width, "height": size["height"], "scale": 1}
+        known = {"captureBeyondViewport": True, "format": "png", "clip": clip}
         data = self.driver.execute_cdp_cmd("Page.captureScreenshot", known)["data"]
         self.driver.execute_cdp_cmd("Emulation.setScrollbarsHidden", {"hidden": False})
         number = f"{len(self.report.screens):02}"
