@@ -114,12 +114,18 @@ def preferences(register: Register) -> Rows:
     return [["round", "day", "preference", "children", "percent"], *rows]
 
 
-def by_school(register: Register) -> Iterator[tuple[Draw, str, list[Entry]]]:
-    """Who had a lot in a draw, by draws and schools in their order."""
+def by_school(
+    register: Register, offered: bool = False, school: str | None = None
+) -> Iterator[tuple[Draw, str, list[Entry]]]:
+    """Who had a lot in a draw, by draws and schools in their order; or only who was offered the
+    place there, or who had a lot at one school.
+    """
     for draw, drawn in with_lots(register):
         outcomes = register.outcomes[draw.number]
         found: dict[str, list[Entry]] = {}
-        for (code, child), lot in sorted(drawn.items()):
+        there = (it for it in drawn.items() if school in (None, it[0][0])
+                 and (not offered or outcomes.get(it[0][1]) == it[0][0]))
+        for (code, child), lot in sorted(there):
             rank = register.rank(code, child) if child in register.applications else None
             found.setdefault(code, []).append(Entry(child, lot, outcomes.get(child), rank))
         yield from ((draw, code, there) for code, there in found.items())
@@ -133,15 +139,14 @@ def last_of(offered: list[Entry]) -> Entry | None:
     return max(ranked)[2] if len(ranked) == len(offered) else None
 
 
-def last_offered(register: Register) -> Rows:
-    """The last that was offered at each school in each draw, and how many were."""
+def last_offered(register: Register, school: str | None = None) -> Rows:
+    """The last that was offered at each school, or at this one, in each draw, and how many were."""
     rows: Rows = []
-    for draw, code, there in by_school(register):
-        if offered := [it for it in there if it.allotted == code]:
-            last = last_of(offered)
-            rank = last.rank if last and last.rank else (None, None)
-            who: list[Cell] = [last.child, *rank, last.lot] if last else [None] * 4
-            rows.append([draw.number, draw.day.isoformat(), code, len(offered), *who])
+    for draw, code, offered in by_school(register, True, school):
+        last = last_of(offered)
+        rank = last.rank if last and last.rank else (None, None)
+        who: list[Cell] = [last.child, *rank, last.lot] if last else [None] * 4
+        rows.append([draw.number, draw.day.isoformat(), code, len(offered), *who])
     header: list[Cell] = ["draw", "day", "school", "offers", "child", "class", "metres", "lot"]
     return [header, *rows]
 

@@ -1,11 +1,12 @@
 """The season of examples/season at a register that is served, by what is installed: season.py FOLDER NAME HOST USER PASSWORD, as root.
 
 FOLDER is examples/season. Commands, letters, lists and reports are requested over HTTPS as USER; the office's tools read the newest nightly copy, which is made
-anew after each change; an import is done while the desk is stopped. Each step must print what `expected` has for it. Prints each that does not, and at
+anew after each change; an import, and a file with a draw, are done while the desk is stopped. Each step must print what `expected` has for it. Prints each that does not, and at
 the end `N steps as expected`, or `M of N steps not as expected`.
 """
 import base64
 import http.client
+import json
 import pathlib
 import re
 import shlex
@@ -60,11 +61,12 @@ class Register:
     def wait(self):
         """Until the desk answers."""
         for _ in range(600):
-            try:
-                if not next(self.ask("/round/1")).startswith('{"unanswered"'):
-                    return
-            except OSError:
-                pass
+            connection = self.connection()
+            connection.request("GET", "/round/1", None, self.headers)
+            status = connection.getresponse().status
+            connection.close()
+            if status in (200, 404):
+                return
             time.sleep(0.1)
         raise TimeoutError("the desk does not answer")
 
@@ -77,21 +79,32 @@ class Register:
             self.wait()
             self.is_new = False
 
-    def imported(self, file):
-        shutil.copy(self.room / file, "/tmp/season.csv")
-        pathlib.Path("/tmp/season.csv").chmod(0o644)
+    def at_the_file(self, *words, text=""):
+        """What a subcommand prints that is called as the user of the desks, while the desk is stopped."""
         run("systemctl", "stop", f"admissions@{self.name}")
-        done = run(*AS_DESK, "admissions", "import", f"/var/lib/admissions/{self.name}/reg.db", "/tmp/season.csv").stdout
+        done = run(*AS_DESK, "admissions", words[0], f"/var/lib/admissions/{self.name}/reg.db", *words[1:], input=text).stdout
         run("systemctl", "start", f"admissions@{self.name}")
         self.wait()
         self.is_new = True
         return done
 
+    def imported(self, file):
+        shutil.copy(self.room / file, "/tmp/season.csv")
+        pathlib.Path("/tmp/season.csv").chmod(0o644)
+        return self.at_the_file("import", "/tmp/season.csv")
+
+    def done(self, file):
+        """The answers to a file of commands. The application takes draws on its own screen alone, with a second person."""
+        text = (self.room / file).read_text(encoding="utf-8")
+        if any(json.loads(it)["cmd"] in ("round", "fill") for it in text.splitlines()):
+            return self.at_the_file("do", text=text)
+        return "".join(f"{it}\n" for it in self.send(text.splitlines()))
+
     def step(self, line):
         """What a step prints, or None where it is none of this."""
         words = shlex.split(line)
         if line.startswith("admissions do"):
-            return "".join(f"{it}\n" for it in self.send((self.room / words[-1]).read_text(encoding="utf-8").splitlines()))
+            return self.done(words[-1])
         if line.startswith("admissions import"):
             return self.imported(words[-1])
         if words[0] == "admissions" and words[1] in REPORTS:

@@ -85,14 +85,13 @@ def last_offered(register: Register, code: str, words: Mapping[int, str]) -> lis
     """
     draws = [it for it in register.draws if it.school in (None, code)
              and code in register.outcomes[it.number].values()]
-    rows = draw_lists.last_offered(dataclasses.replace(register, draws=draws))
+    rows = draw_lists.last_offered(dataclasses.replace(register, draws=draws), code)
     school, found = register.schools[code], []
-    for draw, day, at, offers, child, number, metres, lot in rows[1:]:
-        if at == code:
-            said = criteria.in_words(school, int(number), words) if number is not None else ""
-            name = draw_in_words(register.draws[int(draw or 0) - 1])
-            found.append(Last(name, str(day), int(offers or 0), whole(child), said, whole(metres),
-                              whole(lot)))
+    for draw, day, _, offers, child, number, metres, lot in rows[1:]:
+        said = criteria.in_words(school, int(number), words) if number is not None else ""
+        name = draw_in_words(register.draws[int(draw or 0) - 1])
+        found.append(Last(name, str(day), int(offers or 0), whole(child), said, whole(metres),
+                          whole(lot)))
     return found
 
 

@@ -98,7 +98,7 @@ def answered(result: Result) -> flask.Response:
         value = commands.read(result.answer)
         is_fault = isinstance(value, dict) and "fault" in value
         status = 400 if is_fault else STATUSES[result.outcome]
-        return flask.Response(result.answer + b"\n", status, mimetype=JSON)
+        return flask.Response(result.answer, status, mimetype=JSON)
     if result.is_done:
         return flask.jsonify({"done": True})
     reason = {"outcome": result.outcome, "reason": result.said}
