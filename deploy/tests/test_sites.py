@@ -237,8 +237,10 @@ def test_the_machines_own_part_needs_no_site() -> None:
     others = set(re.findall(r"\$(\w+)", text)) - own
     assert sorted(others) == [
         "binary_remote_addr",
+        "content_length",
         "host",
         "http_accept",
+        "http_transfer_encoding",
         "request_method",
         "request_uri",
         "status",
