@@ -2,8 +2,8 @@
 import random
 from collections.abc import Sequence
 
-from .hands import until
 from .office import HAL, Office
+from .report import until
 
 ANSWERS, MOST_KEYS = 24, 89
 # so many of them decline the school at which vacancies are filled, and so many another one

@@ -9,8 +9,9 @@ from collections.abc import Sequence
 
 from . import town
 from .allocation import Pair, lot_of_seed
-from .hands import Hands, until
+from .hands import Hands
 from .office import HAL, SUP, Office
+from .report import until
 
 AGREED = "I have read what looks wrong above, and it is right"
 

@@ -2,27 +2,25 @@
 looked at: its width on a small screen, and what the browser's console says.
 
 A click is a press of a button, of a link, of a box or of a file field, by mouse or by key; a click
-into a field, to type there, is counted apart. A key is each key that is pressed.
+into a field, to type there, is counted apart. A key is each key that is pressed, also Enter in a
+field, which sends its form.
 """
 import base64
 import contextlib
-import dataclasses
 import datetime
 import pathlib
 import re
 import time
-from collections.abc import Callable, Iterator
-from typing import Any
+from collections.abc import Iterator
 
-from selenium.common.exceptions import WebDriverException
 from selenium.webdriver.common.action_chains import ActionChains
 from selenium.webdriver.common.by import By
 from selenium.webdriver.common.keys import Keys
 from selenium.webdriver.remote.webdriver import WebDriver
 from selenium.webdriver.remote.webelement import WebElement
 
-# for so long a step may take on a machine that is busy: a copy of the register, or a rehearsal
-SECONDS = 600
+from .report import Report, Stopped, until
+
 WIDTH, HEIGHT, SMALL = 1280, 900, 320
 # no screen needs so many steps by Tab to one of its fields
 MOST_TABS = 400
@@ -46,69 +44,6 @@ FIELDS = PLAIN + """
 const found = document.querySelectorAll("input, select, textarea");
 return [...found].filter((it) => plain(of(it)) === arguments[0]);
 """
-
-
-class Stopped(Exception):
-    """Why the season cannot go on."""
-
-
-@dataclasses.dataclass
-class Counts:
-    """What all persons have pressed: buttons, links and boxes; fields to type there; and keys."""
-
-    clicks: int = 0
-    fields: int = 0
-    keys: int = 0
-
-
-@dataclasses.dataclass
-class Report:
-    """What was seen, and how often something was not as it must be."""
-
-    passed: int = 0
-    failed: list[str] = dataclasses.field(default_factory=list)
-    counts: Counts = dataclasses.field(default_factory=Counts)
-    # which screens were looked at
-    screens: set[str] = dataclasses.field(default_factory=set)
-    began: float = dataclasses.field(default_factory=time.monotonic)
-
-    def see(self, is_so: object, name: str) -> bool:
-        """Counts something that must be so."""
-        if is_so:
-            self.passed += 1
-        else:
-            self.failed.append(name)
-            print(f"FAILED: {name}", flush=True)
-        return bool(is_so)
-
-    def same(self, found: object, wanted: object, name: str) -> None:
-        """Counts two things that must be equal."""
-        self.see(found == wanted, f"{name}: {shortly(found)}, and not {shortly(wanted)}")
-
-    def step(self, text: str) -> None:
-        """Prints what is done, with the clicks so far."""
-        it = self.counts
-        seconds = time.monotonic() - self.began
-        print(f"{seconds:4.0f} s, {it.clicks:3} clicks, {it.fields:2} into fields,"
-              f" {it.keys:5} keys: {text}", flush=True)
-
-
-def shortly(value: object) -> str:
-    """A value as it is printed of something that failed."""
-    text = repr(value)
-    return text if len(text) <= 300 else f"{text[:300]}.."
-
-
-def until(what: Callable[[], object], name: str, seconds: float = SECONDS) -> Any:
-    """Waits until something is so, and returns it."""
-    end = time.monotonic() + seconds
-    while True:
-        with contextlib.suppress(WebDriverException):
-            if found := what():
-                return found
-        if time.monotonic() > end:
-            raise Stopped(f"{name}: not within {seconds:.0f} seconds")
-        time.sleep(0.05)
 
 
 class Hands:
@@ -226,7 +161,10 @@ class Hands:
     def replace(self, text: str) -> None:
         """Types a text in place of what a field has."""
         self.key(Keys.CONTROL, "a")
-        self.key(Keys.DELETE) if not text else self.type(text)
+        if text:
+            self.type(text)
+        else:
+            self.key(Keys.DELETE)
 
     def fill(self, label: str, text: str) -> None:
         """Goes to a field by Tab, and types a text in place of what it has."""

@@ -10,7 +10,8 @@ from typing import Any
 
 from . import town
 from .allocation import Season
-from .hands import Hands, Report
+from .hands import Hands
+from .report import Report
 from .site import Site
 
 # has the application see a day as today, where that can be

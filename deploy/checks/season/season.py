@@ -8,8 +8,8 @@ from selenium.common.exceptions import WebDriverException
 
 from . import answers, applications, beginning, draws
 from .draws import Draw
-from .hands import Report, Stopped
 from .office import ABBEY, HAL, RITA, SUP, Clock, Office
+from .report import Report, Stopped
 from .site import Site
 
 # what a season should cost in clicks
