@@ -6,6 +6,7 @@ import contextlib
 import json
 import os
 import resource
+import signal
 import subprocess
 import sys
 import threading
@@ -41,7 +42,7 @@ def read(name: str, data: bytes, wanted: str | None, advice: str) -> Sheet:
                 capture_output=True, check=False, timeout=MOST_SECONDS)
     except subprocess.TimeoutExpired as error:
         raise late from error
-    if ran.returncode < 0:
+    if ran.returncode in (-signal.SIGXCPU, -signal.SIGKILL):
         raise late
     with contextlib.suppress(ValueError):
         return taken(json.loads(ran.stdout))
