@@ -202,7 +202,7 @@ class Person:
 
     def press(self, number: int, seen: str, name: str, **given: str) -> Any:
         """Presses a button of a page that was shown at a version."""
-        second = "second/" if name in ("confirm", "restore") else ""
+        second = "second/" if name in ("confirm", "confirm-give-up", "restore") else ""
         return self.browser.post(f"/draws/{number}/{second}{name}", {"seen": seen, **given})
 
 
@@ -286,6 +286,17 @@ def brought(office: Site, number: int, state: str) -> None:
     for it in names[names.index(office.parts.draws.get(number).state) + 1:names.index(state) + 1]:
         found[it]()
     assert office.parts.draws.get(number).state == state
+
+
+def given_up(office: Site, number: int) -> None:
+    """Gives up a draw, by as many persons as it needs."""
+    draws: Draws = office.parts.draws
+    if draws.get(number).digest:
+        draws.ask_give_up(HAL, number, version(office, number))
+        draws.confirm_give_up(JANE, number, version(office, number))
+    else:
+        draws.give_up(HAL, number, version(office, number))
+    assert draws.get(number).state == "given up"
 
 
 def after_round(machine: Machine, office: Site) -> None:

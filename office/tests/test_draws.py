@@ -20,7 +20,8 @@ from applications import ORIGIN, Site
 from conftest import PROGRAM, apply, child, make, school
 from draw_site import (
     HAL, JANE, NAME, OFFER_DAY, RAISED, SUP, Command, Fields, Machine, Person, after_round, begun,
-    brought, first_day, lot_of, machine_over, sealed, small_register, steps, typed, version,
+    brought, first_day, given_up, lot_of, machine_over, sealed, small_register, steps, typed,
+    version,
 )
 from register_files import Refused
 from served import do_over
@@ -418,8 +419,9 @@ RIGHTS = [
     ("GET /draws/", "head officer reader"), ("GET /draws/1", "head officer reader"),
     ("GET /draws/1/sealed.txt", "head officer reader"), ("POST /draws/", "head"),
     *((f"POST /draws/1/{it}", "head") for it in (
-        "close", "copy", "give", "rehearse", "send", "audit", "open", "give-up", "ask-restore",
-        "keep")),
+        "close", "copy", "give", "rehearse", "send", "audit", "open", "give-up", "ask-give-up",
+        "go-on", "ask-restore", "keep")),
+    ("POST /draws/1/second/confirm-give-up", "head officer"),
     ("POST /draws/1/second/confirm", "head officer"),
     ("POST /draws/1/second/restore", "head officer"),
     *((f"GET /lots/{it}", "supervisor") for it in (
@@ -475,10 +477,10 @@ def test_a_stale_page_does_nothing(small: Machine) -> None:
         number = begun(office)
         brought(office, number, "rehearsed")
         seen = Fields(jane.browser.get(f"/draws/{number}").text).values["seen"]
-        office.parts.draws.give_up(HAL, number, version(office, number))
+        given_up(office, number)
         found = jane.press(number, seen, "confirm")
         assert found.status_code == 409
-        assert "hal brought it to the state &#39;given up&#39; at " in found.text
+        assert "jane brought it to the state &#39;given up&#39; at " in found.text
         other = begun(office)
         brought(office, other, "rehearsed")
         assert jane.press(other, "1", "confirm").status_code == 409
@@ -505,19 +507,19 @@ def test_a_register_that_changed_behind_is_refused(small: Machine) -> None:
         behind(office, small, number, "sealed", LEFT)
         with pytest.raises(Refused, match=r"wants no lot any more for ELM 5 and OAK 5\. The draw"):
             office.parts.draws.rehearse(HAL, number, version(office, number))
-        office.parts.draws.give_up(HAL, number, version(office, number))
+        given_up(office, number)
         number = begun(office)
         behind(office, small, number, "sealed", RAISED)
         with pytest.raises(Refused, match=r"the register has changed since it was copied\. The dr"):
             office.parts.draws.rehearse(HAL, number, version(office, number))
-        office.parts.draws.give_up(HAL, number, version(office, number))
+        given_up(office, number)
         number = begun(office)
         behind(office, small, number, "confirmed", {**RAISED, "pan": 3})
         with pytest.raises(Refused, match="is not as it was rehearsed. The draw must be given up"):
             office.parts.draws.send(HAL, number, version(office, number))
         assert office.parts.desk.now().draws == []
         assert office.parts.draws.get(number).state == "confirmed"
-        office.parts.draws.give_up(HAL, number, version(office, number))
+        given_up(office, number)
         assert office.parts.desk.closed() == ""
 
 
@@ -691,7 +693,9 @@ def test_a_difference_of_the_audit_stops_it(
         for name in ("confirm", "send"):
             assert hal.step(number, name).status_code == 409
         assert office.parts.desk.now().draws == []
-        assert hal.step(number, "give-up").status_code == 303
+        assert hal.step(number, "ask-give-up").status_code == 303
+        jane = Person(office, "jane", "officer")
+        assert jane.step(number, "confirm-give-up").status_code == 303
         assert office.parts.desk.closed() == ""
 
 
@@ -813,14 +817,59 @@ def test_a_draw_is_given_up_before_it_is_sent_alone(small: Machine) -> None:
             with pytest.raises(Refused, match="draw 1 is in progress"):
                 begun(office)
             brought(office, number, state)
-            office.parts.draws.give_up(HAL, number, version(office, number))
+            given_up(office, number)
             draw = office.parts.draws.get(number)
-            assert (draw.state, draw.done[-1].said) == ("given up", f"In the state '{state}'.")
+            digest = f" Digest of the lots {draw.digest}." if draw.digest else ""
+            assert draw.done[-1].said == f"In the state '{state}'.{digest}"
+            assert bool(digest) == (state in ("sealed", "rehearsed", "confirmed"))
             assert office.parts.desk.closed() == ""
         number = begun(office)
         brought(office, number, "sending")
-        with pytest.raises(Refused, match="in which this cannot be done"):
-            office.parts.draws.give_up(HAL, number, version(office, number))
+        for step in (office.parts.draws.give_up, office.parts.draws.ask_give_up,
+                     office.parts.draws.confirm_give_up):
+            with pytest.raises(Refused, match="in which this cannot be done"):
+                step(HAL, number, version(office, number))
+
+
+def test_two_give_up_a_draw_whose_lots_are_sealed(small: Machine) -> None:
+    """From the seal on: who has seen the outcome of the rehearsal has no other lots drawn alone.
+    The sum of the lots that are not used is shown, and on record.
+    """
+    with small.office() as office:
+        hal, jane = Person(office, "hal", "head"), Person(office, "jane", "officer")
+        number = begun(office)
+        brought(office, number, "lots")
+        page = hal.browser.get(f"/draws/{number}").text
+        assert "Give up draw 1</button>" in page and "Ask to give up" not in page
+        brought(office, number, "rehearsed")
+        digest = office.parts.lots.sheet(number)[1].digest()
+        page = hal.browser.get(f"/draws/{number}").text
+        assert "Ask to give up draw 1</button>" in page and ">Give up draw 1</button>" not in page
+        assert f"their SHA-256 sum <code>{digest}</code> stays on record" in page
+        found = hal.step(number, "give-up")
+        assert found.status_code == 409 and "in which this cannot be done" in found.text
+        found = jane.step(number, "confirm-give-up")
+        assert found.status_code == 409 and "Nobody has asked to give up the draw." in found.text
+        assert hal.step(number, "ask-give-up").status_code == 303
+        page = hal.browser.get(f"/draws/{number}").text
+        assert "hal has asked to give up the draw." in page and ">Confirm draw 1<" not in page
+        assert ">Give up draw 1</button>" not in page
+        found = hal.step(number, "confirm-give-up")
+        assert found.status_code == 409 and "somebody else confirms it" in found.text
+        found = jane.step(number, "confirm")
+        assert found.status_code == 409 and "Hal has asked to give up the draw" in found.text
+        # (it is taken back, and asked for once more)
+        assert hal.step(number, "go-on").status_code == 303
+        assert ">Confirm draw 1<" in jane.browser.get(f"/draws/{number}").text
+        assert hal.step(number, "ask-give-up").status_code == 303
+        assert office.parts.desk.closed()
+        assert ">Give up draw 1</button>" in jane.browser.get(f"/draws/{number}").text
+        assert jane.step(number, "confirm-give-up").status_code == 303
+        assert office.parts.desk.closed() == "" and office.parts.desk.now().draws == []
+        last = office.parts.history.entries[-1]
+        assert (last.who, last.what, last.about["lots"]) == ("jane", "gave up", digest)
+        page = jane.browser.get(f"/draws/{number}").text
+        assert f"Digest of the lots {digest}." in page
 
 
 def test_what_looks_wrong_is_read_before_it_closes(small: Machine) -> None:

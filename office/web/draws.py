@@ -20,7 +20,7 @@ from .draws_lots import sheet_of, ties_in
 from .draws_store import DrawStore
 from .draws_terms import (
     AUDITED, BEGUN, CLOSED, CONFIRMED, COPIED, GIVEN_UP, IN_ORDER, LOTS, MOST_FILLS, OPENED,
-    REHEARSED, RESTORED, SEALED, SENDING, SENT, UNSENT, Draw, Terms,
+    REHEARSED, RESTORED, SEALED, SENDING, SENT, UNSEALED, UNSENT, UNSENT_SEALED, Draw, Terms,
 )
 from .history import History
 from .people import Person
@@ -145,6 +145,7 @@ class Draws(DrawStore):
     def rehearse(self, who: Person, number: int, seen: int) -> None:
         """Holds the draw on scratch copies. A difference that the audit finds stops it."""
         with self.turn(number, seen, SEALED) as draw:
+            see_goes_on(draw)
             if draw.rehearsal.get("wrong"):
                 raise Refused(f"the rehearsal has found a difference. {GIVE_UP}")
             self.see_fits(draw)
@@ -160,6 +161,7 @@ class Draws(DrawStore):
     def confirm(self, who: Person, number: int, seen: int) -> None:
         """Confirms the rehearsed draw, as a second person."""
         with self.turn(number, seen, REHEARSED) as draw:
+            see_goes_on(draw)
             if who.name == draw.who(BEGUN):
                 raise Refused(f"{who.name} began this draw: somebody else confirms it")
             if who.name == draw.who(SEALED):
@@ -185,7 +187,7 @@ class Draws(DrawStore):
     def send(self, who: Person, number: int, seen: int) -> None:
         """Holds the draws of the row that are not held yet, one after another."""
         with self.turn(number, seen, CONFIRMED, SENDING) as draw, self.desk.lock:
-            see_no_restore(draw)
+            see_goes_on(draw)
             self.desk.settle()
             with self.rehearsed(draw) as found:
                 count = self.held(draw, found)
@@ -206,7 +208,7 @@ class Draws(DrawStore):
     def audit(self, who: Person, number: int, seen: int) -> None:
         """Copies the register once more, and audits it against the copy from before the draw."""
         with self.turn(number, seen, SENDING) as draw:
-            see_no_restore(draw)
+            see_goes_on(draw)
             with self.rehearsed(draw) as found:
                 if self.held(draw, found) < draw.terms.fills:
                     raise Refused("not all is held yet")
@@ -225,7 +227,7 @@ class Draws(DrawStore):
     def open(self, who: Person, number: int, seen: int) -> None:
         """Opens the register for all."""
         with self.turn(number, seen, AUDITED) as draw:
-            see_no_restore(draw)
+            see_goes_on(draw)
             self.record(who, "opened the register", draw)
             with self.moving(draw, who, OPENED):
                 pass
@@ -233,10 +235,39 @@ class Draws(DrawStore):
     # other ends
 
     def give_up(self, who: Person, number: int, seen: int) -> None:
-        """Ends a draw of which nothing was sent."""
-        with self.turn(number, seen, *UNSENT) as draw:
+        """Ends a draw whose lots are not sealed yet."""
+        with self.turn(number, seen, *UNSEALED) as draw:
             self.record(who, "gave up", draw)
             with self.moving(draw, who, GIVEN_UP, f"In the state '{draw.state}'."):
+                pass
+
+    def ask_give_up(self, who: Person, number: int, seen: int) -> None:
+        """Says that a draw whose lots are sealed is to be given up, which another confirms. So
+        nobody alone has other lots drawn who has seen what these lead to.
+        """
+        with self.turn(number, seen, *UNSENT_SEALED) as draw:
+            self.record(who, "asked to give up", draw, lots=draw.digest)
+            with self.moving(draw, who, draw.state, "Asked to give it up.", give_up_by=who.name):
+                pass
+
+    def go_on(self, who: Person, number: int, seen: int) -> None:
+        """Takes back that a draw is to be given up."""
+        with self.turn(number, seen, *UNSENT_SEALED) as draw:
+            self.record(who, "took back the giving up", draw)
+            with self.moving(draw, who, draw.state, "Took back the giving up.", give_up_by=None):
+                pass
+
+    def confirm_give_up(self, who: Person, number: int, seen: int) -> None:
+        """Ends a draw whose lots are sealed and not sent, as a second person."""
+        with self.turn(number, seen, *UNSENT_SEALED) as draw:
+            if not draw.give_up_by:
+                raise Refused("nobody has asked to give up the draw")
+            if who.name == draw.give_up_by:
+                raise Refused(f"{who.name} has asked to give up the draw: somebody else confirms"
+                              " it")
+            self.record(who, "gave up", draw, lots=draw.digest)
+            said = f"In the state '{draw.state}'. Digest of the lots {draw.digest}."
+            with self.moving(draw, who, GIVEN_UP, said):
                 pass
 
     def ask_restore(self, who: Person, number: int, seen: int) -> None:
@@ -276,8 +307,11 @@ def held_in(register: Register, draw: Draw) -> int:
     return len(register.draws) - draw.terms.first + 1
 
 
-def see_no_restore(draw: Draw) -> None:
-    """Refuses to go on with a draw that is to be undone."""
+def see_goes_on(draw: Draw) -> None:
+    """Refuses to go on with a draw that is to be given up or undone."""
+    if draw.give_up_by:
+        raise Refused(f"{draw.give_up_by} has asked to give up the draw: that is to be confirmed or"
+                      " taken back first")
     if draw.restore_by:
         raise Refused(f"{draw.restore_by} has asked to restore the copy from before the draw: that"
                       " is to be confirmed or taken back first")

@@ -19,10 +19,11 @@ OPENED, GIVEN_UP, RESTORED = "opened", "given up", "restored"
 IN_ORDER = (BEGUN, CLOSED, COPIED, LOTS, SEALED, REHEARSED, CONFIRMED, SENDING, AUDITED, OPENED)
 ENDED = (OPENED, GIVEN_UP, RESTORED)
 # in these nobody else may send anything to the register, and before the first of the second nothing
-# of the draw was sent
+# of the draw was sent; there one person gives it up before the lots are sealed, and two after that
 CLOSING = IN_ORDER[1:-1]
 SENT = (SENDING, AUDITED)
 UNSENT = IN_ORDER[:7]
+UNSEALED, UNSENT_SEALED = UNSENT[:4], UNSENT[4:]
 MOST_FILLS = 50
 
 
@@ -99,7 +100,9 @@ class Draw:
     # what the rehearsal and the audit found
     rehearsal: dict[str, Any]
     audit: dict[str, Any]
+    # who has asked to restore the copy, or to give up the draw, or ""
     restore_by: str
+    give_up_by: str
     done: tuple[Done, ...]
 
     def came_to(self, state: str) -> Done:
@@ -123,7 +126,7 @@ def of_rows(row: sqlite3.Row, steps: list[sqlite3.Row]) -> Draw:
     return Draw(
         row["id"], terms, row["state"], row["version"], row["copy_before"],
         row["copy_after"], row["digest"] or "", json.loads(row["rehearsal"] or "{}"),
-        json.loads(row["audit"] or "{}"), row["restore_by"] or "",
+        json.loads(row["audit"] or "{}"), row["restore_by"] or "", row["give_up_by"] or "",
         tuple(Done(it["state"], it["who"], it["at"], it["said"]) for it in steps))
 
 

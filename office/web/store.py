@@ -73,6 +73,10 @@ STEPS = (
         number INTEGER PRIMARY KEY, key TEXT NOT NULL, who TEXT NOT NULL, what TEXT NOT NULL,
         about TEXT NOT NULL) STRICT;
     """,
+    # who has asked to give up a draw whose lots are sealed
+    """
+    ALTER TABLE draw ADD COLUMN give_up_by TEXT;
+    """,
 )
 
 

@@ -15,7 +15,7 @@ from ..draws import Draws, held_in, next_state
 from ..draws_lots import sheet_of
 from ..draws_terms import (
     AUDITED, BEGUN, CLOSED, CONFIRMED, COPIED, GIVEN_UP, LOTS, MOST_FILLS, OPENED, REHEARSED,
-    RESTORED, SEALED, SENDING, SENT, STEPS, UNSENT, Draw,
+    RESTORED, SEALED, SENDING, SENT, STEPS, UNSEALED, UNSENT_SEALED, Draw,
 )
 from ..guard import needs, parts, person
 from ..people import CONFIRM, DRAW, READ
@@ -106,7 +106,8 @@ def draw_page(number: int, reason: str = "", status: int = 200) -> Answer:
         why_not=why_not(draw, state, register), register=register,
         checks=checks, outcome=outcome_of(draw, register), agreed=agreed,
         is_agreed=flask.request.form.get("agreed") == agreed, ends=(GIVEN_UP, RESTORED),
-        may_give_up=draw.state in UNSENT, may_restore=draw.state in SENT,
+        may_give_up=draw.state in UNSEALED, needs_two=draw.state in UNSENT_SEALED,
+        may_restore=draw.state in SENT,
         waits_for_lots=draw.state == LOTS, is_sealed=bool(draw.digest),
     ), status
 
@@ -144,6 +145,8 @@ def why_not(draw: Draw, state: str, register: Register | None) -> str:
     who = person()
     if register is None:
         return "The register does not answer now. Load this page again in a moment."
+    if draw.give_up_by:
+        return f"{draw.give_up_by} has asked to give up the draw."
     if draw.restore_by:
         return f"{draw.restore_by} has asked to restore the copy from before the draw."
     if state == SEALED:
@@ -202,6 +205,8 @@ OWN: dict[str, Step] = {
     "audit": lambda it, number, seen: it.audit(person(), number, seen),
     "open": lambda it, number, seen: it.open(person(), number, seen),
     "give-up": lambda it, number, seen: it.give_up(person(), number, seen),
+    "ask-give-up": lambda it, number, seen: it.ask_give_up(person(), number, seen),
+    "go-on": lambda it, number, seen: it.go_on(person(), number, seen),
     "ask-restore": lambda it, number, seen: it.ask_restore(person(), number, seen),
     "keep": lambda it, number, seen: it.keep(person(), number, seen),
 }
@@ -210,6 +215,7 @@ OWN: dict[str, Step] = {
 FOLLOWING = {"close": ("copy", "give"), "send": ("audit",)}
 SECOND: dict[str, Step] = {
     "confirm": lambda it, number, seen: it.confirm(person(), number, seen),
+    "confirm-give-up": lambda it, number, seen: it.confirm_give_up(person(), number, seen),
     "restore": lambda it, number, seen: it.restore(person(), number, seen),
 }
 
