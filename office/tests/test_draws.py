@@ -28,11 +28,12 @@ from served import do_over
 
 from office import model
 from office.model import Pair
-from office.web import copies, draws_checks, draws_outcome, effects
+from office.web import copies, draws_checks, draws_outcome, effects, people
 from office.web.draws_terms import Terms
 from office.web.rehearsal import Rehearsal
 
 CODES = "ABCD"
+PAT = "a password of pat's own"
 
 
 class Town:
@@ -870,6 +871,65 @@ def test_two_give_up_a_draw_whose_lots_are_sealed(small: Machine) -> None:
         assert (last.who, last.what, last.about["lots"]) == ("jane", "gave up", digest)
         page = jane.browser.get(f"/draws/{number}").text
         assert f"Digest of the lots {digest}." in page
+
+
+# what the head does to a second person, and how the page says it
+MADE_UP = {
+    "added": ({"what": "add", "name": "pat", "role": "head"}, "pat was added by hal at "),
+    "another role": ({"what": "role", "name": "pat", "role": "head"},
+                     "pat was given another role by hal at "),
+    "another password": ({"what": "reset", "name": "pat"},
+                         "pat was given another password by hal at "),
+}
+
+
+@pytest.mark.parametrize("how", MADE_UP)
+def test_a_second_person_is_not_made_up(small: Machine, how: str) -> None:
+    """Whom the head has added since the draw was begun, or given a role or a password, confirms
+    nothing and asks for nothing, even with a password of their own; before it was begun, they may.
+    """
+    given, said = MADE_UP[how]
+    with small.office() as office:
+        hal = Person(office, "hal", "head")
+        if how != "added":
+            office.add("pat", "officer" if how == "another role" else "head")
+        number = begun(office)
+        brought(office, number, "rehearsed")
+        hal.browser.get("/people/")
+        page = hal.browser.post("/people/", given)
+        assert page.status_code == 200, page.text
+        drawn = re.findall(r'<code id="secret">([^<]{24})</code>', page.text)
+        assert len(drawn) == (how != "another role")
+        if drawn:
+            office.parts.people.set_password(people.Person("pat", "head"), drawn[0], PAT)
+            office.passwords["pat"] = PAT
+        pat = Person(office, "pat", "head")
+
+        def refused(name: str) -> None:
+            found = pat.press(number, str(version(office, number)), name)
+            assert found.status_code == 409 and ", after this draw was begun:" in found.text
+            assert said.title()[:3] + said[3:] in found.text, found.text
+
+        page = pat.browser.get(f"/draws/{number}").text
+        assert page.count(said) == 2 and ">Confirm draw 1<" not in page
+        assert "Ask to give up draw 1</button>" not in page
+        for it in ("confirm", "ask-give-up"):
+            refused(it)
+        office.parts.draws.ask_give_up(HAL, number, version(office, number))
+        assert ">Give up draw 1</button>" not in pat.browser.get(f"/draws/{number}").text
+        refused("confirm-give-up")
+        office.parts.draws.go_on(HAL, number, version(office, number))
+        brought(office, number, "sending")
+        refused("ask-restore")
+        office.parts.draws.ask_restore(HAL, number, version(office, number))
+        page = pat.browser.get(f"/draws/{number}").text
+        assert said in page and "Restore the copy from before draw 1</button>" not in page
+        refused("restore")
+        # (who was there before goes on, and for the next draw pat was)
+        office.parts.draws.restore(JANE, number, version(office, number))
+        number = begun(office)
+        brought(office, number, "rehearsed")
+        assert pat.step(number, "confirm").status_code == 303
 
 
 def test_what_looks_wrong_is_read_before_it_closes(small: Machine) -> None:

@@ -17,6 +17,7 @@ from .copies import Copies, is_same
 from .desk import Desk
 from .draws_checks import Check
 from .draws_lots import sheet_of, ties_in
+from .draws_second import made_since
 from .draws_store import DrawStore
 from .draws_terms import (
     AUDITED, BEGUN, CLOSED, CONFIRMED, COPIED, GIVEN_UP, IN_ORDER, LOTS, MOST_FILLS, OPENED,
@@ -162,6 +163,7 @@ class Draws(DrawStore):
         """Confirms the rehearsed draw, as a second person."""
         with self.turn(number, seen, REHEARSED) as draw:
             see_goes_on(draw)
+            self.see_steady(who)
             if who.name == draw.who(BEGUN):
                 raise Refused(f"{who.name} began this draw: somebody else confirms it")
             if who.name == draw.who(SEALED):
@@ -234,6 +236,11 @@ class Draws(DrawStore):
 
     # other ends
 
+    def see_steady(self, who: Person) -> None:
+        """Refuses as one of two persons somebody whom the other one could have made up."""
+        if said := made_since(self.history, who.name):
+            raise Refused(said)
+
     def give_up(self, who: Person, number: int, seen: int) -> None:
         """Ends a draw whose lots are not sealed yet."""
         with self.turn(number, seen, *UNSEALED) as draw:
@@ -246,6 +253,7 @@ class Draws(DrawStore):
         nobody alone has other lots drawn who has seen what these lead to.
         """
         with self.turn(number, seen, *UNSENT_SEALED) as draw:
+            self.see_steady(who)
             self.record(who, "asked to give up", draw, lots=draw.digest)
             with self.moving(draw, who, draw.state, "Asked to give it up.", give_up_by=who.name):
                 pass
@@ -260,6 +268,7 @@ class Draws(DrawStore):
     def confirm_give_up(self, who: Person, number: int, seen: int) -> None:
         """Ends a draw whose lots are sealed and not sent, as a second person."""
         with self.turn(number, seen, *UNSENT_SEALED) as draw:
+            self.see_steady(who)
             if not draw.give_up_by:
                 raise Refused("nobody has asked to give up the draw")
             if who.name == draw.give_up_by:
@@ -273,6 +282,7 @@ class Draws(DrawStore):
     def ask_restore(self, who: Person, number: int, seen: int) -> None:
         """Says that the copy from before the draw is to be restored, which another confirms."""
         with self.turn(number, seen, *SENT) as draw:
+            self.see_steady(who)
             self.record(who, "asked to restore the copy from before it", draw)
             with self.moving(draw, who, draw.state, "Asked to restore the copy from before it.",
                              restore_by=who.name):
@@ -292,6 +302,7 @@ class Draws(DrawStore):
     def restore(self, who: Person, number: int, seen: int) -> None:
         """Restores the copy from before the draw, as a second person, and opens the register."""
         with self.turn(number, seen, *SENT) as draw:
+            self.see_steady(who)
             if not draw.restore_by:
                 raise Refused("nobody has asked for the restore")
             if who.name == draw.restore_by:

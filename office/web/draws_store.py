@@ -14,6 +14,9 @@ from .history import History, now
 from .people import Person
 from .store import Store
 
+# the first entry of a draw in the history
+BEGAN = "began a draw"
+
 
 def moment(at: str) -> str:
     """The time of a moment (UTC) by the clock of this machine; with the day if it is not today."""
@@ -102,7 +105,7 @@ class DrawStore:
             if other := self.present():
                 raise Refused(f"{other.terms.numbers} is in progress: it must end first")
             day = terms.day.isoformat()
-            self.history.add(who.name, "began a draw", {"for": terms.in_words, "day": day})
+            self.history.add(who.name, BEGAN, {"for": terms.in_words, "day": day})
             with self.store.writing() as db:
                 number = db.execute(
                     "INSERT INTO draw (first, school, fills, day, state, version)"

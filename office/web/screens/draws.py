@@ -13,6 +13,7 @@ from office.model import Register
 from .. import draws_checks, draws_outcome
 from ..draws import Draws, held_in, next_state
 from ..draws_lots import sheet_of
+from ..draws_second import made_since
 from ..draws_terms import (
     AUDITED, BEGUN, CLOSED, CONFIRMED, COPIED, GIVEN_UP, LOTS, MOST_FILLS, OPENED, REHEARSED,
     RESTORED, SEALED, SENDING, SENT, STEPS, UNSEALED, UNSENT_SEALED, Draw,
@@ -107,7 +108,7 @@ def draw_page(number: int, reason: str = "", status: int = 200) -> Answer:
         checks=checks, outcome=outcome_of(draw, register), agreed=agreed,
         is_agreed=flask.request.form.get("agreed") == agreed, ends=(GIVEN_UP, RESTORED),
         may_give_up=draw.state in UNSEALED, needs_two=draw.state in UNSENT_SEALED,
-        may_restore=draw.state in SENT,
+        may_restore=draw.state in SENT, not_second=not_second(draw),
         waits_for_lots=draw.state == LOTS, is_sealed=bool(draw.digest),
     ), status
 
@@ -140,6 +141,12 @@ def button_of(draw: Draw, state: str, standing: int) -> str:
     return f"{text} {draw.terms.numbers}" if text and state in NAMING else text
 
 
+def not_second(draw: Draw) -> str:
+    """Why the person is none of two who do something together, or ""."""
+    found = "" if draw.is_ended else made_since(parts().history, person().name)
+    return f"{found}." if found else ""
+
+
 def why_not(draw: Draw, state: str, register: Register | None) -> str:
     """Why the person cannot do the next step, or ""."""
     who = person()
@@ -155,7 +162,7 @@ def why_not(draw: Draw, state: str, register: Register | None) -> str:
         return f"Somebody other than {draw.who(BEGUN)} confirms it."
     if state and not who.may(CONFIRM if state == CONFIRMED else DRAW):
         return "Your role does not do this."
-    return ""
+    return not_second(draw) if state == CONFIRMED else ""
 
 
 def checks_of(draw: Draw, register: Register | None) -> list[Any]:
