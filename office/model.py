@@ -464,22 +464,40 @@ def day_of(text: str | None) -> datetime.date | None:
 
 def of_document(source: Source, found: dict[str, Any]) -> Register:
     """The register of a document's value."""
-    season, draws, children = found["season"], found["draws"], found["children"]
+    season, draws = found["season"], found["draws"]
     date = datetime.date.fromisoformat
-    applied = ((it["child"], it["application"]) for it in children)
     return Register(
         name=source.name, phase=season["phase"], year=season["year"],
         holidays=tuple(map(date, season["holidays"])),
         days=(date(season["closing"]), date(season["offer_day"]), date(season["last_list_day"])),
-        schools={it["school"]: school_of(it) for it in found["schools"]},
-        children={it["child"]: child_of(it) for it in children},
-        applications={child: application_of(it) for child, it in applied if it is not None},
-        places=dict(places_of(children)),
-        left={(it["child"], code) for it in children for code in it["left"]},
+        **members_of(found["schools"], found["children"]),
         draws=[Draw(it["draw"], it["round"], it["school"], date(it["day"])) for it in draws],
         outcomes={it["draw"]: by_child(it["outcomes"], "school") for it in draws},
         fresh={it["draw"]: by_child(it["outcomes"], "fresh") for it in draws}, source=source,
     )
+
+
+def with_rows(
+    register: Register, schools: Sequence[dict[str, Any]], children: Sequence[dict[str, Any]],
+) -> Register:
+    """A register with these schools and children of a document, and none else."""
+    with checked(register.name):
+        return dataclasses.replace(register, **members_of(schools, children))
+
+
+def members_of(
+    schools: Sequence[dict[str, Any]], children: Sequence[dict[str, Any]]
+) -> dict[str, Any]:
+    """What a register has by the schools and children of a document."""
+    applied = ((it["child"], it["application"]) for it in children)
+    return {
+        "schools": {it["school"]: school_of(it) for it in schools},
+        "children": {it["child"]: child_of(it) for it in children},
+        "applications": {
+            child: application_of(it) for child, it in applied if it is not None},
+        "places": dict(places_of(children)),
+        "left": {(it["child"], code) for it in children for code in it["left"]},
+    }
 
 
 def by_child(rows: Iterable[dict[str, Any]], key: str) -> dict[int, Any]:

@@ -23,6 +23,7 @@ const parsed = (text) => {
 export function describe({ status, body, sent }, changes) {
   // A page of the site and not of the desk is no JSON: its status gives the reason
   const reply = parsed(body) || {};
+  if (status === 409 && reply.outcome === "differs") return reply.reason;
   if (status === 409) {
     return "Refused, and nothing has changed. "
       + (Object.hasOwn(REFUSALS, reply.name) ? inWords("refusals", reply.name, parsed(sent)) : `The reason is ${reply.name}.`);
@@ -41,10 +42,12 @@ export function describe({ status, body, sent }, changes) {
   return `The site refused this (status ${status}). Nothing has changed.`;
 }
 
-// What became of a command: done, refused (nothing changed, the next may be sent), unsent (nothing changed, and the next would not be done either)
+// What became of a command: done, differs (what it rests on is not as it was seen, and nothing was sent), refused (nothing changed, the next may be
+// sent), unsent (nothing changed, and the next would not be done either)
 // or unknown (it may be done)
 export function outcome({ status, body }) {
   if (status === 200) return "done";
+  if (status === 409 && parsed(body)?.outcome === "differs") return "differs";
   if (status === 409 || (status === 400 && body.includes('"fault"'))) return "refused";
   if (isAway({ status }) || body.includes('"failed"')) return "unknown";
   return "unsent";
@@ -53,7 +56,7 @@ export function outcome({ status, body }) {
 // Sends a request, and returns the status and the text, and what was sent; status 0 if no answer came. `body` is the text of a command
 export async function ask(target, body, headers = {}) {
   const how = { cache: "no-store", redirect: "error", credentials: "same-origin", signal: AbortSignal.timeout(150000), headers };
-  if (body !== undefined) Object.assign(how, { method: "POST", headers: { "Content-Type": "application/json" }, body });
+  if (body !== undefined) Object.assign(how, { method: "POST", headers: { ...headers, "Content-Type": "application/json" }, body });
   try {
     const response = await fetch(target, how);
     return { status: response.status, body: await response.text(), sent: body };

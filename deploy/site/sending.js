@@ -1,5 +1,6 @@
 // Sends commands: one at a time, each once. What was done is distinguished from what was refused, what was not sent, and what may be
-// done. Just before a command is sent, its child is read again: for one that is not as it was shown, nothing is sent.
+// done. Just before a command is sent, its child is read again: for one that is not as it was shown, nothing is sent. It is sent with the
+// child or the school as it was seen, by which the desk compares once more what the command rests on.
 import { changeOf, followed, isSame } from "./changes.js";
 import { omittedOf } from "./data.js";
 import { ask, describe, outcome, Shown } from "./desk.js";
@@ -36,10 +37,13 @@ export function isSure(question, yes, whom = []) {
   return new Promise((resolve) => { dialog.onclose = () => dialog.open || resolve(dialog.returnValue === "yes"); });
 }
 
-// Sends the text of a command, and returns what became of it
-async function sendText(text) {
+// A child or a school of the register's document, or nothing for none, as the value of a header, which has ASCII alone
+const asHeader = (row) => JSON.stringify(row ?? null).replace(/[^ -~]/g, (it) => `\\u${it.charCodeAt(0).toString(16).padStart(4, "0")}`);
+
+// Sends the text of a command, with what was seen if the page has looked, and returns what became of it
+async function sendText(text, seen) {
   outdate();
-  const answer = await ask("/command", text);
+  const answer = await ask("/command", text, seen === undefined ? {} : { "X-Seen": asHeader(seen) });
   outdate();
   const what = outcome(answer);
   return { text, outcome: what, reason: what === "done" ? "" : describe(answer, true) };
@@ -55,19 +59,22 @@ async function sendCompared(text, look) {
     if (!(error instanceof Shown)) throw error;
     return { text, outcome: "unsent", reason: `Nothing was sent. ${error.message}` };
   }
-  const { number, change, now } = found;
-  return change ? { text, outcome: "differs", reason: `Child ${number}: ${change}. Nothing was sent.`, now } : sendText(text);
+  const { number, change, now, seen } = found;
+  return change ? { text, outcome: "differs", reason: `Child ${number}: ${change}. Nothing was sent.`, now } : sendText(text, seen);
 }
 
 // Looks at the child of one command as it is stored right now. `shown` is the child as it was shown, or nothing if the command rests on no
-// place and no list. A correction rests on the data, which is compared with that of the page's copy
+// place and no list. A correction rests on the data, which is compared with that of the page's copy. What a raised number rests on is
+// the school of that copy, with which its form has compared
 async function lookNow(command, shown) {
   const before = shown ?? child(command.child);
+  const place = school(command.school);
   await readNow();
   const now = child(command.child) ?? null;
-  if (shown) return { number: shown.number, change: changeOf(shown, now, command), now };
+  const seen = ("child" in command ? now?.stored : place) ?? null;
+  if (shown) return { number: shown.number, change: changeOf(shown, now, command), now, seen };
   const isCorrected = command.cmd === "amend" && before && !isSame(before.data, now?.data);
-  return { number: command.child, change: isCorrected ? "the data was corrected meanwhile" : "", now };
+  return { number: command.child, change: isCorrected ? "the data was corrected meanwhile" : "", now, seen };
 }
 
 // Sends one command, and returns its answer as a text to show. `isUnsent` is whether the desk was not there, or another task is in
@@ -91,7 +98,7 @@ const GOES_ON = ["done", "refused", "differs"];
 async function lookInTask(command, shown) {
   if (!shown) return {};
   const now = await storedInTask(shown.number);
-  return { number: shown.number, change: changeOf(shown, now, command), now };
+  return { number: shown.number, change: changeOf(shown, now, command), now, seen: now?.stored ?? null };
 }
 
 // Sends commands one after another until one has no certain answer, or the desk does nothing more. Each item has the `text` of its

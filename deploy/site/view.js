@@ -7,7 +7,7 @@
  * @typedef {{ school: string, name: string, kind: string, offered: string | null, reminded: string | null }} Place
  * @typedef {{ school: string, name: string, class: number, metres: number, position: number, of: number }} Wait
  * @typedef {{ number: number, name: string, data: Record<string, any>, applied: string | null, preferences: Preference[], left: string[],
- *   place: Place | null, waits: Wait[] }} Child
+ *   place: Place | null, waits: Wait[], stored: any }} Child
  * @typedef {{ school: string, name: string, pan: number, east: number, north: number, criteria: string[], plans: number, taken: number,
  *   vacancies: number, waiting: number }} School
  * @typedef {{ child: number, school: string | null, fresh: boolean }} Outcome
@@ -36,17 +36,19 @@ export function readView({ season, schools, children, draws }) {
 }
 
 /**
- * A child: its data as a command has it, with a field that this page does not know; its application, its place and its lists.
- * @param {any} it
+ * A child: its data as a command has it, with a field that this page does not know; its application, its place and its lists; and all of it as
+ * the document has it.
+ * @param {any} stored
  * @param {Map<string, School>} schools
  * @returns {Child}
  */
-function readChild({ application, left, place, ...data }, schools) {
+function readChild(stored, schools) {
+  const { application, left, place, ...data } = stored;
   const nameOf = (/** @type {string} */ code) => schools.get(code)?.name ?? "";
   /** @type {Preference[]} */
   const preferences = application ? application.preferences : [];
   return {
-    number: data.child, name: data.name, data, left, preferences,
+    number: data.child, name: data.name, data, left, preferences, stored,
     applied: application ? application.day : null,
     place: place && { ...place, name: nameOf(place.school) },
     waits: preferences.filter((wish) => wish.state === "waits").map((wish) => waitOf(wish, nameOf(wish.school))),

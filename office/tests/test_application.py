@@ -7,12 +7,11 @@ from collections.abc import Iterator
 from typing import Any
 
 import pytest
-from applications import ORIGIN, ROUND, Browser, Site, office_over, site, town
+from applications import ORIGIN, ROUND, Browser, Site, child, office_over, site, town
 from pages import Page
 from register_files import Refused
 
 from office.web import app, guard, history, people, store
-from office.web.desk import seen_of
 from office.web.screens import activity
 
 ACCEPT = {"cmd": "accept", "child": 1, "school": "A"}
@@ -168,7 +167,7 @@ def test_what_seems_to_be_no_command_is_on_record_too(
 def test_what_a_colleague_recorded_meanwhile_is_named(office: Site) -> None:
     """A stale page does not decline a place that was accepted since."""
     jane, bo = office.browser("jane"), office.browser("bo")
-    seen = seen_of(office.parts.desk.now(), DECLINE).text
+    seen = json.dumps(row_of(jane, "child", 1))
     assert jane.command(ACCEPT, seen).json == {"done": True}
     found = bo.command(DECLINE, seen)
     assert found.status_code == 409
@@ -176,6 +175,49 @@ def test_what_a_colleague_recorded_meanwhile_is_named(office: Site) -> None:
     assert office.parts.desk.now().places[1].kind == "accepted"
     assert [it.about["command"]["cmd"] for it in office.parts.history.entries
             if it.what == "sends"] == ["accept"]
+
+
+def row_of(browser: Browser, what: str, key: int | str) -> Any:
+    """A child or a school as the register's document has it, which the page reads."""
+    rows = {"child": "children", "school": "schools"}[what]
+    found: list[Any] = [it for it in browser.get("/register").json[rows] if it[what] == key]
+    return found[0] if found else None
+
+
+# a command of the page, what somebody else does meanwhile, and what the page says then
+MEANWHILE: dict[str, tuple[dict[str, Any], dict[str, Any], str]] = {
+    "data": ({**child(1, "Ada Abel", 150), "cmd": "amend"}, {**child(1, "Ada Bell", 100),
+             "cmd": "amend"}, "Child 1: jane recorded a correction at "),
+    "a number": ({"cmd": "raise_pan", "school": "A", "pan": 7}, {"cmd": "raise_pan", "school": "A",
+                 "pan": 5}, "It has changed meanwhile. Nothing was sent."),
+    "a new child": (child(9, "Eve", 900), child(9, "Ida", 900), "Child 9: jane recorded the child"),
+}
+
+
+@pytest.mark.parametrize("what", MEANWHILE)
+def test_what_the_page_saw_is_compared(office: Site, what: str) -> None:
+    """A child's data, a number of places, and that there is none of a number."""
+    jane, bo = office.browser("jane"), office.browser("bo")
+    late, early, said = MEANWHILE[what]
+    name = "school" if "school" in late else "child"
+    seen = json.dumps(row_of(bo, name, late[name]))
+    assert jane.command(early, seen).json == {"done": True}
+    found = bo.command(late, seen)
+    assert found.status_code == 409 and found.json["outcome"] == "differs"
+    assert said in found.json["reason"]
+    now = json.dumps(row_of(bo, name, late[name]))
+    if what != "a new child":
+        assert bo.command(late, now).json == {"done": True}
+
+
+@pytest.mark.parametrize("seen", ("{", "[]", "{}", '{"child":1}', "1", '"null"', ""))
+def test_what_nobody_can_have_seen_sends_nothing(office: Site, seen: str) -> None:
+    """A header that is no child of a register."""
+    jane = office.browser("jane")
+    found = jane.client.post("/command", base_url=ORIGIN, json=ACCEPT,
+                             headers={"Origin": ORIGIN, "X-Seen": seen})
+    assert found.status_code in (400, 409)
+    assert office.parts.desk.now().places[1].kind == "offered"
 
 
 def test_without_a_history_nothing_is_sent(office: Site) -> None:

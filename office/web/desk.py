@@ -56,6 +56,16 @@ def seen_of(register: Register, command: Command) -> Seen:
     return Seen(json.dumps(RESTS_ON[command["cmd"]](register, command), sort_keys=True))
 
 
+def seen_by(register: Register, command: Command, row: dict[str, Any] | None) -> Seen:
+    """What a command rests on, of the child or the school of a register's document that somebody
+    saw, or None where there was none.
+    """
+    rows = [] if row is None else [row]
+    is_child = "child" in command
+    return seen_of(
+        model.with_rows(register, [] if is_child else rows, rows if is_child else []), command)
+
+
 def place_in(register: Register, command: Command) -> Any:
     """The place of the command's child."""
     place = register.places.get(command["child"])

@@ -6,7 +6,7 @@ const nothing = { classList: { toggle: () => {} } };
 globalThis.document = { getElementById: () => nothing };
 globalThis.window = { addEventListener: () => {} };
 
-export const desk = { asked: [], register: season(), isClosed: false, hold: null, site: {} };
+export const desk = { asked: [], register: season(), isClosed: false, hold: null, site: {}, seen: [], differs: "" };
 
 // The answer to GET /child/{no}, as docs/FORMATS.md has it
 function shortOf(number) {
@@ -21,8 +21,10 @@ function answerOf(path) {
   return shortOf(Number(path.split("/").at(-1)));
 }
 
-globalThis.fetch = async (path) => {
+globalThis.fetch = async (path, { headers }) => {
   desk.asked.push(path);
+  if (path === "/command") desk.seen.push(headers["X-Seen"]);
+  if (path === "/command" && desk.differs) return { status: 409, text: async () => JSON.stringify({ outcome: "differs", reason: desk.differs }) };
   const found = desk.isClosed ? undefined : desk.site[path] ?? JSON.stringify(answerOf(path));
   await desk.hold?.();
   return { status: desk.isClosed ? 502 : found ? 200 : 404, text: async () => found ?? "{}" };

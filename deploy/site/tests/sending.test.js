@@ -41,6 +41,31 @@ test("a correction of data that somebody else has corrected is not sent", async 
   assert.deepEqual([reply.text, asked()], ["Child 5: the data was corrected meanwhile. Nothing was sent.", ["/register"]]);
 });
 
+test("a command says what the page saw: the child or the school as the register has it, or none, in letters that a header may have", async () => {
+  await start();
+  desk.seen = [];
+  const stored = (number) => season().children.find((it) => it.child === number);
+  await send({ cmd: "accept", child: 1, school: "A" }, "", child(1));
+  await send({ cmd: "amend", ...child(2).data, east: 7 }, "");
+  await send({ cmd: "add_child", child: 99 }, "");
+  await send({ cmd: "raise_pan", school: "E", pan: 4 }, "");
+  await sendAll([...texts(["accept", 8, "E"]), { text: JSON.stringify({ cmd: "add_school", school: "F" }), shown: null }], none);
+  assert.deepEqual(desk.seen.slice(0, 5).map((it) => JSON.parse(it)),
+    [stored(1), stored(2), null, season().schools.find((it) => it.school === "E"), stored(8)]);
+  assert.equal(desk.seen[5], undefined);
+  assert.match(desk.seen[1], /"\\u0110or\\u0111e O\\u2019Neil"/u);
+});
+
+test("what the desk found changed is not sent, and the others go on", async () => {
+  await start();
+  desk.differs = "Child 1: bo recorded accept at 10:05. Nothing was sent.";
+  const reply = await send({ cmd: "decline", child: 1, school: "A" }, "", child(1));
+  const results = await sendAll(texts(["decline", 1, "A"], ["accept", 8, "E"]), none);
+  assert.deepEqual([reply.text, reply.bad, reply.isUnsent, outcomes(results), results[0].reason],
+    [desk.differs, true, false, ["differs", "differs"], desk.differs]);
+  desk.differs = "";
+});
+
 test("where the desk is closed nothing is sent", async () => {
   await start();
   desk.isClosed = true;

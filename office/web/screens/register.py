@@ -5,7 +5,7 @@ from register_files import Refused
 from office import commands, rules
 
 from .. import guard
-from ..desk import DIFFERS, DONE, REFUSED, Result, Seen
+from ..desk import DIFFERS, DONE, REFUSED, Command, Result, Seen, seen_by
 from ..guard import needs, parts, person
 from ..people import LISTS, READ, RECORD
 
@@ -114,9 +114,20 @@ def command() -> flask.Response:
     if not isinstance(given, dict) or commands.wrong_field(given):
         # (the register says what is wrong)
         return answered(parts().desk.pass_on(person(), flask.request.get_data()))
-    seen = flask.request.headers.get("X-Seen")
-    found = parts().desk.send(person(), given, Seen(seen) if seen else None)
-    return answered(found)
+    return answered(parts().desk.send(person(), given, seen_in(given)))
+
+
+def seen_in(given: Command) -> Seen | None:
+    """What a command rests on as its sender saw it: X-Seen has the child or the school of the
+    register's document, or null for none. A program may leave it out.
+    """
+    text = flask.request.headers.get("X-Seen")
+    if text is None:
+        return None
+    row = commands.read(text.encode("utf-8"))
+    if not isinstance(row, dict) and text != "null":
+        flask.abort(400, "what was seen is no child and no school")
+    return seen_by(parts().desk.register(), given, row)
 
 
 @screen.post("/what-if")
