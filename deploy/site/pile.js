@@ -1,17 +1,22 @@
 // @ts-check
 // The field of Answers: an entry leaves it with its Enter and is added while the next one is typed, so that no key is lost. Without this
-// script each entry loads the page again. What could not be added is put into the field for several, also after a reload, and nothing
-// is recorded before all entries are added.
+// script each entry loads the page again. What could not be added is put into the field for several, also after a reload, and is said until that
+// field is empty. What was typed while 'Record' was pressed is shown before anything is recorded.
 import { asked } from "./asking.js";
 
 const form = /** @type {HTMLFormElement} */ (document.getElementById("entries"));
 const field = /** @type {HTMLInputElement} */ (document.getElementById("entry"));
 const several = /** @type {HTMLTextAreaElement} */ (document.getElementById("pasted"));
 const status = /** @type {HTMLElement} */ (document.getElementById("said"));
+const notAdded = /** @type {HTMLElement} */ (document.getElementById("not-added"));
+const severalForm = /** @type {HTMLFormElement} */ (document.getElementById("several"));
 const KEY = `answers that were not added ${document.getElementById("who")?.textContent}`;
 
 let adding = Promise.resolve();
-let open = 0;
+// The entries that have no answer yet, in their order; and how many had none that says that they are added
+/** @type {string[]} */
+const open = [];
+let failed = 0;
 
 form.addEventListener("submit", (event) => {
   event.preventDefault();
@@ -20,8 +25,17 @@ form.addEventListener("submit", (event) => {
   field.value = "";
   const body = new FormData(form);
   body.set("entry", entry);
-  open += 1;
-  adding = adding.then(() => add(entry, body)).finally(() => { open -= 1; });
+  open.push(entry);
+  keep();
+  adding = adding.then(() => add(entry, body)).catch(() => refuse(entry, "Look whether the pile has it already."))
+    .finally(() => { open.shift(); keep(); });
+});
+
+several.addEventListener("input", () => {
+  keep();
+  if (several.value.trim()) return;
+  failed = 0;
+  notAdded.replaceChildren();
 });
 
 // A key that is held down adds nothing twice
@@ -32,32 +46,43 @@ form.addEventListener("keydown", (event) => {
 document.addEventListener("submit", (event) => {
   const sent = /** @type {HTMLFormElement} */ (event.target);
   if (sent === form) return;
-  if (!open) {
-    if (sent.id === "several") keep("");
-    return;
-  }
+  if (!open.length) return;
   event.preventDefault();
+  const button = event.submitter;
   adding.then(() => {
-    const button = sent.id === "record" ? document.getElementById("record-all") : event.submitter;
-    if (button instanceof HTMLButtonElement && button.isConnected) button.form?.requestSubmit(button);
+    if (sent.id === "record") {
+      status.replaceChildren(paragraph("answer", "", "Nothing was recorded yet: the pile now has what you typed meanwhile. Look at it, and press Record once more."));
+    } else if (button instanceof HTMLButtonElement && button.isConnected) button.form?.requestSubmit(button);
   });
 });
 
-window.addEventListener("beforeunload", (event) => { if (open) event.preventDefault(); });
+window.addEventListener("beforeunload", (event) => { if (open.length) event.preventDefault(); });
 
 /** @param {string} entry @param {FormData} body */
 async function add(entry, body) {
   const request = await asked("POST", form.action, body).catch(() => null);
   if (request && show(request)) return;
-  const reason = request?.responseXML?.getElementById("answer")?.textContent ?? "There was no answer.";
-  several.value = `${several.value}${several.value && !several.value.endsWith("\n") ? "\n" : ""}${entry}\n`;
-  keep(several.value);
-  const text = document.createElement("p");
-  text.id = "answer";
-  text.className = "bad";
-  text.setAttribute("role", "alert");
-  text.textContent = `${entry} is in the field “Several at once” below. ${reason}`;
-  status.replaceChildren(text);
+  refuse(entry, request?.responseXML?.getElementById("answer")?.textContent ?? "There was no answer.");
+}
+
+// Puts an entry that was not added into the field for several, and says so
+/** @param {string} entry @param {string} reason */
+function refuse(entry, reason) {
+  several.value = withLine(several.value, entry);
+  failed += 1;
+  const who = failed === 1 ? `${entry} is` : `${failed} entries are`;
+  notAdded.replaceChildren(paragraph("left", "bad", `${who} in the field “Several at once” below. ${reason}`));
+}
+
+/** @param {string} text @param {string} line */
+const withLine = (text, line) => `${text}${text && !text.endsWith("\n") ? "\n" : ""}${line}\n`;
+
+/** @param {string} id @param {string} className @param {string} text */
+function paragraph(id, className, text) {
+  const made = document.createElement("p");
+  Object.assign(made, { id, className, textContent: text });
+  made.setAttribute("role", className ? "alert" : "status");
+  return made;
 }
 
 // Shows the pile of a page that was read, if it is one
@@ -76,18 +101,26 @@ function show(request) {
 // How far a pile is that is being recorded
 setInterval(() => {
   const link = document.querySelector("#running a");
-  if (open || !(link instanceof HTMLAnchorElement)) return;
+  if (open.length || !(link instanceof HTMLAnchorElement)) return;
   asked("GET", link.href).then(show, () => {});
 }, 2000);
 
-/** @param {string} text */
-function keep(text) {
+// Keeps what no answer has said to be added: the field for several, and the entries that have no answer yet
+function keep() {
+  const text = open.reduce(withLine, several.value);
   try {
-    if (text) sessionStorage.setItem(KEY, text);
+    if (text.trim()) sessionStorage.setItem(KEY, text);
     else sessionStorage.removeItem(KEY);
   } catch { /* a browser that keeps nothing: the field has it until the page is left */ }
 }
 
-try {
-  if (!several.value) several.value = sessionStorage.getItem(KEY) ?? "";
-} catch { /* as above */ }
+// (what the site has said to be added is not kept any more, and its address would say so again after a reload)
+if ("added" in severalForm.dataset) {
+  keep();
+  history.replaceState(null, "", location.pathname);
+} else if (!several.value) {
+  try {
+    several.value = sessionStorage.getItem(KEY) ?? "";
+  } catch { /* as above */ }
+  if (several.value) notAdded.replaceChildren(paragraph("left", "bad", "What is in the field “Several at once” below was not said to be added before."));
+}

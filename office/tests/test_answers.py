@@ -349,6 +349,9 @@ def test_a_sheet_or_a_column_fills_the_pile(office: Site, text: str, how: str) -
         given = {"sheet": (io.BytesIO(text.encode()), "replies.csv")}
     found = jane.post("/answers/several", given, content_type="multipart/form-data")
     assert found.status_code == 303, Page(found.text).said()
+    # (by which the script of the page keeps the text no more)
+    assert 'data-added="yes"' in jane.get(found.location).text
+    assert "data-added" not in jane.get(PAGE).text
     assert [row[1:] for row in pile(shown(jane))] == [
         ["12", "Ben Bell", "decline", "B", ""], ["11", "Ada Abel", "accept", "A", ""]]
 

@@ -52,8 +52,8 @@ def page(said: str = "", status: int = 200, pasted: str = "", typed: str = "") -
     return flask.render_template(
         "answers.html", shown=shown, ready=ready, digest=piles.digest(ready), done=done,
         names=names, words=WORDS, said=said, is_bad=status != 200 or bool(failed), pasted=pasted,
-        typed=typed, is_running=found.is_running(who), is_away=register is None,
-        waiting=found.of(who) if register is None else []), status
+        typed=typed, is_added="added" in flask.request.args, is_running=found.is_running(who),
+        is_away=register is None, waiting=found.of(who) if register is None else []), status
 
 
 @screen.get("/")
@@ -103,7 +103,8 @@ def several() -> Answer:
         all_piles().add(person().name, register, answers.of_rows(Names(register), rows))
     except Refused as error:
         return page(f"Nothing was added: {sentence(str(error))}", 400, pasted)
-    return back()
+    # (by which the page knows that it need not keep the text any more)
+    return flask.redirect(flask.url_for("answers.show", added="yes"), 303)
 
 
 def entry_of_form() -> Entry | None:
