@@ -170,10 +170,28 @@ def test_conflicts_are_named_and_not_sent(office: Site) -> None:
     assert len(pile(shown(jane))) == 6
     press(jane, PAGE, shown(jane), "Remove 11-")
     assert "Record 1 answer" in shown(jane).buttons()
-    press(jane, PAGE, shown(jane), "Remove all 5 from the pile")
+    page = Page(press(jane, PAGE, shown(jane), "Remove all 5 from the pile").text)
+    press(jane, f"{PAGE}remove", page, "Remove 5 answers")
     assert pile(shown(jane)) == [] and len(recorded(shown(jane))) == 1
     press(jane, PAGE, shown(jane), "Clear this list")
     assert recorded(shown(jane)) == []
+
+
+def test_all_of_a_pile_is_removed_after_a_question(office: Site) -> None:
+    """That shows what is removed, and names how many; what was added since is not removed unseen.
+    """
+    jane = office.browser("jane")
+    page = enter(jane, "11", "12-")
+    question = Page(press(jane, PAGE, page, "Remove all 2 from the pile").text)
+    assert len(pile(shown(jane))) == 2
+    assert " ".join(question.by_id["removed"].split()) == (
+        "11: accept Ada Abel 12-: decline Ben Bell")
+    assert question.buttons()[-1] == "Remove 2 answers"
+    enter(jane, "13")
+    question = Page(press(jane, f"{PAGE}remove", question, "Remove 2 answers").text)
+    assert "Nothing was removed" in question.said() and len(pile(shown(jane))) == 3
+    press(jane, f"{PAGE}remove", question, "Remove 3 answers")
+    assert pile(shown(jane)) == [] and sent(office) == []
 
 
 def test_what_a_colleague_did_meanwhile_is_named(office: Site) -> None:

@@ -8,7 +8,7 @@ from typing import Any
 
 import pytest
 from applications import ORIGIN, ROUND, Browser, Site, child, office_over, site, town
-from pages import Page
+from pages import Page, press
 from register_files import Refused
 
 from office.web import app, guard, history, people, store
@@ -330,7 +330,8 @@ def test_a_person_with_a_pile_is_not_removed(office: Site) -> None:
     found = hal.post("/people/", {"what": "remove", "name": "jane"})
     assert found.status_code == 409 and "1 answer in a pile" in Page(found.text).said()
     assert len(office.parts.store.rows("SELECT 1 FROM answer WHERE person='jane'")) == 1
-    jane.post("/answers/remove", {"number": "all"})
+    question = Page(jane.post("/answers/remove", {"number": "all"}).text)
+    press(jane, "/answers/remove", question, "Remove 1 answer")
     assert hal.post("/people/", {"what": "add", "name": "Ann B", "role": "reader"}
                     ).status_code == 409
     assert hal.post("/people/", {"what": "add", "name": "hal", "role": "reader"}

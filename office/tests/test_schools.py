@@ -19,7 +19,7 @@ from served import served
 from office.model import Register
 from office.web import flags, schools
 from office.web.people import Person
-from office.web.school_drafts import Draft, digest, store_all
+from office.web.school_drafts import Draft, digest, seen_line, store_all
 from office.web.schools import Line
 
 OAK: dict[str, Any] = {
@@ -576,6 +576,23 @@ def test_the_register_is_away(tmp_path: pathlib.Path) -> None:
         typed = {"school": "no code", "name": "Ash", "pan": "7", "east": "1", "north": "1"}
         page = Page(press(jane, "", page, "Add to the draft", **typed).text)
         assert page.form("Add to the draft").values["name"] == ["Ash"]
+
+
+def test_all_of_a_draft_is_removed_after_a_question(empty: Site) -> None:
+    """That names the schools; what a colleague has changed since is not removed unseen."""
+    jane, remove = empty.browser("jane"), "/schools/new/remove"
+    draft = Draft(empty.parts.store)
+    question = Page(press(jane, "", drafted(jane), "Remove all 2 from the draft").text)
+    before = draft.rows()
+    assert len(before) == 2 and question.buttons()[-1] == "Remove 2 schools"
+    for _, cells in before:
+        assert f"{cells['school']} {cells['name']}" in question.by_id["removed"]
+    number, cells = before[0]
+    draft.change(number, {**cells, "pan": "77"}, seen_line(cells))
+    question = Page(press(jane, remove, question, "Remove 2 schools").text)
+    assert "Nothing was removed" in question.said() and len(draft.rows()) == 2
+    press(jane, remove, question, "Remove 2 schools")
+    assert draft.rows() == []
 
 
 def test_a_form_of_another_site_changes_no_school(empty: Site) -> None:

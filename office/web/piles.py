@@ -51,9 +51,9 @@ def entry_of(row: sqlite3.Row) -> Entry:
                  row["after"])
 
 
-def digest(shown: Iterable[Shown]) -> str:
-    """What is to be recorded, in short: only what was shown is."""
-    text = json.dumps([[it.entry.number, it.entry.command, it.entry.seen] for it in shown])
+def digest(entries: Iterable[Entry]) -> str:
+    """What is to be recorded or removed, in short: only what was shown is."""
+    text = json.dumps([[it.number, it.meant.typed, it.command, it.seen] for it in entries])
     return hashlib.sha256(text.encode()).hexdigest()
 
 

@@ -82,6 +82,11 @@ def seen_line(cells: Cells) -> str:
     return hashlib.sha256(json.dumps(cells, sort_keys=True).encode()).hexdigest()
 
 
+def digest_of_rows(rows: Iterable[tuple[int, Cells]]) -> str:
+    """What is in a draft, in short: only what was shown is removed."""
+    return hashlib.sha256(json.dumps(list(rows), sort_keys=True).encode()).hexdigest()
+
+
 def digest(lines: Iterable[Line]) -> str:
     """What lines are, in short: only those that were shown are stored."""
     text = json.dumps([[it.number, it.command] for it in lines])

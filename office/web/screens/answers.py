@@ -50,10 +50,15 @@ def page(said: str = "", status: int = 200, pasted: str = "", typed: str = "") -
         said = "{} of {} recorded.".format(found.came[who][0], texts.count(
             found.came[who][1], "answer is", "answers are"))
     return flask.render_template(
-        "answers.html", shown=shown, ready=ready, digest=piles.digest(ready), done=done,
+        "answers.html", shown=shown, ready=ready, digest=digest_of(ready), done=done,
         names=names, words=WORDS, said=said, is_bad=status != 200 or bool(failed), pasted=pasted,
         typed=typed, is_added="added" in flask.request.args, is_running=found.is_running(who),
         is_away=register is None, waiting=found.of(who) if register is None else []), status
+
+
+def digest_of(shown: list[Shown]) -> str:
+    """What is shown of a pile, in short."""
+    return piles.digest(it.entry for it in shown)
 
 
 @screen.get("/")
@@ -116,13 +121,32 @@ def entry_of_form() -> Entry | None:
 @screen.post("/remove")
 @needs(RECORD)
 def remove() -> Answer:
-    """Removes an entry, all that wait, or the list of those that were recorded."""
+    """Removes an entry, the list of those that were recorded, or after a question all that wait."""
     given, found = flask.request.form.get("number", ""), all_piles()
+    if given == "all":
+        return remove_all()
     chosen = [it for it in found.of(person().name)
-              if given == str(it.number) or given == "done" and it.state == DONE
-              or given == "all" and it.state != DONE]
+              if given == str(it.number) or given == "done" and it.state == DONE]
     found.remove(person().name, (it.number for it in chosen))
     return back()
+
+
+def remove_all() -> Answer:
+    """Shows all that would be removed, or removes what was shown."""
+    found, who, seen = all_piles(), person().name, flask.request.form.get("digest", "")
+    shown = found.shown(who, parts().desk.register())
+    if not shown:
+        return back()
+    if seen == digest_of(shown):
+        found.remove(who, (it.entry.number for it in shown))
+        return back()
+    said = "The pile has changed since it was shown. Nothing was removed: look at it again."
+    items = [f"{it.entry.meant.typed}: {WORDS[it.entry.meant.kind]} {it.name}".rstrip()
+             for it in shown]
+    return flask.render_template(
+        "remove_all.html", said=said if seen else "", items=items, where="pile",
+        digest=digest_of(shown), back=flask.url_for("answers.show"),
+        button=f"Remove {texts.count(len(shown), 'answer')}"), 409 if seen else 200
 
 
 @screen.post("/choose")
@@ -153,7 +177,7 @@ def record() -> Answer:
     register = parts().desk.now()
     found.settle(who.name)
     ready = [it for it in found.shown(who.name, register) if it.is_ready]
-    if piles.digest(ready) != form.get("digest", ""):
+    if digest_of(ready) != form.get("digest", ""):
         return page("The pile has changed since it was shown. Nothing was recorded: look at it"
                     " again.", 409)
     if not ready:
@@ -173,6 +197,6 @@ def ask(ready: list[Shown], final: list[Shown], register: Register) -> Answer:
     """The question before what is final."""
     schools = {code: it.name for code, it in register.schools.items()}
     return flask.render_template(
-        "record_answers.html", ready=ready, final=final, digest=piles.digest(ready),
+        "record_answers.html", ready=ready, final=final, digest=digest_of(ready),
         schools=schools, words=WORDS,
         places={it.entry.number: register.places.get(it.entry.meant.child or 0) for it in final})

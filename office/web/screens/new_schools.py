@@ -171,12 +171,25 @@ def change(number: int) -> Answer:
 @screen.post("/remove")
 @needs(RECORD)
 def remove() -> Answer:
-    """Removes a line, or all."""
-    given = flask.request.form.get("number", "")
+    """Removes a line, or after a question all."""
+    given, seen = (flask.request.form.get(it, "") for it in ("number", "digest"))
     rows = [(it, cells) for it, cells in draft().rows() if given in ("all", str(it))]
+    if given == "all" and rows and seen != school_drafts.digest_of_rows(rows):
+        return ask_removal(rows, bool(seen))
     guard.record("removed from the draft of schools", lines=[cells for _, cells in rows])
     draft().remove(*(it for it, _ in rows))
     return to_draft("removed")
+
+
+def ask_removal(rows: list[tuple[int, Cells]], is_changed: bool) -> Answer:
+    """The question before all lines are removed."""
+    said = "The draft has changed since it was shown. Nothing was removed: look at it again."
+    return flask.render_template(
+        "remove_all.html", said=said if is_changed else "",
+        items=[f"{it['school']} {it['name']}" for _, it in rows],
+        where="draft, which all officers share", digest=school_drafts.digest_of_rows(rows),
+        back=flask.url_for("new_schools.show"),
+        button=f"Remove {texts.count(len(rows), 'school')}"), 409 if is_changed else 200
 
 
 @screen.post("/store")
