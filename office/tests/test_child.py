@@ -150,6 +150,35 @@ def test_a_day_is_typed_and_warned_of(office: Site) -> None:
     assert page.by_id["on"] == "Day: Monday, 17 March 2025" and "warning" not in page.text
 
 
+@pytest.mark.parametrize("name, button", (
+    ("remind", "Record the reminder of Cyd <b>Cole</b> about Beta"),
+    ("lapse", "Withdraw the offer of Beta from Cyd <b>Cole</b>")))
+def test_a_day_that_was_typed_is_shown_before_it_is_sent(
+    office: Site, name: str, button: str,
+) -> None:
+    """Neither the day that was shown before it nor the one in the field goes out unseen."""
+    jane = office.browser("jane")
+    if name == "lapse":
+        act(jane, "/children/3/remind", "Record the reminder of Cyd <b>Cole</b> about Beta")
+    before, path = sent(office), f"/children/3/{name}"
+    page = Page(jane.get(f"{path}?day=1 April 2025").text)
+    assert page.by_id["on"] == "Day: Tuesday, 1 April 2025"
+    found = press(jane, path, page, button, day="2/4/2025")
+    page = Page(found.text)
+    assert found.status_code == 409 and sent(office) == before
+    assert page.said().startswith("Nothing was sent: Wednesday, 2 April 2025, was typed")
+    assert page.by_id["on"] == "Day: Wednesday, 2 April 2025"
+    assert page.fields["day"]["value"] == "2/4/2025"
+    page = Page(press(jane, path, page, "Show this day", day="3 April 2025").text)
+    assert page.by_id["on"] == "Day: Thursday, 3 April 2025" and page.said() == ""
+    found = press(jane, path, page, button, day="no day")
+    assert found.status_code == 400 and sent(office) == before
+    found = press(jane, path, page, button)
+    assert found.status_code == 303
+    assert sent(office)[len(before):] == [
+        {"cmd": name, "child": 3, "school": "B", "day": "2025-04-03"}]
+
+
 def test_what_a_colleague_did_is_named(office: Site) -> None:
     """A stale question of a decline does not end a place that was accepted since."""
     jane, bo = office.browser("jane"), office.browser("bo")

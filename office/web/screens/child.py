@@ -110,7 +110,7 @@ def child_page(number: int, said: str = "", status: int = 200) -> Answer:
 
 def day_typed() -> tuple[datetime.date, str, str]:
     """The day of an action: as it was typed, or today; and what is wrong with what was typed."""
-    text = flask.request.values.get("day")
+    text = flask.request.form.get("day", flask.request.args.get("day"))
     if text is None:
         return today(), today().isoformat(), ""
     found = wording.day_of(text)
@@ -145,6 +145,7 @@ def ask_page(number: int, name: str, said: str = "", status: int = 200) -> Answe
     return flask.render_template(
         "ask.html", **shown(register, number), action=ACTIONS[name], question=found, seen=seen,
         code=code, day=day, typed=typed, wrong=wrong, said=said, schools=schools,
+        to=flask.url_for("child.record", number=number, name=name),
         weekday=wording.weekday(day)), 400 if wrong and status == 200 else status
 
 
@@ -157,8 +158,11 @@ def record(number: int, name: str) -> Answer:
     command: dict[str, Any] = {
         "cmd": action.command, "child": number, "school": form.get("school", "")}
     if action.is_dated:
-        if day is None:
+        if day is None or form.get("what") == "show":
             return ask_page(number, name)
+        if day.isoformat() != form.get("day_shown"):
+            return ask_page(number, name, f"Nothing was sent: {wording.weekday(day)}, was typed and"
+                            " not shown before. What becomes of it with this day is below.", 409)
         command["day"] = day.isoformat()
     result = parts().desk.send(person(), command, Seen(form.get("seen", "")))
     if not result.is_done:
