@@ -53,7 +53,7 @@ def addresses(office: Site) -> list[tuple[str, str, str]]:
             given: dict[str, Any] = {it: VALUES[it] for it in rule.arguments}
             if rule.endpoint in NAMES:
                 given["name"] = NAMES[rule.endpoint]
-            if rule.endpoint == "file":
+            if rule.endpoint in ("file", "icon"):
                 continue
             for method in sorted((rule.methods or set()) - {"HEAD", "OPTIONS"}):
                 built = urls.build(rule.endpoint, given, method=method)

@@ -107,7 +107,7 @@ def test_the_first_screen_says_who_is_there_and_what_is_closed(office: Site) -> 
     rita = office.browser("rita", "reader")
     office.parts.desk.closed = lambda: "Closed for draw 2 by hal since 10:02."
     page = Page(rita.get("/").text)
-    assert page.said() == "Closed for draw 2 by hal since 10:02."
+    assert page.text.count(">Closed for draw 2 by hal since 10:02.<") == 1
     assert "Signed in: bo, rita" in page.text
     text = re.sub(r"<[^>]*>|\s+", " ", page.text)
     for name, number in (("Schools", 2), ("Children", 4), ("Applications", 4),
