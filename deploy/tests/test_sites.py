@@ -251,7 +251,7 @@ def test_the_machines_own_part_needs_no_site() -> None:
 
 def test_each_answer_has_the_headers_of_the_list() -> None:
     """Also that to a request for another host, which is not of a site. Retry-After has no value but
-    for what may be repeated.
+    for what may be repeated, and what a site itself answers is JSON or a page.
     """
     lines = (ROOT / "deploy/checks/headers").read_text(encoding="utf-8").splitlines()
     wanted = dict(line.split(": ", 1) for line in lines if not line.startswith("#"))
@@ -260,7 +260,8 @@ def test_each_answer_has_the_headers_of_the_list() -> None:
     found = [
         dict(re.findall(r'(?m)^ *add_header (\S+) "?([^"\n]+?)"? always;$', it)) for it in texts
     ]
-    assert found == [wanted | {"Retry-After": "$retry_after"}] * 2
+    wanted["Retry-After"] = "$retry_after"
+    assert found == [wanted | {"Content-Type": "$answer_kind"}, wanted]
 
 
 @pytest.mark.parametrize(
