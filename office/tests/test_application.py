@@ -348,8 +348,9 @@ def test_a_register_that_is_away_is_said(tmp_path: pathlib.Path) -> None:
         jane = office.browser("jane")
         for path in ("/child/1", "/draw/1", "/pairs", "/pairs/A", "/school/A/waiting", "/register"):
             found = jane.client.get(path, base_url=ORIGIN)
-            assert found.status_code == 503, path
-            assert "the register does not answer now" in (found.json or {})["reason"], path
+            said = found.json or {}
+            assert (found.status_code, said["unanswered"]) == (502, True), path
+            assert "the register does not answer now" in said["reason"], path
         for code in ("%20", "A%0d%0aX", "%C3%A9", "A%3Fx"):
             for path in (f"/pairs/{code}", f"/school/{code}/waiting"):
                 assert jane.client.get(path, base_url=ORIGIN).status_code == 404, path

@@ -32,11 +32,14 @@ DONE, REFUSED, DIFFERS, UNSENT, LOST = "done", "refused", "differs", "unsent", "
 
 @dataclasses.dataclass(frozen=True)
 class Result:
-    """What a request came to, in one word and in a sentence; and the answer of the register."""
+    """What a request came to, in one word and in a sentence; the answer of the register; and
+    whether it is known what it came to.
+    """
 
     outcome: str
     said: str
     answer: bytes = b""
+    is_known: bool = True
 
     @property
     def is_done(self) -> bool:
@@ -265,7 +268,8 @@ class Desk:
         value = commands.read(answer)
         if isinstance(value, dict) and value.get("failed"):
             # (stored wholly or not at all, and only a look at the register says which)
-            return self.looked(entry, commands.in_words(value, None))
+            found = self.looked(entry, commands.in_words(value, None))
+            return found if found.is_known else dataclasses.replace(found, answer=answer)
         note = ""
         try:
             self.history.add(who.name, ANSWER, {"of": entry.number, "answer": value})
@@ -299,7 +303,7 @@ class Desk:
         except Refused as other:
             return Result(LOST, f"There was no certain answer ({why}), and the register does not"
                           f" answer now: {other}. Whether it is done is looked up before anything"
-                          " else is sent.")
+                          " else is sent.", is_known=False)
         if is_done:
             return Result(DONE, "Done, and stored: the answer was lost, and the register has it.")
         return Result(LOST, f"It was not done: there was no answer ({why}), and the register does"

@@ -5,18 +5,39 @@ from register_files import Refused
 from office import commands, rules
 
 from .. import guard
-from ..desk import DIFFERS, DONE, REFUSED, Command, Result, Seen, seen_by
+from ..desk import DIFFERS, DONE, REFUSED, Away, Command, Result, Seen, seen_by
 from ..guard import needs, parts, person
 from ..people import LISTS, READ, RECORD
 
 screen = flask.Blueprint("register", __name__)
-JSON = "application/json"
+JSON, CSV = "application/json", "text/csv"
 
 
-def passed(path: str) -> flask.Response:
-    """The register's own answer to a path."""
-    status, body = parts().desk.asked(path)
+def answer(status: int, /, **said: object) -> flask.Response:
+    """An answer of the application's own, as JSON."""
+    return flask.Response(flask.json.dumps(said), status, mimetype=JSON)
+
+
+def passed(path: str, question: bytes | None = None) -> flask.Response:
+    """The register's own answer to a path, or to a question that changes nothing."""
+    try:
+        status, body = parts().desk.asked(path, question)
+    except Away as error:
+        return answer(502, reason=str(error), unanswered=True)
     return flask.Response(body, status, mimetype=JSON if body[:1] == b"{" else "text/plain")
+
+
+def sent(kind: str) -> bytes:
+    """What was sent, if it is of a kind, and no longer than the register takes."""
+    given = flask.request.headers.get("Content-Type", "").partition(";")[0]
+    if given.strip().lower() != kind:
+        flask.abort(415, f"this takes {kind} alone")
+    most = rules.LIMITS["body"].most
+    body = flask.request.get_data()
+    if len(body) > most:
+        reason = f"the register takes at most {most:,} bytes at once"
+        flask.abort(answer(413, reason=reason, status=413))
+    return body
 
 
 @screen.get("/records")
@@ -44,7 +65,7 @@ def authority() -> flask.Response:
 @needs(READ)
 def register() -> flask.Response:
     """The register."""
-    return flask.Response(parts().desk.read(True)[1], mimetype=JSON)
+    return passed("/register")
 
 
 @screen.get("/draw/<int:number>")
@@ -97,23 +118,25 @@ def answered(result: Result) -> flask.Response:
     if result.answer:
         value = commands.read(result.answer)
         is_fault = isinstance(value, dict) and "fault" in value
-        status = 400 if is_fault else STATUSES[result.outcome]
+        status = 400 if is_fault else STATUSES.get(result.outcome, 503)
         return flask.Response(result.answer, status, mimetype=JSON)
     if result.is_done:
-        return flask.jsonify({"done": True})
-    reason = {"outcome": result.outcome, "reason": result.said}
-    return flask.Response(flask.json.dumps(reason), 409 if result.outcome == DIFFERS else 503,
-                          mimetype=JSON)
+        return answer(200, done=True)
+    said = {"outcome": result.outcome, "reason": result.said}
+    if not result.is_known:
+        return answer(502, **said, unanswered=True)
+    return answer(STATUSES.get(result.outcome, 503), **said)
 
 
 @screen.post("/command")
 @needs(RECORD)
 def command() -> flask.Response:
     """A command of the page, or of a program."""
-    given = commands.read(flask.request.get_data())
+    body = sent(JSON)
+    given = commands.read(body)
     if not isinstance(given, dict) or commands.wrong_field(given):
         # (the register says what is wrong)
-        return answered(parts().desk.pass_on(person(), flask.request.get_data()))
+        return answered(parts().desk.pass_on(person(), body))
     return answered(parts().desk.send(person(), given, seen_in(given)))
 
 
@@ -130,20 +153,20 @@ def seen_in(given: Command) -> Seen | None:
     return seen_by(parts().desk.register(), given, row)
 
 
-@screen.post("/what-if")
-@needs(READ)
-def what_if() -> flask.Response:
-    """The school of a child by another list, which changes nothing."""
-    status, body = parts().desk.asked("/what-if", flask.request.get_data())
-    return flask.Response(body, status, mimetype=JSON)
-
-
 @screen.post("/import")
 @needs(RECORD)
 def rows() -> flask.Response:
     """The rows of an import."""
+    body = sent(CSV)
     try:
-        flask.request.get_data().decode("utf-8")
+        body.decode("utf-8")
     except UnicodeDecodeError as error:
         raise Refused("the rows are no text in UTF-8") from error
-    return answered(parts().desk.send_import(person(), flask.request.get_data()))
+    return answered(parts().desk.send_import(person(), body))
+
+
+@screen.post("/what-if")
+@needs(READ)
+def question() -> flask.Response:
+    """A question about another list of a child, which changes nothing."""
+    return passed("/what-if", sent(JSON))
