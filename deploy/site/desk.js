@@ -10,6 +10,7 @@ export const FAULTS = byName("faults", meaningOf);
 
 export const MAY_BE_DONE = "There was no answer. It may be done: look before you send it again.";
 const ASK_AGAIN = "There was no answer. Try again; if there is still none, inform whoever runs the desk.";
+const SIGNED_OUT = "You are signed out, and nothing has changed. Sign in again in another window of this browser, and then try again here.";
 const CLOSED = "The desk is closed, perhaps for a draw. Try again when it is open.";
 
 // Whether there was no answer of the desk: the site had none from it, or the browser none from the site
@@ -23,7 +24,8 @@ const parsed = (text) => {
 export function describe({ status, body, sent }, changes) {
   // A page of the site and not of the desk is no JSON: its status gives the reason
   const reply = parsed(body) || {};
-  if (status === 409 && reply.outcome === "differs") return reply.reason;
+  // What the application itself says of a command that it did not send, or that was not done
+  if ((status === 409 || status === 503) && reply.reason) return reply.reason;
   if (status === 409) {
     return "Refused, and nothing has changed. "
       + (Object.hasOwn(REFUSALS, reply.name) ? inWords("refusals", reply.name, parsed(sent)) : `The reason is ${reply.name}.`);
@@ -36,7 +38,7 @@ export function describe({ status, body, sent }, changes) {
   if (status === 503 && reply.memory) return "The desk had no memory for this. Nothing has changed. Try again.";
   if (status === 503 && reply.busy) return "Too many requests were sent at once. This one was not passed on, and nothing has changed. Try again.";
   if (isAway({ status })) return changes ? MAY_BE_DONE : status === 502 ? CLOSED : ASK_AGAIN;
-  if (status === 401) return "You are not signed in. Nothing has changed.";
+  if (status === 401) return SIGNED_OUT;
   if (status === 403) return "With the name that you signed in with you may not do this. Nothing has changed.";
   if (status === 404) return "The register has none of this number or code.";
   return `The site refused this (status ${status}). Nothing has changed.`;

@@ -29,6 +29,11 @@ export function begin(all, atOnce) {
     event.preventDefault();
     (at("heading") || at("answer")).focus();
   };
+  // (the screens of the application are before the views of this one)
+  at("skip-views").onclick = (event) => {
+    event.preventDefault();
+    document.querySelector('nav a[href^="#"]').focus();
+  };
   render();
 }
 
@@ -61,7 +66,7 @@ async function render() {
     if (mine === turn) show(view, reply);
   } catch (error) {
     if (mine !== turn) return;
-    at("result").replaceChildren(...(error.isAway ? tryAgain() : []));
+    at("result").replaceChildren(...(error.isAway ? tryAgain() : error.status === 401 ? signIn() : []));
     if (!(error instanceof Shown)) reportError(error);
     const reason = error instanceof Shown ? error.message : `This view has an error: ${error.message}`;
     say(reply ? `${reply.text} It cannot be shown now.` : reason, true);
@@ -74,13 +79,16 @@ const tryAgain = () => [element("h2", { tabIndex: -1, id: "heading" }, "No answe
   element("p", {}, "This view is shown when the desk answers again."),
   element("p", { className: "tools screen-only" }, button("Try again", () => render(), { id: "try-again" }))];
 
+// Where nobody is signed in any more. After the sign-in this view is shown, with what was typed into it
+const signIn = () => [element("p", {}, element("a", { href: `/sign-in?to=${encodeURIComponent(`/records${location.hash}`)}`, id: "sign-in" }, "Sign in"))];
+
 // A view has a title, its nodes, and a text that is read out
 function show({ title, nodes, status, focus, isBad }, reply) {
   const heading = element("h2", { tabIndex: -1, id: "heading" }, title);
   const tools = element("p", { className: "tools screen-only" }, button("Print", () => window.print(), { id: "print" }));
   at("result").replaceChildren(heading, ...nodes, tools);
   document.title = `${address().slice(0, 2).join(" ")} – School admissions`;
-  for (const entry of document.querySelectorAll("nav a")) {
+  for (const entry of document.querySelectorAll('nav a[href^="#"]')) {
     if (entry.hash === (location.hash || "#start")) entry.setAttribute("aria-current", "page");
     else entry.removeAttribute("aria-current");
   }
