@@ -11,9 +11,11 @@ import select
 import subprocess
 import time
 from collections.abc import Callable, Iterator
-from typing import Any
+from typing import Any, TypeVar
 
 from checks.world import Process, World, until
+
+T = TypeVar("T")
 
 KEYS = {"Tab": (9, ""), "Enter": (13, "\r"), "Escape": (27, ""), " ": (32, " "),
         "ArrowDown": (40, ""), "ArrowUp": (38, "")}
@@ -31,6 +33,8 @@ ARGUMENTS = (
     "--headless=new", "--remote-debugging-pipe", "--disable-gpu", "--disable-dev-shm-usage",
     "--no-first-run", "--disable-background-networking", "--disable-component-update",
     "--disable-extensions", "--lang=en-GB", "--no-proxy-server")
+# What anybody gets, and reads nothing of the register
+FILE = "/page.css"
 # What a rule gives for a method and a path: nothing, a status and a body, 'broken' or 'held'
 Rule = Callable[[str, str], tuple[int, str] | str | None]
 
@@ -60,7 +64,7 @@ class Browser:
         self.session = attached["sessionId"]
         for domain in ("Page", "Runtime", "Log", "Accessibility"):
             self.call(f"{domain}.enable")
-        self.call("Fetch.enable", handleAuthRequests=True)
+        self.call("Fetch.enable")
 
     def started(self, world: World, take: int, give: int) -> Process:
         """The process, which reads from one pipe and writes to the other, and trusts the
@@ -119,12 +123,7 @@ class Browser:
     def happened(self, message: dict[str, Any]) -> None:
         """Handles an event."""
         method, given = message.get("method"), message.get("params", {})
-        if method == "Fetch.authRequired":
-            response = {"response": "ProvideCredentials" if self.who else "CancelAuth",
-                        "username": self.who, "password": self.password}
-            self.send("Fetch.continueWithAuth", requestId=given["requestId"],
-                      authChallengeResponse=response)
-        elif method == "Fetch.requestPaused":
+        if method == "Fetch.requestPaused":
             self.paused(given)
         elif method == "Runtime.exceptionThrown":
             thrown = given["exceptionDetails"].get("exception", {})
@@ -162,14 +161,41 @@ class Browser:
         while self.held:
             self.call("Fetch.continueRequest", requestId=self.held.pop(0))
 
-    def until(self, what: Callable[[], object], name: str) -> None:
-        """Waits until something is so that the browser's events change."""
-        until(lambda: (self.value("0"), what())[1], name)
+    def until(self, what: Callable[[], T], name: str) -> T:
+        """Waits until something is so that the browser's events change, and returns it."""
+        return until(lambda: (self.value("0"), what())[1], name)
+
+    def framed(self, address: str) -> str:
+        """The address of the document that a frame of another site shows for an address, once it
+        is loaded."""
+        page, self.session = self.session, ""
+        try:
+            targets = self.call("Target.getTargets")["targetInfos"]
+            [target] = [it["targetId"] for it in targets
+                        if (it["type"], it["url"]) == ("iframe", address)] or [""]
+            if not target:
+                return ""
+            attached = self.call("Target.attachToTarget", targetId=target, flatten=True)
+            self.session = attached["sessionId"]
+            state = self.value("document.readyState + ' ' + document.documentURI").split(" ")
+            return str(state[1]) if state[0] == "complete" else ""
+        finally:
+            self.session = page
 
     def open(self, path: str) -> None:
         """Goes to an address of the site."""
         self.call("Page.navigate", url=f"https://{self.host}{path}")
         self.wait("document.readyState === 'complete'")
+
+    def sign_in(self) -> None:
+        """Signs in through the form that is open, as a password manager fills it in, and waits for
+        what comes then."""
+        filled = "".join(f"document.getElementById('{it}').value = {json.dumps(value)};"
+                         for it, value in (("name", self.who), ("password", self.password)))
+        self.value(f"{filled} document.forms[0].querySelector('button').click(); 0")
+        self.wait("location.pathname !== '/sign-in' && document.readyState === 'complete'")
+        # (what was posted has the password)
+        self.posted.clear()
 
     def value(self, script: str) -> Any:
         """What a script returns."""
@@ -234,7 +260,7 @@ class Browser:
         self.call("Page.setDownloadBehavior", behavior="allow", downloadPath=str(folder))
 
     def undisturbed(self) -> None:
-        """Stops pausing each request: for measurements, after somebody has signed in."""
+        """Stops pausing each request: for measurements."""
         self.call("Fetch.disable")
 
     def picture(self, path: pathlib.Path) -> None:
@@ -257,6 +283,9 @@ def browsing(world: World, day: str, who: str = "jane") -> Iterator[Browser]:
     try:
         page.width(1280, 900)
         page.clock(day)
+        if who:
+            page.open(f"/sign-in?to={FILE}")
+            page.sign_in()
         yield page
     finally:
         world.end(page.process)

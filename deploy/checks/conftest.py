@@ -56,12 +56,14 @@ def world_fixture(pytestconfig: pytest.Config) -> Iterator[World]:
 
 @pytest.fixture(autouse=True)
 def ready_fixture(world: World, request: pytest.FixtureRequest) -> Iterator[None]:
-    """After each test, even one that failed, the desk answers, and the page gets what it answers.
-    """
+    """After each test, even one that failed, desk and application answer, and the page gets what
+    they answer."""
     page = request.getfixturevalue("page") if "page" in request.fixturenames else None
     yield
     world.continue_desk()
     if world.desk.poll() is not None:
         world.start_desk()
+    if world.office.poll() is not None:
+        world.start_office()
     if page:
         page.rule = None

@@ -13,8 +13,9 @@ import sys
 HERE = pathlib.Path(__file__).resolve().parent
 # Fields that describe one response, and are not the same for all
 OF_ONE = {
-    "date", "connection", "content-type", "content-length", "content-encoding", "www-authenticate",
-    "retry-after", "allow", "last-modified", "etag", "accept-ranges", "content-range",
+    "date", "connection", "content-type", "content-length", "content-encoding", "content-range",
+    "retry-after", "allow", "last-modified", "etag", "accept-ranges", "content-disposition",
+    "location", "set-cookie", "vary",
 }
 
 
@@ -56,7 +57,7 @@ def units_differ(folder: pathlib.Path, prefix: str) -> list[str]:
     text = "\n".join(lines_of((HERE / "units").read_text(encoding="utf-8"))) + "\n"
     blocks = re.split(r"(?m)^(\S.*)\n", text.replace("/usr/local/", f"{prefix}/"))[1:]
     wanted = [(name, *it) for name, own in zip(blocks[::2], blocks[1::2]) for it in directives(own)]
-    suffixes = (".service", ".socket", ".timer", ".path")
+    suffixes = (".service", ".socket", ".timer", ".path", ".conf")
     paths = [it for it in sorted(folder.rglob("admissions*")) if it.suffix in suffixes]
     found = [
         (str(path.relative_to(folder)), *it) for path in paths

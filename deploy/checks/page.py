@@ -6,6 +6,8 @@ from typing import Any
 
 from checks.browser import Browser
 
+# Where the page is
+RECORDS = "/records"
 ANSWER = "document.getElementById('answer').textContent"
 RESULT = "document.getElementById('result').innerText"
 FOCUS = "document.activeElement"
@@ -34,10 +36,10 @@ def answered(page: Browser) -> str:
     return said
 
 
-def opened(page: Browser, address: str = "/", seconds: float = 120) -> None:
-    """Loads the page, and waits until its view is complete."""
+def opened(page: Browser, address: str = "", seconds: float = 120) -> None:
+    """Loads the page with what is behind its path, and waits until its view is complete."""
     page.value(f"document.getElementById('answer') ? {FORGET} : ''")
-    page.open(address)
+    page.open(f"{RECORDS}{address}")
     page.wait(f"document.getElementById('answer') && {IS_ANSWERED}", seconds)
 
 

@@ -1,6 +1,7 @@
 """The register beside the first one: primary 2026, with a site, users and a network of its own."""
 
 from checks.commands import application, child, round_of, school
+from checks.office import Account
 from checks.world import World
 
 HOST = "primary.admissions.example"
@@ -19,5 +20,5 @@ COMMANDS = [
 
 def beside(first: World) -> World:
     """The world of that register."""
-    people: dict[str, str | None] = {"mary": "office;", "alpha": "school-A;", MAIL: "school-A;"}
+    people = {"mary": Account("head"), "alpha": Account("school-A"), MAIL: Account("school-A")}
     return World(first.installation, first.room / "beside", "primary-2026", HOST, COMMANDS, people)

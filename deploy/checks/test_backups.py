@@ -1,10 +1,13 @@
-"""The nightly backup, what is kept, a restore, and the commands of the log sent again after it."""
+"""The nightly backup, what is kept, a restore, and the commands of the history sent again after it.
+"""
 
+import json
 import pathlib
 from typing import NamedTuple
 
 import pytest
 
+from checks.commands import lines_of
 from checks.world import Ran, World
 
 # of the first release, without numbers, and of a clock that was years ahead
@@ -84,18 +87,19 @@ def test_of_the_nightly_copies_the_two_that_were_made_last_are_kept_and_the_othe
     assert backup.copy.name.startswith("nightly-000008-")
 
 
-def test_a_restore_and_the_commands_of_the_log_give_the_same_register(
+def test_a_restore_and_the_commands_of_the_history_give_the_same_register(
         world: World, backup: Backup) -> None:
+    before = len(world.entries())
     statuses = [world.ask("/command", "jane", body).status for body in (*SENT, SENT[1])]
     assert statuses == [200, 200, 409]
     wanted = letters(world)
     world.end(world.desk)
     assert world.run("admissions-restore", backup.copy, world.file).returncode == 0
-    accepted = [it["body"] for it in world.entries()
-                if it["target"] == "/command" and it["status"] == "200"][-2:]
-    assert accepted == SENT
-    done = world.run("admissions", "do", world.file,
-                     input="".join(f"{body}\n" for body in accepted))
+    added = world.entries()[before:]
+    done_ones = [it["about"]["of"] for it in added if it["about"].get("answer") == {"done": True}]
+    accepted = [it["about"]["command"] for it in added if it["n"] in done_ones]
+    assert accepted == [json.loads(it) for it in SENT]
+    done = world.run("admissions", "do", world.file, input=lines_of(accepted))
     assert done.stdout.splitlines() == ['{"done":true}'] * 2
     world.start_desk()
     assert letters(world) == wanted

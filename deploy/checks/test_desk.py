@@ -1,20 +1,25 @@
-"""The desk behind the site: where it can be reached, many clients at once, ones that leave, and a
-desk that fails."""
+"""Desk and application behind the site: where the desk can be reached, many clients at once, ones
+that leave, and a desk or an application that is killed or begins again. What was answered as done
+is stored, and the history says of each command what became of it."""
 
 import concurrent.futures
+import hashlib
+import json
 import os
 import pathlib
 import re
 import signal
+import ssl
 import threading
 import time
 from collections.abc import Callable
-from typing import NamedTuple
+from typing import Any, NamedTuple
 
 import pytest
 
-from checks.commands import amendment, compact
+from checks.commands import Command, amendment, compact
 from checks.expected import headers_differ, units_differ
+from checks.raw import raw, status_of
 from checks.world import NAME, Answer, World, until
 
 # What may be before the path of a program in a unit: - it may fail, + it runs as root, ..
@@ -105,10 +110,31 @@ def ask_many(world: World, count: int) -> tuple[list[Answer], float]:
 def test_200_clients_at_once_all_get_their_answer_and_the_register_has_one_of_their_commands(
         world: World, record_property: Callable[[str, object], None]) -> None:
     answers, seconds = ask_many(world, 200)
-    record_property("seconds of the slowest, its own start and password included",
-                    f"{seconds:.1f}")
+    record_property("seconds of the slowest, its own start included", f"{seconds:.1f}")
     assert [answer.status for answer in answers].count(200) == 200
     assert re.search(r"Fay Ford \d+\n", world.letter(6))
+    numbers = {f"Fay Ford {number}" for number in range(0, 200, 4)}
+    assert set(done(world)) >= numbers
+
+
+def outcomes(world: World) -> list[tuple[Command, bool | None]]:
+    """Each command of the history, and whether it is done, as far as the history says that."""
+    entries = world.entries()
+    known: dict[int, bool] = {}
+    for it in entries:
+        about = it["about"]
+        if it["what"] == "answer":
+            known[about["of"]] = about["answer"].get("done") is True
+        elif it["what"] == "settled":
+            known[about["of"]] = about["done"]
+    return [(it["about"]["command"], known.get(it["n"])) for it in entries
+            if it["what"] == "sends" and "command" in it["about"]]
+
+
+def done(world: World) -> list[str]:
+    """The names that were given by commands that are done by the history, in their order."""
+    return [command["name"] for command, is_done in outcomes(world)
+            if is_done and "name" in command]
 
 
 @pytest.fixture(scope="module", name="crowd")
@@ -137,7 +163,8 @@ def test_of_300_at_once_on_a_suspended_desk_256_wait_and_get_their_answer(
 
 
 def test_who_has_no_place_in_the_queue_gets_each_header_of_the_list(crowd: list[Answer]) -> None:
-    assert [headers_differ(it.fields) for it in busy(crowd)[:1]] == [[]]
+    assert [(headers_differ(it.fields), it.fields["content-type"]) for it in busy(crowd)[:1]] == [
+        ([], "application/json")]
 
 
 def test_who_has_no_place_in_the_queue_is_asked_to_retry(crowd: list[Answer]) -> None:
@@ -145,27 +172,70 @@ def test_who_has_no_place_in_the_queue_is_asked_to_retry(crowd: list[Answer]) ->
         ('{"busy":true}', "2")}
 
 
-# A client that leaves, and a desk that is killed
+def test_of_300_commands_at_once_each_is_done_or_was_not_passed_on(world: World) -> None:
+    """All but those that the application works on wait, even to be known; and who is not known
+    because there is no place is not passed on."""
+    world.session("jane")
+    world.stop_desk()
+    try:
+        with concurrent.futures.ThreadPoolExecutor(300) as pool:
+            asked = [pool.submit(world.ask, "/command", "jane", named(f"crowd {number}"))
+                     for number in range(300)]
+            until(lambda: sum(it.done() for it in asked) >= 44,
+                  "the answers to those for whom there is no place in the queue")
+            world.continue_desk()
+            answers = [it.result() for it in asked]
+    finally:
+        world.continue_desk()
+    assert {(it.status, it.body) for it in answers} == {
+        (200, '{"done":true}'), (503, '{"busy":true}')}
+    names = [it for it in done(world) if "crowd" in it]
+    answered = [f"Fay Ford crowd {number}" for number, it in enumerate(answers)
+                if it.status == 200]
+    assert sorted(names) == sorted(answered)
+    assert len(names) >= 200
+    assert f"{names[-1]}\n" in world.letter(6)
 
 
-def test_a_command_whose_sender_leaves_when_it_is_at_the_desk_is_done_and_logged(
-        world: World) -> None:
-    body = named("left")
+# A client that leaves, and a desk or an application that is killed
 
-    def logged() -> list[str]:
-        return [it["status"] for it in world.entries() if "Fay Ford left" in it.get("body", "")]
 
+def begin(world: World, body: str) -> ssl.SSLSocket:
+    """Sends a command to a desk that is suspended, and returns when it is there."""
+    head = (f"POST /command HTTP/1.1\r\nHost: {NAME}\r\n{world.field('jane')}\r\n"
+            f"Content-Type: application/json\r\nOrigin: https://{NAME}\r\n"
+            f"Content-Length: {len(body)}\r\nConnection: close\r\n\r\n")
     world.stop_desk()
     client = world.connect()
-    client.sendall(
-        f"POST /command HTTP/1.1\r\nHost: {NAME}\r\n{world.basic('jane')}\r\n"
-        f"Content-Type: application/json\r\nOrigin: https://{NAME}\r\n"
-        f"Content-Length: {len(body)}\r\n\r\n{body}".encode())
+    client.sendall(f"{head}{body}".encode())
     until(world.at_desk, "the command before the suspended desk")
+    return client
+
+
+def received(client: ssl.SSLSocket) -> tuple[int, Any]:
+    """The status and the JSON that a client gets."""
+    with client:
+        answer = b"".join(iter(lambda: client.recv(65536), b"")).decode()
+    head, _, body = answer.partition("\r\n\r\n")
+    if "chunked" in head:
+        body = body.split("\r\n")[1]
+    return int(head.split(" ", 2)[1]), json.loads(body)
+
+
+def known(world: World, body: str) -> list[bool | None]:
+    """What the history says of a command."""
+    return [it for command, it in outcomes(world) if command == json.loads(body)]
+
+
+def test_a_command_whose_sender_leaves_when_it_is_at_the_desk_is_done_and_recorded(
+        world: World) -> None:
+    body = named("left")
+    client = begin(world, body)
     client.close()
-    assert logged() == []
+    assert known(world, body) == [None]
     world.continue_desk()
-    assert until(logged, "its line in the log") == ["200"]
+    assert until(lambda: known(world, body) != [None] and known(world, body),
+                 "its answer in the history") == [True]
     assert "Fay Ford left" in world.letter(6)
 
 
@@ -189,10 +259,11 @@ def killed_fixture(world: World) -> Killed:
     return Killed(letter, answer, status)
 
 
-def test_while_there_is_no_desk_the_site_says_so(killed: Killed) -> None:
+def test_while_there_is_no_desk_the_application_says_so(killed: Killed) -> None:
     answer = killed.answer
-    assert (answer.status, answer.body, headers_differ(answer.fields)) == (
-        502, '{"unanswered":true}', [])
+    said = json.loads(answer.body)
+    assert (answer.status, said["unanswered"], headers_differ(answer.fields)) == (502, True, [])
+    assert said["reason"].startswith("the register does not answer now: ")
 
 
 def test_the_log_is_taken_in_after_a_kill(killed: Killed) -> None:
@@ -203,3 +274,123 @@ def test_a_desk_that_was_restarted_has_what_was_done_before(world: World, killed
     answer = world.ask("/child/6/letter", "jane")
     assert (answer.status, answer.body) == (200, killed.letter)
     assert "Fay Ford left" in answer.body
+
+
+def test_a_command_while_there_is_no_desk_is_not_sent_and_says_so(world: World) -> None:
+    body = named("of no desk")
+    world.end(world.desk)
+    answer = world.ask("/command", "jane", body)
+    world.start_desk()
+    said = json.loads(answer.body)
+    # (the door is there: that it leads nowhere is seen when the register is asked)
+    assert (answer.status, "done" in said) in [(502, False), (503, False)]
+    assert world.ask("/command", "jane", named("after no desk")).status == 200
+    assert known(world, body) in ([], [False])
+    assert "Fay Ford after no desk" in world.letter(6)
+
+
+def test_a_desk_that_is_killed_with_a_command_is_said_to_be_uncertain_and_looked_up_later(
+        world: World) -> None:
+    """The command was not read, so it is not done; and it is not sent again."""
+    body = named("killed")
+    client = begin(world, body)
+    world.end(world.desk, signal.SIGKILL)
+    status, said = received(client)
+    assert (status, said["unanswered"], "may" not in said) == (502, True, True)
+    assert "Whether it is done is looked up before anything else is sent." in said["reason"]
+    assert known(world, body) == [None]
+    world.start_desk()
+    assert world.ask("/command", "jane", named("after a kill")).status == 200
+    assert known(world, body) == [False]
+    assert "Fay Ford after a kill" in world.letter(6)
+
+
+def test_an_application_that_is_killed_with_a_command_finds_out_that_it_is_done(
+        world: World) -> None:
+    """The desk had it all, and does it; the site has no answer, and does not send it again."""
+    body = named("without an answer")
+    client = begin(world, body)
+    world.end(world.office, signal.SIGKILL)
+    assert received(client) == (502, {"unanswered": True})
+    world.continue_desk()
+    world.start_office()
+    assert known(world, body) == [None]
+    assert "Fay Ford without an answer" in world.letter(6)
+    assert world.ask("/command", "jane", named("after it")).status == 200
+    assert known(world, body) == [True]
+    assert "Fay Ford after it" in world.letter(6)
+
+
+@pytest.mark.parametrize("how", [signal.SIGTERM, signal.SIGKILL])
+def test_an_application_that_begins_again_under_a_load_loses_nothing(
+        world: World, how: signal.Signals) -> None:
+    """What is asked meanwhile waits, or is answered that it was not done or may be."""
+    world.session("jane")
+    is_over = threading.Event()
+
+    def one(thread: int) -> list[tuple[str, Answer]]:
+        found: list[tuple[str, Answer]] = []
+        while not is_over.is_set():
+            name = f"{how.name} {thread} {len(found)}"
+            found.append((f"Fay Ford {name}", world.ask("/command", "jane", named(name))))
+        return found
+
+    with concurrent.futures.ThreadPoolExecutor(12) as pool:
+        asked = [pool.submit(one, thread) for thread in range(12)]
+        try:
+            for _ in range(3):
+                count = len(world.entries())
+                until(lambda: len(world.entries()) > count + 20, "commands in the history")
+                world.end(world.office, how)
+                world.start_office()
+        finally:
+            is_over.set()
+        answers = [it for thread in asked for it in thread.result()]
+    assert world.ask("/command", "jane", named("at last")).status == 200
+    assert {it.status for _, it in answers} <= {200, 502, 503}
+    names = done(world)
+    assert [name for name, it in answers if it.status == 200 and names.count(name) != 1] == []
+    unsent = [name for name, it in answers if it.status == 503]
+    assert [name for name in unsent if name in names] == []
+    assert None not in [it for _, it in outcomes(world)]
+    assert names[-1] == "Fay Ford at last"
+    assert "Fay Ford at last\n" in world.letter(6)
+    assert world.ask("/child/1", "jane").status == 200
+
+
+def test_without_room_for_the_history_nothing_is_sent_and_afterwards_all_goes_on(
+        world: World) -> None:
+    """As on a full disk. (The token of a program needs no room.)"""
+    worker = world.run("pgrep", "--parent", world.office.pid).stdout.strip()
+    history = world.room / "office/history.jsonl"
+    before, letter = history.read_bytes(), world.letter(6)
+    body = named("of a full disk")
+    world.run("prlimit", "--pid", worker, f"--fsize={len(before)}:unlimited")
+    try:
+        answer = world.ask("/command", "robot", body)
+    finally:
+        world.run("prlimit", "--pid", worker, "--fsize=unlimited:unlimited")
+    said = json.loads(answer.body)
+    assert (answer.status, said["outcome"]) == (503, "unsent")
+    assert said["reason"].startswith("Nothing was sent: the history cannot be written")
+    assert (history.read_bytes(), world.letter(6)) == (before, letter)
+    assert world.ask("/command", "robot", named("with room again")).status == 200
+    assert "Fay Ford with room again" in world.letter(6)
+
+
+def test_a_session_outlives_the_application(world: World) -> None:
+    field = world.field("jane")
+    world.end(world.office)
+    world.start_office()
+    assert status_of(raw(world, "GET /child/1", field)) == 200
+
+
+def test_the_history_is_one_chain_after_all_this(world: World) -> None:
+    """Each line has the digest of the one before, and the number of its place."""
+    lines = (world.room / "office/history.jsonl").read_bytes().splitlines(keepends=True)
+    before = "0" * 64
+    for number, line in enumerate(lines, 1):
+        entry = json.loads(line)
+        assert (entry["n"], entry["before"]) == (number, before)
+        before = hashlib.sha256(line).hexdigest()
+    assert len(lines) > 500

@@ -14,6 +14,8 @@ from checks.page import (
 from checks.world import MARKUP_OF_CHILD, MARKUP_OF_SCHOOL, NAME, World, until
 
 NO_ANSWER = "There was no answer. It may be done: look before you send it again."
+SIGNED_OUT = ("You are signed out, and nothing has changed. Sign in again in another window of this"
+              " browser, and then try again here.")
 CLOSED = "The desk is closed, perhaps for a draw. Try again when it is open."
 
 
@@ -95,6 +97,19 @@ def test_what_an_error_of_the_page_could_let_in_does_nothing(
     pytest.param(403, "<html>", "With the name that you signed in with you may not do this."
                  " Nothing has changed.", id="403 without JSON"),
     pytest.param(504, "<html>", NO_ANSWER, id="504 without JSON"),
+    # those of the application itself
+    pytest.param(401, '{"reason":"sign in first","status":401}', SIGNED_OUT, id="signed out"),
+    pytest.param(403, '{"reason":"the role reader may not do this","status":403}',
+                 "With the name that you signed in with you may not do this."
+                 " Nothing has changed.", id="a role"),
+    pytest.param(503, '{"outcome":"unsent","reason":"Nothing was sent: draw 5 is held."}',
+                 "Nothing was sent: draw 5 is held.", id="closed for a draw"),
+    pytest.param(503, '{"outcome":"not done","reason":"It was not done: there was no answer."}',
+                 "It was not done: there was no answer.", id="looked up, and not done"),
+    pytest.param(409, '{"outcome":"differs","reason":"Child 11 has changed. Nothing was sent."}',
+                 "Child 11 has changed. Nothing was sent.", id="another was quicker"),
+    pytest.param(502, '{"outcome":"not done","reason":"There was no certain answer.",'
+                 '"unanswered":true}', NO_ANSWER, id="no certain answer"),
 ])
 def test_each_answer_is_shown_in_words(page: Browser, status: int, body: str, said: str) -> None:
     visit(page, "#child/11")
@@ -143,8 +158,8 @@ def test_a_form_of_another_site_is_refused(world: World, page: Browser) -> None:
     page.wait("document.forms.length === 1")
     page.value("document.forms[0].submit()")
     page.wait("!document.forms.length && document.body?.innerText.trim()")
-    shown = page.value("document.body.innerText")
-    assert "403" in shown or "415" in shown
+    # (the session is not even sent with it)
+    assert "sign in first" in page.value("document.body.innerText")
     assert world.ask("/child/1", "jane").body == before
 
 
@@ -184,7 +199,7 @@ def at_another_site(page: Browser) -> None:
 def closed_page_fixture(world: World, page: Browser) -> Browser:
     """The page, loaded while the desk is closed."""
     world.end(world.desk)
-    opened(page, "/?without")
+    opened(page, "?without")
     return page
 
 
@@ -227,7 +242,7 @@ def test_what_was_asked_for_is_shown_when_the_desk_is_open(
 
 def test_the_blocks_of_a_draw_are_shown_while_the_desk_is_closed_for_it(
         world: World, page: Browser) -> None:
-    opened(page, "/?with#draw")
+    opened(page, "?with#draw")
     world.end(world.desk)
     outdate(page)
     assert visit(page, "#draw") == "Paste each block into a terminal, one after another."
@@ -239,7 +254,7 @@ def test_the_blocks_of_a_draw_are_shown_while_the_desk_is_closed_for_it(
 
 def test_a_desk_that_ends_before_its_answer_is_shown_and_a_second_press_sends_nothing(
         world: World, page: Browser) -> None:
-    opened(page, "/#child/11")
+    opened(page, "#child/11")
     page.posted.clear()
 
     def rule(method: str, _: str) -> None:
@@ -260,11 +275,39 @@ def test_a_desk_that_ends_before_its_answer_is_shown_and_a_second_press_sends_no
     assert page.posted == ['{"cmd":"accept","child":11,"school":"D"}']
 
 
+def test_an_application_that_is_killed_before_its_answer_is_shown_and_the_page_goes_on(
+        world: World, page: Browser) -> None:
+    # (the application first looks up what became of the command before, of which no answer came)
+    world.ask("/command", "jane", '{"cmd":"accept","child":3,"school":"B"}')
+    visit(page, "#child/12/amend")
+    page.posted.clear()
+
+    def rule(method: str, _: str) -> None:
+        if method == "POST":
+            world.stop_desk()
+
+    page.rule = rule
+    write(page, name="Hal Hill-Killed")
+    press(page, "#amend-form button")
+    page.value(FORGET)
+    click(page, "sure-yes")
+    page.until(lambda: page.posted, "the command")
+    until(world.at_desk, "the command at the desk")
+    page.rule = None
+    world.end(world.office, signal.SIGKILL)
+    world.continue_desk()
+    world.start_office()
+    page.wait(f"{ANSWER}.startsWith('There was no answer')")
+    assert len(page.posted) == 1
+    visit(page, "#child/12")
+    assert "Hal Hill-Killed" in page.value(RESULT)
+
+
 def test_a_full_disk_is_shown_and_afterwards_all_is_as_before(world: World, page: Browser) -> None:
     typed = "F" * 80
     visit(page, "#child/6/amend")
-    size = world.file.stat().st_size
-    world.run("prlimit", "--pid", world.desk.pid, f"--fsize={size}:{size}")
+    # (the log of the register is longer, and its first page has no rows)
+    world.run("prlimit", "--pid", world.desk.pid, "--fsize=4096:4096")
     write(page, name=typed)
     press(page, "#amend-form button")
     assert confirm(page) == (

@@ -116,7 +116,7 @@ def test_a_field_of_a_child_keeps_its_limit(
     before = page.value(FIELDS)[name]
     keeps(page, AMEND, name, inside, outside)
     write(page, **{name: before})
-    opened(page, "/?limits")
+    opened(page, "?limits")
 
 
 def test_several_wrong_fields_are_marked_until_each_is_mended(page: Browser) -> None:
@@ -135,7 +135,7 @@ def test_several_wrong_fields_are_marked_until_each_is_mended(page: Browser) -> 
     write(page, **{name: before[name] for name in ("east", "north", "flags")})
     assert marks(page, "east") == [UNMARKED]
     assert page.value("document.getElementById('answer').textContent") == ""
-    opened(page, "/?several")
+    opened(page, "?several")
 
 
 # Corrections
@@ -232,7 +232,7 @@ def test_a_field_that_the_page_does_not_know_is_sent_as_it_was(
     assert [json.loads(body) for body in page.posted] == [
         OMITTED | amendment(9, "Child of 9", 901, siblings=["A"], later_field=True)]
     page.rule = None
-    opened(page, "/?again")
+    opened(page, "?again")
 
 
 # New children

@@ -13,8 +13,8 @@ import pytest
 
 from checks.browser import Browser, browsing
 from checks.commands import amendment, round_of, school
-from checks.page import ANSWER, click, found, opened, question, rows, text, visit
-from checks.world import World, until
+from checks.page import ANSWER, RECORDS, click, found, opened, question, rows, text, visit
+from checks.world import World
 
 CHILDREN, SCHOOLS = 2000, 50
 SECONDS = 2
@@ -94,8 +94,7 @@ def full_fixture(world: World) -> Iterator[Full]:
 
 
 def open_undisturbed(page: Browser) -> None:
-    """Signs in, and opens the page with requests that are not paused."""
-    page.open("/who")
+    """Opens the page with requests that are not paused."""
     page.undisturbed()
     opened(page, seconds=900)
 
@@ -111,8 +110,8 @@ def test_the_worklists_of_2000_children_are_those_of_the_file(full: Full) -> Non
 
 
 def processor_seconds(world: World, page: Browser) -> dict[int, float]:
-    """The processor seconds that each process has used that takes part: the site's, the desk, its
-    door, and the browser's."""
+    """The processor seconds that each process has used that takes part: the site's, the
+    application's, the desk, its door, and the browser's."""
     parents: dict[int, tuple[int, float]] = {}
     for status in pathlib.Path("/proc").glob("[0-9]*/stat"):
         try:
@@ -121,7 +120,7 @@ def processor_seconds(world: World, page: Browser) -> dict[int, float]:
             continue
         used = (int(fields[11]) + int(fields[12])) / os.sysconf("SC_CLK_TCK")
         parents[int(status.parent.name)] = int(fields[1]), used
-    ours = {world.site.pid, world.desk.pid, world.door.pid, page.process.pid}
+    ours = {it.pid for it in (world.site, world.office, world.desk, world.door, page.process)}
     while more := {pid for pid, (parent, _) in parents.items() if parent in ours} - ours:
         ours |= more
     return {pid: parents[pid][1] for pid in ours if pid in parents}
@@ -146,7 +145,7 @@ def loaded_fixture(world: World, full: Full) -> Loaded:
     """Loads the page."""
     page = full.page
     before = processor_seconds(world, page)
-    page.call("Page.navigate", url=f"https://{page.host}/?seconds")
+    page.call("Page.navigate", url=f"https://{page.host}{RECORDS}?seconds")
     page.wait("location.search === '?seconds' && document.readyState === 'complete'")
     seconds, more, protocol, is_small, size = page.value(SHOWN)
     after = processor_seconds(world, page)
@@ -208,13 +207,7 @@ def test_sixty_reminders_are_sent_once_each_and_another_browser_knows_of_them(
     click(page, "sure-yes")
     page.wait("document.getElementById('counts')")
     assert text(page, "counts") == "60 reminders done."
-
-    def sent() -> list[int]:
-        posted = [it for it in world.entries()[before:] if it["method"] == "POST"]
-        return [json.loads(it["body"])["child"] for it in posted]
-
-    until(lambda: len(sent()) >= 60, "the lines of the log")
-    assert sent() == offered[:60]
+    assert [it["child"] for it in world.sent(before)] == offered[:60]
     with browsing(world, TODAY) as other:
         open_undisturbed(other)
         assert rows(other, "#worklists table")[2] == f"Due for a reminder|{len(offered) - 60:,}"

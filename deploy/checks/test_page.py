@@ -14,6 +14,8 @@ from checks.page import (
 from checks.world import AUTHORITY, MARKUP_OF_CHILD, MARKUP_OF_SCHOOL, World
 
 DELTA = "Delta, position 9 of 9, class 0, 1 metres"
+SIGNED_OUT = ("You are signed out, and nothing has changed. Sign in again in another window of this"
+              " browser, and then try again here.")
 NONE_OF_THIS = "The register has none of this number or code."
 
 
@@ -37,22 +39,63 @@ def dates(page: Browser) -> list[str]:
 # Who gets it
 
 
-@pytest.mark.parametrize("who, status, reason", [
-    pytest.param("", 401, "sign in with a name and a password of this site", id="nobody"),
-    pytest.param("alpha", 403, "the name that signed in may not do this", id="a school"),
-])
-def test_the_page_is_not_shown_to_others_but_why(
-        world: World, who: str, status: int, reason: str) -> None:
-    with browsing(world, "2025-03-20", who) as page:
-        page.open("/")
+def test_the_page_is_not_shown_to_a_school_but_why(world: World) -> None:
+    with browsing(world, "2025-03-20", "alpha") as page:
+        page.open("/records")
         shown = page.value("[document.title, document.getElementById('find'),"
-                           " JSON.parse(document.querySelector('pre').textContent)]")
-    assert shown == ["", None, {"reason": reason, "status": status}]
+                           " document.getElementById('answer').innerText]")
+    assert shown == [
+        "Not allowed – School admissions", None, "The role school-A may not do this."]
 
 
-@pytest.mark.parametrize("path", ["/register", "/who", "/authority", "/register.js"])
+def test_who_is_not_signed_in_comes_by_the_form_to_the_view_that_was_asked_for(
+        world: World) -> None:
+    with browsing(world, "2025-03-20", "") as page:
+        page.open("/records#child/2")
+        assert page.value("location.pathname") == "/sign-in"
+        assert page.value("document.getElementById('find')") is None
+        page.who, page.password = "jane", world.passwords["jane"]
+        page.sign_in()
+        page.wait("document.querySelector('h2')")
+        assert (heading(page), page.value("location.pathname + location.hash")) == (
+            "Child 2, Ben Bell", "/records#child/2")
+
+
+def test_a_wrong_password_is_said_on_the_form_where_the_name_stays(world: World) -> None:
+    with browsing(world, "2025-03-20", "") as page:
+        page.open("/sign-in")
+        page.value("document.getElementById('name').value = 'jane';"
+                   " document.getElementById('password').value = 'wrong';"
+                   " document.querySelector('main button').click(); 0")
+        page.wait("document.getElementById('answer')")
+        assert page.value(ANSWER) == "The name or the password is wrong."
+        assert (field(page, "name"), field(page, "password")) == ("jane", "")
+
+
+@pytest.mark.parametrize("path", ["/register", "/who", "/authority"])
 def test_what_the_page_needs_is_for_the_office_alone(world: World, path: str) -> None:
     assert [world.ask(path, who).status for who in (None, "alpha", "jane")] == [401, 403, 200]
+
+
+def test_who_is_signed_out_meanwhile_signs_in_again_and_has_what_was_typed(
+        world: World, page: Browser) -> None:
+    visit(page, "#child/12/amend")
+    write(page, name="Hal Hill-Typed")
+    page.call("Network.clearBrowserCookies")
+    page.posted.clear()
+    press(page, "#amend-form button")
+    assert confirm(page) == f"Nothing was sent. {SIGNED_OUT} What you typed is kept here."
+    assert visit(page, "#child/2") == SIGNED_OUT
+    assert "Ben Bell" not in page.value(RESULT)
+    visit(page, "#child/12/amend")
+    click(page, "sign-in")
+    page.wait("location.pathname === '/sign-in' && document.readyState === 'complete'")
+    page.sign_in()
+    page.wait("document.getElementById('name')?.value === 'Hal Hill-Typed'")
+    assert page.value("location.pathname + location.hash") == "/records#child/12/amend"
+    assert page.posted == []
+    press(page, "#amend-form-kept button")
+    page.wait("document.getElementById('name').value === 'Hal Hill'")
 
 
 # The first view
@@ -180,7 +223,7 @@ def test_a_child_that_is_not_there_is_said_to_be_none(page: Browser) -> None:
 
 def test_a_bookmark_opens_its_view_a_reload_keeps_it_and_back_goes_to_the_one_before(
         page: Browser) -> None:
-    opened(page, "/?bookmark#school/A")
+    opened(page, "?bookmark#school/A")
     assert heading(page) == "A Alpha"
     visit(page, "#child/3")
     reload(page, f"document.querySelector('h2') && {RESULT}.includes('Cyd Cole')")
@@ -202,13 +245,17 @@ def test_an_address_that_is_none_shows_nothing(page: Browser, address: str) -> N
 # By keyboard
 
 
-def test_the_first_stop_of_the_keyboard_leads_to_the_content(page: Browser) -> None:
-    opened(page, "/#answers")
+@pytest.mark.parametrize("tabs, stop, there", [
+    (1, "skip-views", ["", "#start"]), (2, "skip", ["heading", None])])
+def test_the_first_stops_of_the_keyboard_lead_past_the_other_screens_and_to_the_content(
+        page: Browser, tabs: int, stop: str, there: list[str | None]) -> None:
+    opened(page, "#answers")
     opened(page)
-    page.press("Tab")
-    assert in_focus(page) == "skip"
+    page.press("Tab", tabs)
+    assert in_focus(page) == stop
     page.press("Enter")
-    assert in_focus(page) == "heading"
+    assert page.value(f"[{FOCUS}.id, {FOCUS}.hash ?? null]") == there
+    assert page.value("location.hash") == ""
 
 
 def test_a_child_is_found_and_leaves_a_list_by_the_keyboard_after_cancelling_once(

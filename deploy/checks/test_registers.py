@@ -1,6 +1,7 @@
-"""Two registers on one machine, secondary 2025 and primary 2026: each has its site, users, network,
-index and log, and nothing of one is seen at the other."""
+"""Two registers on one machine, secondary 2025 and primary 2026: each has its site, application,
+users, network and history, and nothing of one is seen at the other."""
 
+import concurrent.futures
 import json
 from typing import NamedTuple
 
@@ -10,7 +11,8 @@ from checks.browser import browsing
 from checks.commands import amendment, compact
 from checks.page import opened, visit
 from checks.primary import MAIL
-from checks.world import Answer, World, until
+from checks.raw import raw, status_of
+from checks.world import Answer, World, basic
 
 NAMED = "Yan Yew-Oak"
 AMEND = compact(amendment(21, NAMED, 200))
@@ -49,25 +51,34 @@ def test_each_register_has_a_user_of_the_office_and_its_name(world: World, other
 
 
 def test_a_user_of_one_is_nobody_at_the_other(world: World, other: World) -> None:
-    jane, mary = world.passwords["jane"], other.passwords["mary"]
-    assert (other.ask("/child/1", "jane", password=jane).status,
-            world.ask("/child/1", "mary", password=mary).status) == (401, 401)
+    wrong = [other.sign_in("jane", world.passwords["jane"], "--interface", "127.0.2.60"),
+             world.sign_in("mary", other.passwords["mary"], "--interface", "127.0.2.60")]
+    assert [(it.status, it.session) for it in wrong] == [(403, "")] * 2
 
 
-def test_a_mail_address_is_a_name_with_its_role_and_is_whole_in_the_log(other: World) -> None:
+def test_a_session_and_a_token_of_one_are_none_at_the_other(world: World, other: World) -> None:
+    token = basic("robot", world.passwords["robot"])
+    for one, who, foreign in ((other, "mary", world.field("jane")), (other, "mary", token),
+                              (world, "jane", other.field("mary"))):
+        assert status_of(raw(one, "GET /child/1", foreign)) == 401
+        assert status_of(raw(one, "GET /child/1", one.field(who))) == 200
+
+
+def test_a_mail_address_is_a_name_with_its_role_and_is_whole_in_the_history(
+        other: World) -> None:
     assert other.ask("/school/A/waiting", MAIL).status == 200
     assert other.ask("/school/B/waiting", MAIL).status == 403
-    assert other.ask("/school/A/waiting", MAIL, password="wrong").status == 401
-    until(lambda: other.logged().count(',"target":"/school/') >= 3, "the three lines of the log")
-    lines = [it for it in other.entries() if it["target"].startswith("/school/")]
-    assert [(it["who"], it["status"]) for it in lines] == [
-        (MAIL, "200"), (MAIL, "403"), (MAIL, "401")]
+    wrong = other.sign_in(MAIL, "wrong", "--interface", "127.0.2.61")
+    assert (wrong.status, wrong.session) == (403, "")
+    lines = [(it["what"], it["about"]) for it in other.entries() if it["who"] == MAIL]
+    assert lines == [("signed in", {}),
+                     ("refused", {"asked": "GET /school/B/waiting", "role": "school-A"})]
 
 
 def test_a_password_of_one_is_none_at_the_other_for_a_name_that_both_have(
         world: World, other: World) -> None:
-    password = world.passwords["alpha"]
-    assert other.ask("/school/A/waiting", "alpha", password=password).status == 401
+    wrong = other.sign_in("alpha", world.passwords["alpha"], "--interface", "127.0.2.62")
+    assert (wrong.status, wrong.session) == (403, "")
 
 
 def test_a_school_reads_the_list_of_its_own_register(world: World, other: World) -> None:
@@ -80,30 +91,26 @@ def test_a_school_reads_the_list_of_its_own_register(world: World, other: World)
 
 class Sent(NamedTuple):
     """The answers to a command from the page of the other site, and from that of its own; and log
-    of the desk, log of the site and document of the first register, before and after."""
+    of the desk, history and document of the first register, before and after."""
 
     refused: Answer
     done: Answer
-    before: tuple[bytes, str, str]
-    after: tuple[bytes, str, str]
+    before: tuple[object, ...]
+    after: tuple[object, ...]
 
 
 @pytest.fixture(scope="module", name="sent")
 def sent_fixture(world: World, other: World) -> Sent:
     """Sends it to the second register."""
 
-    def documents() -> int:
-        return world.logged().count('"target":"/register","status":"200"')
+    def state() -> tuple[object, ...]:
+        wal = world.file.with_name("reg.db-wal")
+        return wal.read_bytes(), world.entries(), world.ask("/register", "jane").body
 
-    wal = world.file.with_name("reg.db-wal")
-    count, document = documents(), world.ask("/register", "jane").body
-    until(lambda: documents() > count, "the line of the log")
-    before = wal.read_bytes(), world.logged(), document
+    world.session("jane")
+    before = state()
     refused = other.ask("/command", "mary", AMEND, origin=f"https://{world.host}")
-    done = other.ask("/command", "mary", AMEND)
-    until(lambda: '"target":"/command","status":"200"' in other.logged(), "the line of the log")
-    after = wal.read_bytes(), world.logged(), world.ask("/register", "jane").body
-    return Sent(refused, done, before, after)
+    return Sent(refused, other.ask("/command", "mary", AMEND), before, state())
 
 
 def test_a_command_from_the_page_of_the_other_site_is_refused(sent: Sent) -> None:
@@ -115,9 +122,10 @@ def test_a_command_from_the_page_of_its_own_site_is_done(sent: Sent) -> None:
 
 
 @pytest.mark.usefixtures("sent")
-def test_the_command_is_in_the_log_of_its_register(other: World) -> None:
-    done = [it for it in other.entries() if it["target"] == "/command" and it["status"] == "200"]
-    assert [it["body"] for it in done] == [AMEND]
+def test_the_command_is_in_the_history_of_its_register(other: World) -> None:
+    assert other.sent() == [json.loads(AMEND)]
+    [answer] = [it["about"]["answer"] for it in other.entries() if it["what"] == "answer"]
+    assert answer == {"done": True}
 
 
 @pytest.mark.usefixtures("sent")
@@ -165,13 +173,30 @@ def test_the_page_of_each_register_finds_its_own_children(
 
 def test_while_one_desk_is_away_its_site_says_so_and_the_other_register_goes_on(
         world: World, other: World) -> None:
-    before = world.desk.pid
     other.end(other.desk)
     try:
         statuses = other.ask("/child/1", "mary").status, world.ask("/child/1", "jane").status
     finally:
         other.start_desk()
     assert statuses == (502, 200)
+
+
+def test_while_one_application_is_away_the_other_register_goes_on_and_its_own_waits(
+        world: World, other: World) -> None:
+    """The socket is there meanwhile, so what comes is answered when the application is."""
+    with concurrent.futures.ThreadPoolExecutor(1) as pool:
+        other.session("mary")
+        other.end(other.office)
+        waiting = pool.submit(other.ask, "/child/1", "mary")
+        try:
+            assert world.ask("/child/1", "jane").status == 200
+            assert not waiting.done()
+        finally:
+            other.start_office()
+        assert waiting.result().status == 200
+
+
+def test_each_register_is_as_it_was_before_the_restarts(world: World, other: World) -> None:
     letter = other.ask("/child/21/letter", "mary").body
     assert letter.splitlines()[1] == f"Child 21 {NAMED}"
-    assert (world.desk.pid, world.desk.poll()) == (before, None)
+    assert (world.desk.poll(), world.office.poll()) == (None, None)

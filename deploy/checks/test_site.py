@@ -1,13 +1,14 @@
 """Who may do what, and which requests are passed on: each permission and each refusal of the site,
 by curl."""
 
-import base64
 import concurrent.futures
 import itertools
 import json
+import re
 import socket
 import ssl
 import time
+import urllib.parse
 from collections.abc import Callable
 from typing import NamedTuple
 
@@ -15,7 +16,8 @@ import pytest
 
 from checks.expected import headers_differ
 from checks.raw import raw, status_of
-from checks.world import HAS_IPV6, NAME, Answer, World
+from checks.office import Account
+from checks.world import COOKIE, FORM, HAS_IPV6, NAME, Answer, World, basic, group
 
 ACCEPT = '{"cmd":"accept","child":1,"school":"A"}'
 QUESTION = '{"child":3,"lots":[1,2,3],"preferences":["B"]}'
@@ -27,6 +29,8 @@ ROWS = HEAD + "1,Row,0,700,no,,,2025-06-02,B\n"
 EVIL = "https://evil.example"
 HTTP = ("--http1.1", "--http2")
 CHUNKED = ("--header", "Transfer-Encoding: chunked")
+# What a browser sends that goes to a page
+PAGE = ("--header", "Accept: text/html,application/xhtml+xml,*/*;q=0.8")
 Ask = Callable[[World], Answer]
 
 
@@ -50,54 +54,205 @@ def test_nginx_accepts_the_site(world: World) -> None:
 # Who signs in
 
 
-@pytest.mark.parametrize("path", ["/", "/page.js", "/child/1", "/child/1/letter",
-                                  "/school/A/waiting", "/round/1", "/nothing", *WHOLE])
+@pytest.fixture(scope="module", name="screens")
+def screens_fixture(world: World) -> list[str]:
+    """The addresses in the menu of who has most of it."""
+    menu = world.ask("/", "jane").body.partition("<nav")[2].partition("</nav>")[0]
+    return re.findall('href="([^"]+)"', menu)
+
+
+@pytest.mark.parametrize("path", ["/", "/records", "/child/1", "/child/1/letter", "/who",
+                                  "/authority", "/school/A/waiting", "/round/1", *WHOLE])
 def test_nobody_gets_anything_without_signing_in(world: World, path: str) -> None:
     assert world.ask(path).status == 401
 
 
-def test_the_internal_query_for_a_permission_cannot_be_requested(world: World) -> None:
-    assert world.ask("/may", "jane").status == 404
+def test_nobody_gets_a_screen_of_the_menu(world: World, screens: list[str]) -> None:
+    assert len(screens) >= 10
+    assert {path: world.ask(path).status for path in screens} == dict.fromkeys(screens, 401)
+
+
+@pytest.mark.parametrize("path", ["/", "/records", "/child/1", "/people/", "/register"])
+def test_a_browser_of_nobody_is_led_to_the_form_and_from_there_to_the_page(
+        world: World, path: str) -> None:
+    led = world.ask(path, options=PAGE)
+    assert (led.status, urllib.parse.unquote(led.fields["location"])) == (
+        302, f"/sign-in?to={path}")
+    form = world.ask(led.fields["location"], options=PAGE)
+    assert (form.status, f'name="to" value="{path}"' in form.body) == (200, True)
+
+
+def test_who_sends_a_form_without_a_session_is_told_to_sign_in_on_a_page(world: World) -> None:
+    sent = world.ask("/people/", None, "what=lock&name=hal", kind=FORM, options=PAGE)
+    assert (sent.status, sent.fields["content-type"]) == (401, "text/html; charset=utf-8")
+    assert "sign in first" in sent.body
+
+
+def test_the_internal_query_for_a_session_cannot_be_requested(world: World) -> None:
+    assert world.ask("/signed-in", "jane").status == 404
 
 
 def test_nobody_sends_a_command_without_signing_in(world: World) -> None:
     assert world.ask("/command", body=ACCEPT).status == 401
 
 
-def test_a_wrong_password_is_refused(world: World) -> None:
-    assert world.ask("/child/1", "jane", password="wrong").status == 401
+@pytest.mark.parametrize("fields", [("Content-Length: 1000000",), ("Transfer-Encoding: chunked",)])
+@pytest.mark.parametrize("begin", ["POST /command", "POST /import", "PUT /", "GET /child/1"])
+def test_nothing_of_a_body_is_read_of_who_is_not_signed_in(
+        world: World, begin: str, fields: tuple[str, ...]) -> None:
+    """The answer comes although nothing of the body does."""
+    kind = "Content-Type: application/json"
+    assert status_of(raw(world, begin, f"Origin: https://{NAME}", kind, *fields)) == 401
 
 
-def test_the_password_of_a_school_is_refused_for_the_name_of_the_office(world: World) -> None:
-    assert world.ask("/child/1", "jane", password=world.passwords["alpha"]).status == 401
+# Who tries a password of somebody, as each from an address that has tried none yet, and what for
+WRONG = {
+    "a wrong password": ("jane", "wrong"), "the password of a school": ("jane", "alpha"),
+    "a name that is locked": ("smith", "smith"), "the name of a program": ("robot", "robot"),
+    "a name that is not there": ("mallory", "jane"), "no name": ("", "jane"),
+    "no password": ("jane", ""), "a name that is a query": ("' OR 1=1 --", "jane"),
+}
 
 
-def test_an_unknown_name_is_refused(world: World) -> None:
-    assert world.ask("/child/1", options=("--user", "mallory:x")).status == 401
+@pytest.mark.parametrize("what", WRONG)
+def test_a_wrong_sign_in_gets_no_session_and_does_not_learn_what_was_wrong(
+        world: World, what: str) -> None:
+    name, whose = WRONG[what]
+    address = f"127.0.2.{list(WRONG).index(what) + 1}"
+    answer = world.sign_in(name, world.passwords.get(whose, whose), "--interface", address)
+    said = re.findall('role="alert">([^<]*)<', answer.body)
+    assert (answer.status, answer.session, said) == (
+        403, "", ["The name or the password is wrong."])
 
 
-# What the office gets
+def test_after_five_wrong_passwords_an_address_waits_and_then_the_right_one_is_accepted(
+        world: World) -> None:
+    """The wait is twice as long after each more: 1, 2, 4 and then 8 seconds, less those that have
+    passed before the next one is sent."""
+    here = ("--interface", "127.0.2.50")
+    for _ in range(5):
+        assert world.sign_in("hal", "wrong", *here).status == 403
+    waits = [waited(lambda: world.sign_in("hal", "wrong", *here)) for _ in range(3)]
+    waits.append(waited(lambda: world.sign_in("hal", world.passwords["hal"], *here)))
+    assert all(it <= most for it, most in zip(waits, (1, 2, 4, 8)))
+    assert waits[3] > 2
+    assert world.sign_in("hal", "wrong", *here).session == ""
 
 
-def test_the_office_gets_the_page(world: World) -> None:
-    page = world.ask("/", "jane")
+def waited(ask: Callable[[], Answer]) -> int:
+    """Waits as long as an answer says, and asks again, until it is looked at. Returns for how many
+    seconds at most."""
+    seconds = [0]
+    while found := re.search("Try again in ([0-9]+) seconds?", (answer := ask()).body):
+        seconds.append(int(found[1]))
+        time.sleep(seconds[-1])
+    assert answer.status == 303 or "is wrong" in answer.body
+    return max(seconds)
+
+
+def test_a_password_that_was_drawn_is_for_one_sign_in_and_does_nothing_else(world: World) -> None:
+    """So who adds people does not know what they sign in with."""
+    page = world.submit("/people/", "jane", what="add", name="ivy", role="officer", kind="person")
+    drawn = group('<code id="secret">([^<]+)</code>', page.body)
+    answer = world.sign_in("ivy", drawn)
+    world.people = {**world.people, "ivy": Account("officer")}
+    world.passwords["ivy"] = "correct-horse"
+    world.sessions["ivy"] = answer.session, time.monotonic()
+    led = [world.ask("/child/1", "ivy"), world.ask("/command", "ivy", ACCEPT)]
+    assert [(it.status, it.fields["location"]) for it in led] == [(302, "/password")] * 2
+    own = {"present": drawn, "new": "correct-horse", "again": "correct-horse"}
+    assert world.submit("/password", "ivy", **{**own, "present": "wrong"}).status == 403
+    assert world.submit("/password", "ivy", **{**own, "again": "another-horse"}).status == 403
+    assert world.submit("/password", "ivy", **own).status == 303
+    assert world.ask("/child/1", "ivy").status == 200
+    assert world.sign_in("ivy", drawn, "--interface", "127.0.2.51").status == 403
+    assert world.submit("/people/", "jane", what="remove", name="ivy").status == 200
+    assert world.ask("/child/1", "ivy").status == 401
+
+
+def test_the_form_of_another_site_signs_nobody_in(world: World) -> None:
+    """So nobody can be led to type what is theirs into the session of somebody else."""
+    for origin in (EVIL, "null", None):
+        answer = world.sign_in("jane", world.passwords["jane"], origin=origin)
+        assert (answer.status, answer.session) == (403, "")
+
+
+@pytest.mark.parametrize("name, password", [
+    ("robot", "wrong"), ("robot", ""), ("mallory", "x"), ("jane", "jane"), ("jane", "robot"),
+    ("smith", "smith"), ("", "robot")])
+def test_a_wrong_token_and_a_password_in_the_place_of_one_are_refused(
+        world: World, name: str, password: str) -> None:
+    field = basic(name, world.passwords.get(password, password))
+    assert status_of(raw(world, "GET /child/1", field)) == 401
+
+
+def test_a_program_with_its_token_is_known_and_needs_no_session(world: World) -> None:
+    token = world.passwords["robot"]
+    answer = world.ask("/who", None, options=("--user", f"robot:{token}"))
+    assert (answer.status, answer.body) == (200, f"{world.name}\nrobot")
+
+
+def test_the_session_is_in_a_cookie_that_no_script_and_no_other_site_gets(world: World) -> None:
+    """Nor a site of a name below this one, nor one without TLS."""
+    head = world.run("curl", "--silent", "--cacert", world.certificate, "--dump-header", "-",
+                     "--connect-to", f"{NAME}:443:127.0.0.1:{world.site_port}", "--output",
+                     "/dev/null", "--header", f"Origin: https://{NAME}", "--data-urlencode",
+                     "name=hal", "--data-urlencode", f"password={world.passwords['hal']}",
+                     f"https://{NAME}/sign-in").stdout
+    [cookie] = re.findall("(?im)^set-cookie: (.*?)\r?$", head)
+    name, *flags = cookie.split("; ")
+    assert re.fullmatch(f"{COOKIE}=[A-Za-z0-9_-]{{43}}", name)
+    assert sorted(flags) == ["HttpOnly", "Path=/", "SameSite=Strict", "Secure"]
+
+
+def test_who_signs_out_is_signed_in_no_more_even_with_the_cookie(world: World) -> None:
+    before = world.field("hal")
+    assert status_of(raw(world, "GET /child/1", before)) == 200
+    answer = world.submit("/sign-out", "hal")
+    assert (answer.status, answer.fields["location"]) == (303, "/sign-in")
+    world.sessions.pop("hal")
+    assert status_of(raw(world, "GET /child/1", before)) == 401
+
+
+@pytest.mark.parametrize("secret", ["", "x", "A" * 43, "%00", "' OR 1=1 --", "x" * 7000])
+def test_a_session_that_is_none_is_refused(world: World, secret: str) -> None:
+    assert status_of(raw(world, "GET /child/1", f"Cookie: {COOKIE}={secret}")) == 401
+
+
+def test_a_session_in_a_cookie_of_another_name_is_none(world: World) -> None:
+    secret = world.session("jane")
+    assert status_of(raw(world, "GET /child/1", f"Cookie: admissions={secret}")) == 401
+
+
+# What the office gets, a person as well as a program
+
+
+@pytest.fixture(name="who", params=["jane", "hal", "rita", "robot"])
+def who_fixture(request: pytest.FixtureRequest) -> str:
+    """A head of the office, an officer, a reader, and a program."""
+    name: str = request.param
+    return name
+
+
+def test_the_office_gets_the_page(world: World, who: str) -> None:
+    page = world.ask("/records", who)
     assert (page.status, "School admissions" in page.body) == (200, True)
 
 
 def test_the_page_may_load_nothing_from_elsewhere_and_run_no_script_but_its_own(
         world: World) -> None:
-    policy = world.ask("/", "jane").fields.get("content-security-policy", "")
+    policy = world.ask("/records", "jane").fields.get("content-security-policy", "")
     assert policy.split("; ")[:2] == ["default-src 'none'", "script-src 'self'"]
 
 
-@pytest.mark.parametrize("path, kind", [("/page.css", "text/css"),
-                                        ("/page.js", "application/javascript")])
+@pytest.mark.parametrize("path, kind", [("/page.css", "text/css; charset=utf-8"),
+                                        ("/page.js", "text/javascript; charset=utf-8")])
 def test_a_file_of_the_page_has_its_type(world: World, path: str, kind: str) -> None:
     assert world.ask(path, "jane").fields.get("content-type") == kind
 
 
-def test_the_office_reads_a_child(world: World) -> None:
-    child = world.ask("/child/2", "jane")
+def test_the_office_reads_a_child(world: World, who: str) -> None:
+    child = world.ask("/child/2", who)
     assert (child.status, child.body) == (
         200, '{"child":2,"place":{"kind":"offered","school":"B"},'
         '"waiting":[{"position":1,"school":"A"}]}')
@@ -114,13 +269,23 @@ def test_nothing_is_kept_in_a_cache_or_taken_for_another_type(world: World) -> N
     ("/school/A/waiting", "Waiting list of A Alpha"),
     ("/round/1", "Round 1, draw 1, 2025-03-03"),
 ])
-def test_the_office_reads_letters_lists_and_reports(world: World, path: str, first: str) -> None:
-    answer = world.ask(path, "jane")
+def test_the_office_reads_letters_lists_and_reports(
+        world: World, who: str, path: str, first: str) -> None:
+    answer = world.ask(path, who)
     assert (answer.status, answer.body.split("\n")[0]) == (200, first)
 
 
-def test_the_office_asks_what_would_be(world: World) -> None:
-    assert world.ask("/what-if", "jane", QUESTION).status == 200
+@pytest.mark.parametrize("path, begin", [
+    ("/register", '{"children":['), ("/draw/1", '{"day":"2025-03-03"'),
+    ("/pairs", "A 2\n"), ("/pairs/A", "A 2\n")])
+def test_the_office_reads_what_shows_all_children(
+        world: World, who: str, path: str, begin: str) -> None:
+    answer = world.ask(path, who)
+    assert (answer.status, answer.body[:len(begin)]) == (200, begin)
+
+
+def test_the_office_asks_what_would_be(world: World, who: str) -> None:
+    assert world.ask("/what-if", who, QUESTION).status == 200
 
 
 @pytest.mark.parametrize("path", ["/child/7", "/school/X/waiting", "/round/2", "/nothing"])
@@ -135,7 +300,7 @@ def test_the_site_is_at_ipv6_too(world: World) -> None:
 
 
 @pytest.mark.parametrize("method, path, status", [("GET", "/command", 405),
-                                                  ("PUT", "/child/1", 501)])
+                                                  ("PUT", "/child/1", 405)])
 def test_another_method_is_refused(world: World, method: str, path: str, status: int) -> None:
     assert world.ask(path, "jane", options=("--request", method)).status == status
 
@@ -149,8 +314,8 @@ def test_a_school_reads_its_own_list(world: World) -> None:
 
 
 @pytest.mark.parametrize("path", ["/school/B/waiting", "/school/AA/waiting", "/school/a/waiting",
-                                  "/child/2", "/child/2/letter", "/round/1", "/", "/page.js",
-                                  "/nothing", *WHOLE])
+                                  "/child/2", "/child/2/letter", "/round/1", "/records", "/who",
+                                  "/authority", *WHOLE])
 def test_a_school_reads_nothing_else(world: World, path: str) -> None:
     assert world.ask(path, "alpha").status == 403
 
@@ -158,31 +323,64 @@ def test_a_school_reads_nothing_else(world: World, path: str) -> None:
 @pytest.mark.parametrize("path", [
     "/school/A/../B/waiting", "/school/B/waiting?/school/A/waiting", "//school/B/waiting",
     "/school/%42/waiting", "/school/B%2Fwaiting", "/school/A/waiting/../../B/waiting",
-    "/school/A/waiting?"])
+    "/school/A%2f..%2fB/waiting", "/school/A/waiting%00/../../B/waiting", "/school/B/waiting/",
+    f"https://{NAME}/school/B/waiting"])
 def test_a_school_reads_no_other_list_by_another_way(world: World, path: str) -> None:
-    assert status_of(raw(world, f"GET {path}", world.basic("alpha"))) == 403
+    answer = raw(world, f"GET {path}", world.field("alpha"))
+    assert status_of(answer) in (308, 400, 403, 404)
+    assert "Cyd Cole" not in answer and "Waiting list" not in answer
 
 
-@pytest.mark.parametrize("path, body", [
-    ("/command", ACCEPT), ("/what-if", QUESTION), ("/school/A/waiting", ACCEPT)])
-def test_a_school_sends_nothing(world: World, path: str, body: str) -> None:
-    assert world.ask(path, "alpha", body).status == 403
+def test_a_school_reads_its_own_list_by_another_way(world: World) -> None:
+    for path in ("/school/A/waiting?", f"https://{NAME}/school/A/waiting"):
+        answer = raw(world, f"GET {path}", world.field("alpha"))
+        assert (status_of(answer), "Waiting list of A Alpha" in answer) == (200, True)
 
 
-# What a family gets
+@pytest.mark.parametrize("path, body, status", [
+    ("/command", ACCEPT, 403), ("/what-if", QUESTION, 403), ("/school/A/waiting", ACCEPT, 405)])
+def test_a_school_sends_nothing(world: World, path: str, body: str, status: int) -> None:
+    assert world.ask(path, "alpha", body).status == status
 
 
-@pytest.mark.parametrize("path", ["/", "/child/1", "/child/1/letter", "/school/A/waiting",
-                                  "/round/1", *WHOLE])
-def test_a_family_that_signs_in_gets_nothing(world: World, path: str) -> None:
-    assert world.ask(path, "smith").status == 403
+def test_a_school_gets_only_screens_of_its_own(world: World, screens: list[str]) -> None:
+    statuses = {path: world.ask(path, "alpha").status for path in screens}
+    assert {path: it for path, it in statuses.items() if it != 403} == {"/": 302}
+    # (fields of an answer are in small letters here)
+    assert world.ask("/", "alpha").fields["location"] == "/schools/a"
 
 
-def test_a_family_sends_no_command(world: World) -> None:
-    assert world.ask("/command", "smith", ACCEPT).status == 403
+# What others get who sign in
 
 
-# What a page of another site can make a browser send, with the password of who is signed in
+@pytest.mark.parametrize("path", ["/records", "/child/1", "/child/1/letter", "/school/A/waiting",
+                                  "/round/1", "/who", "/authority", *WHOLE])
+@pytest.mark.parametrize("name", ["sup", "adam"])
+def test_who_draws_lots_and_who_adds_people_see_no_child(
+        world: World, name: str, path: str) -> None:
+    assert world.ask(path, name).status == 403
+
+
+@pytest.mark.parametrize("name", ["sup", "adam", "rita"])
+def test_they_and_a_reader_send_no_command_and_no_rows(world: World, name: str) -> None:
+    assert [world.ask("/command", name, ACCEPT).status,
+            world.ask("/import", name, ROWS, kind="text/csv").status] == [403, 403]
+
+
+@pytest.mark.parametrize("name, own", [("sup", "/lots/"), ("adam", "/people/")])
+def test_each_gets_what_is_its_own(world: World, name: str, own: str) -> None:
+    assert [world.ask(own, it).status for it in (name, "rita", "alpha")] == [200, 403, 403]
+
+
+def test_who_is_refused_is_on_record_with_what_was_asked_and_once_in_a_minute(
+        world: World) -> None:
+    before = len(world.entries())
+    assert [world.ask("/child/31", "alpha").status for _ in range(3)] == [403] * 3
+    refused = [(it["who"], it["what"], it["about"]) for it in world.entries()[before:]]
+    assert refused == [("alpha", "refused", {"asked": "GET /child/31", "role": "school-A"})]
+
+
+# What a page of another site can make a browser send, with the session of who is signed in
 
 
 @pytest.mark.parametrize("origin", [
@@ -197,29 +395,49 @@ def test_a_command_from_another_page_is_refused(world: World, origin: str | None
     assert world.ask("/command", "jane", ACCEPT, origin=origin).status == 403
 
 
-@pytest.mark.parametrize("kind", [
-    "application/x-www-form-urlencoded", "text/plain", "multipart/form-data; boundary=x",
-    "application/json, text/plain", "", "text/csv"])
-def test_a_command_of_another_type_is_refused(world: World, kind: str) -> None:
-    assert world.ask("/command", "jane", ACCEPT, kind=kind).status == 415
+@pytest.mark.parametrize("kind, status", [
+    (FORM, 403), ("text/plain", 403), ("multipart/form-data; boundary=x", 403),
+    ("application/json, text/plain", 415), ("", 403), ("text/csv", 415)])
+@pytest.mark.parametrize("name", ["jane", "robot"])
+def test_a_command_of_another_type_is_refused(
+        world: World, name: str, kind: str, status: int) -> None:
+    assert world.ask("/command", name, ACCEPT, kind=kind).status == status
 
 
-@pytest.mark.parametrize("kind", ["application/json", "text/plain", "text/csv, text/plain", ""])
-def test_rows_of_another_type_are_refused(world: World, kind: str) -> None:
-    assert world.ask("/import", "jane", ROWS, kind=kind).status == 415
+@pytest.mark.parametrize("kind, status", [("application/json", 415), ("text/plain", 403),
+                                          ("text/csv, text/plain", 415), ("", 403)])
+def test_rows_of_another_type_are_refused(world: World, kind: str, status: int) -> None:
+    assert world.ask("/import", "jane", ROWS, kind=kind).status == status
 
 
 def test_rows_from_another_site_are_refused(world: World) -> None:
     assert world.ask("/import", "jane", ROWS, origin=EVIL, kind="text/csv").status == 403
 
 
-@pytest.mark.parametrize("who, status", [(None, 401), ("smith", 403), ("alpha", 403)])
-def test_nobody_but_the_office_sends_rows(world: World, who: str | None, status: int) -> None:
-    assert world.ask("/import", who, ROWS, kind="text/csv").status == status
+def test_nobody_but_the_office_sends_rows(world: World) -> None:
+    statuses = [world.ask("/import", who, ROWS, kind="text/csv").status for who in (None, "alpha")]
+    assert statuses == [401, 403]
 
 
 def test_a_question_from_another_site_is_refused(world: World) -> None:
     assert world.ask("/what-if", "jane", QUESTION, origin=EVIL).status == 403
+
+
+@pytest.mark.parametrize("secret", ["", "x", "of another session"])
+def test_a_form_without_the_secret_of_its_session_is_refused(world: World, secret: str) -> None:
+    """As one that another site has prepared, even if a browser names the wrong origin."""
+    page = world.ask("/password", "hal").body
+    found = re.findall('name="form" value="([^"]+)"', page)[0] if len(secret) > 1 else secret
+    form = {"what": "lock", "name": "rita", "form": found}
+    answer = world.ask("/people/", "jane", urllib.parse.urlencode(form), kind=FORM)
+    assert (answer.status, world.ask("/child/1", "rita").status) == (403, 200)
+
+
+def test_a_form_with_its_secret_from_another_site_is_refused(world: World) -> None:
+    secret = re.findall('name="form" value="([^"]+)"', world.ask("/people/", "jane").body)[0]
+    form = urllib.parse.urlencode({"what": "lock", "name": "rita", "form": secret})
+    answer = world.ask("/people/", "jane", form, EVIL, FORM)
+    assert (answer.status, world.ask("/child/1", "rita").status) == (403, 200)
 
 
 def test_another_site_is_not_permitted_to_ask(world: World) -> None:
@@ -227,7 +445,7 @@ def test_another_site_is_not_permitted_to_ask(world: World) -> None:
         "--request", "OPTIONS", "--header", f"Origin: {EVIL}",
         "--header", "Access-Control-Request-Method: POST"))
     permissions = [name for name in asked.fields if name.startswith("access-control")]
-    assert (asked.status, permissions) == (501, [])
+    assert (asked.status, permissions) == (403, [])
 
 
 # What is too long
@@ -240,9 +458,24 @@ def test_a_body_of_the_greatest_length_reaches_the_desk(world: World) -> None:
 
 
 @pytest.mark.parametrize("options", [(), CHUNKED])
+@pytest.mark.parametrize("path, kind", [("/command", "application/json"), ("/import", "text/csv"),
+                                        ("/what-if", "application/json")])
 def test_a_body_of_one_byte_more_is_refused(
-        world: World, long_body: str, options: tuple[str, ...]) -> None:
-    assert world.ask("/command", "jane", long_body, options=options).status == 413
+        world: World, long_body: str, path: str, kind: str, options: tuple[str, ...]) -> None:
+    assert world.ask(path, "jane", long_body, kind=kind, options=options).status == 413
+
+
+def test_a_body_that_is_longer_than_what_a_head_may_be_is_done(world: World) -> None:
+    """As a workbook, or many rows, is."""
+    rows = HEAD + "".join(f"1,Row,0,700,no,,,2025-06-02,{'B' * 12}\n" for _ in range(1000))
+    answer = world.ask("/import", "jane", rows, kind="text/csv")
+    assert len(rows) > 20_000
+    assert (answer.status, json.loads(answer.body)["fault"] > 0) == (400, True)
+
+
+def test_a_sign_in_of_over_8_kb_is_not_read(world: World) -> None:
+    answer = world.sign_in("jane", "x" * 8192, "--interface", "127.0.2.40")
+    assert (answer.status, answer.session) == (413, "")
 
 
 # (over HTTP/2 the site closes the connection instead of an answer)
@@ -327,32 +560,41 @@ def shake_hands(world: World, context: ssl.SSLContext, name: str) -> None:
 # What each answer of the site has: a reason that helps, where the site itself refuses; and each
 # header of the list, and none but those
 
-SIGN_IN = "sign in with a name and a password of this site"
-NO_LEAVE = "the name that signed in may not do this"
-NOT_FROM_HERE = ("a POST must come from a page of this site: a program sends the address of the"
-                 " site as Origin")
-LONG_BODY = "a body has at most 1,048,576 bytes"
+SIGN_IN, NOT_FROM_HERE = "sign in first", "a request must come from a page of this site"
+LONG_BODY = "a body has at most 16 MB, and that of a sign-in 8 KB"
+LONG_COMMAND = "the register takes at most 1,048,576 bytes at once"
 NO_REQUEST = "this is no request that the site reads, or its head has over 8 KB"
 # What is asked, its status and the reason
 REFUSED: dict[str, tuple[Ask, int, str]] = {
     "no sign-in": (lambda world: world.ask("/child/1"), 401, SIGN_IN),
-    "a wrong password": (
-        lambda world: world.ask("/child/1", "jane", password="wrong"), 401, SIGN_IN),
-    "a name without a role": (lambda world: world.ask("/child/1", "smith"), 403, NO_LEAVE),
-    "another school": (lambda world: world.ask("/school/B/waiting", "alpha"), 403, NO_LEAVE),
+    "a command of nobody": (lambda world: world.ask("/command", None, ACCEPT), 401, SIGN_IN),
+    "a wrong token": (
+        lambda world: world.ask("/child/1", options=("--user", "robot:wrong")), 401, SIGN_IN),
+    "a role": (lambda world: world.ask("/command", "rita", ACCEPT), 403,
+               "the role reader may not do this"),
+    "another school": (lambda world: world.ask("/school/B/waiting", "alpha"), 403,
+                       "the role school-A may not do this"),
     "another site": (
         lambda world: world.ask("/command", "jane", ACCEPT, origin=EVIL), 403, NOT_FROM_HERE),
-    "no JSON": (lambda world: world.ask("/command", "jane", ACCEPT, kind="text/plain"), 415,
-                "a POST must be application/json, and one to /import text/csv"),
+    "no JSON": (
+        lambda world: world.ask("/command", "jane", ACCEPT, kind="text/plain"), 403, NOT_FROM_HERE),
+    "rows that are a command": (
+        lambda world: world.ask("/command", "jane", ACCEPT, kind="text/csv"), 415,
+        "this takes application/json alone"),
     "no such file": (
         lambda world: world.ask("/nothing.js", "jane"), 404, "there is no such page"),
     "a POST to the page": (
-        lambda world: world.ask("/", "jane", ACCEPT), 405, "the page takes no such request"),
+        lambda world: world.ask("/records", "jane", ACCEPT), 405, "the page takes no such request"),
+    "a long command": (
+        lambda world: world.ask("/command", "jane", f"@{world.room}/long-body"), 413, LONG_COMMAND),
     "a long body": (
-        lambda world: world.ask("/command", "jane", f"@{world.room}/long-body"), 413, LONG_BODY),
+        lambda world: world.ask("/command", "jane", f"@{world.room}/longest-body"), 413, LONG_BODY),
     "a long body in chunks": (
-        lambda world: world.ask("/command", "jane", f"@{world.room}/long-body", options=CHUNKED),
+        lambda world: world.ask("/command", "jane", f"@{world.room}/longest-body", options=CHUNKED),
         413, LONG_BODY),
+    "a long sign-in": (
+        lambda world: world.sign_in("jane", "x" * 8192, "--interface", "127.0.2.40"), 413,
+        LONG_BODY),
     "a long address": (
         lambda world: world.ask("/" + "x" * 8192, "jane", options=("--http1.1",)), 414,
         "an address has at most 8 KB"),
@@ -363,8 +605,8 @@ REFUSED: dict[str, tuple[Ask, int, str]] = {
         lambda world: world.ask("/child/1", "jane", options=(
             "--http1.1", "--header", "Content-Length: x")), 400, NO_REQUEST),
 }
-PATHS = ("/", "/page.js", "/who", "/authority", "/register", "/child/2", "/child/2/letter",
-         "/school/A/waiting", "/round/1", "/child/7", "/command")
+PATHS = ("/", "/records", "/page.js", "/who", "/authority", "/register", "/child/2",
+         "/child/2/letter", "/school/A/waiting", "/round/1", "/child/7", "/command", "/people/")
 # Others, of which the desk refuses some
 OTHERS: dict[str, Ask] = {
     "a command that is refused": lambda world: world.ask(
@@ -374,12 +616,23 @@ OTHERS: dict[str, Ask] = {
     "a part": lambda world: world.ask("/page.js", "jane", options=("--range", "0-1")),
     "no such part": lambda world: world.ask("/page.js", "jane", options=("--range", "99999999-")),
     "compressed": lambda world: world.ask("/register", "jane", options=("--compressed",)),
+    "the form": lambda world: world.ask("/sign-in"),
+    "a page of nobody": lambda world: world.ask("/records", options=PAGE),
+    "a form of nobody": lambda world: world.ask(
+        "/people/", None, "what=lock", kind=FORM, options=PAGE),
+    "a long form": lambda world: world.ask(
+        "/people/", "jane", f"@{world.room}/longest-body", kind=FORM, options=PAGE),
+    "a sign-in": lambda world: world.sign_in("adam", world.passwords["adam"]),
+    "a wrong sign-in": lambda world: world.sign_in("adam", "wrong", "--interface", "127.0.2.41"),
+    "a page that is refused": lambda world: world.ask("/records", "alpha", options=PAGE),
+    "a page that is not there": lambda world: world.ask("/nothing", "jane", options=PAGE),
 }
 
 
 @pytest.fixture(scope="module", name="answers")
 def answers_fixture(world: World, long_body: str) -> dict[str, Answer]:
-    """The answer to each of these. (Two of them send the long body.)"""
+    """The answer to each of these. (Three of them send a long body.)"""
+    (world.room / "longest-body").write_text(" " * ((16 << 20) + 1))
     answers = {what: ask(world) for what, (ask, _, _) in REFUSED.items()}
     answers |= {path: world.ask(path, "jane") for path in PATHS}
     return answers | {what: ask(world) for what, ask in OTHERS.items()}
@@ -407,9 +660,8 @@ def test_a_request_for_another_host_gets_the_reason(world: World) -> None:
         421, {"reason": "this machine has no site of this name", "status": 421}, "nginx")
 
 
-def test_only_who_is_not_signed_in_is_asked_to_sign_in(answers: dict[str, Answer]) -> None:
-    asked = [what for what in REFUSED if "www-authenticate" in answers[what].fields]
-    assert asked == ["no sign-in", "a wrong password"]
+def test_no_answer_has_a_browser_ask_for_a_password_by_itself(answers: dict[str, Answer]) -> None:
+    assert [what for what, it in answers.items() if "www-authenticate" in it.fields] == []
 
 
 def test_the_register_is_compressed_for_whoever_takes_that_and_is_the_same(
@@ -420,105 +672,118 @@ def test_the_register_is_compressed_for_whoever_takes_that_and_is_the_same(
     assert compressed.body == plain.body
 
 
-def test_what_is_no_json_is_not_compressed(world: World) -> None:
-    script = world.ask("/page.js", "jane", options=("--compressed",))
-    assert script.fields.get("content-encoding") is None
+@pytest.mark.parametrize("path", ["/page.js", "/", "/records", "/people/", "/child/2", "/who"])
+def test_what_has_a_secret_beside_something_of_the_request_is_not_compressed(
+        world: World, path: str) -> None:
+    answer = world.ask(path, "jane", options=("--compressed",))
+    assert (answer.status, answer.fields.get("content-encoding")) == (200, None)
 
 
 def test_the_answers_have_each_status_of_the_desk(answers: dict[str, Answer]) -> None:
     assert sorted({answers[what].status for what in (*PATHS, *OTHERS)}) == [
-        200, 206, 400, 404, 405, 409, 416, 501]
+        200, 206, 302, 303, 400, 401, 403, 404, 405, 409, 413, 416]
 
 
 @pytest.mark.parametrize("what", [*REFUSED, *PATHS, *OTHERS])
 def test_an_answer_has_each_header_of_the_list_and_no_other(
         answers: dict[str, Answer], what: str) -> None:
-    assert headers_differ(answers[what].fields) == []
+    """A browser may keep the files of the page, which are everybody's, and asks whether they are
+    still the same."""
+    fields = answers[what].fields
+    if what in ("/page.js", "a part"):
+        assert fields["cache-control"] == "no-cache"
+        fields = fields | {"cache-control": "no-store"}
+    assert headers_differ(fields) == []
 
 
-# What somebody without a password can have written into the logs
+def test_a_file_of_the_page_is_not_sent_again_while_it_is_the_same(
+        world: World, answers: dict[str, Answer]) -> None:
+    etag = answers["/page.js"].fields["etag"]
+    again = world.ask("/page.js", options=("--header", f"If-None-Match: {etag}"))
+    assert (again.status, again.body) == (304, "")
 
 
-def basic_of(name: str) -> str:
-    """A sign-in with a name and a wrong password."""
-    return "Authorization: Basic " + base64.b64encode(name.encode("latin-1") + b":x").decode()
+# What somebody without a password can have written on a disk: nothing
+
+
+def tries(name: str) -> str:
+    """A name with a token that is wrong."""
+    return basic(name, "x")
 
 
 LONG, EMPTY = "/" + '"' * 7000, "Content-Length: 0"
 UNSIGNED = {
     "nothing but a target": (f"GET {LONG}",),
-    "bytes that are no UTF-8": ("GET /\xe9\xff", basic_of("\xff\xfe")),
-    "a name of 5,400 bytes 1": ("GET /", basic_of("\1" * 5400)),
-    "a target of 7,000 quotes": (f"GET {LONG}", basic_of("jane")),
+    "bytes that are no UTF-8": ("GET /\xe9\xff", tries("\xff\xfe")),
+    "a name of 5,400 bytes 1": ("GET /", tries("\1" * 5400)),
+    "a target of 7,000 quotes": (f"GET {LONG}", tries("robot")),
     "a long POST from elsewhere": (
-        f"POST {LONG}", basic_of("jane"), "Content-Type: application/json", EMPTY),
+        f"POST {LONG}", tries("robot"), "Content-Type: application/json", EMPTY),
     "one of another type": (
-        f"POST {LONG}", basic_of("jane"), f"Origin: https://{NAME}", "Content-Type: x", EMPTY),
-    "a method of 7,000 letters": (f"{'G' * 7000} /", basic_of("jane")),
-    "no request": (f"GET {LONG} {LONG}", basic_of("jane")),
-    "a long address": (f"GET {LONG}{LONG}", basic_of("jane")),
-    "the longest plain name and a long target": (f"GET /{'x' * 7000}", basic_of("a" * 64)),
+        f"POST {LONG}", tries("robot"), f"Origin: https://{NAME}", "Content-Type: x", EMPTY),
+    "a method of 7,000 letters": (f"{'G' * 7000} /", tries("robot")),
+    "no request": (f"GET {LONG} {LONG}", tries("robot")),
+    "a long address": (f"GET {LONG}{LONG}", tries("robot")),
+    "the longest plain name and a long target": (f"GET /{'x' * 7000}", tries("a" * 64)),
     "a referrer and a browser": (
-        "GET /", basic_of("jane"), "Referer: " + "r" * 3000, "User-Agent: " + "u" * 3000),
+        "GET /", tries("robot"), "Referer: " + "r" * 3000, "User-Agent: " + "u" * 3000),
+    "a cookie of 7,000 bytes": ("GET /", f"Cookie: {COOKIE}={'x' * 7000}"),
 }
 # The address that these come from
 STRANGER = "127.0.0.4"
 
 
-@pytest.fixture(scope="module", name="written")
-def written_fixture(world: World) -> dict[str, tuple[int, int]]:
-    """The status of the answer to each, and by how many bytes the logs have grown."""
-    logs = [world.room / "log" / name for name in ("asked.log", "errors.log", "nginx")]
-    written = {}
-    for what, sent in UNSIGNED.items():
-        before = sum(it.stat().st_size for it in logs)
-        status = status_of(raw(world, *sent, source=STRANGER))
-        written[what] = status, sum(it.stat().st_size for it in logs) - before
-    return written
+def written(world: World) -> int:
+    """How many bytes there are in the history and the logs."""
+    files = [world.room / "office/history.jsonl", *(world.room / "log").iterdir()]
+    return sum(it.stat().st_size for it in files)
 
 
 @pytest.mark.parametrize("what", UNSIGNED)
-def test_who_is_not_signed_in_writes_no_line_of_over_300_bytes(
-        written: dict[str, tuple[int, int]], what: str) -> None:
-    status, size = written[what]
-    assert status in (400, 401, 403, 414, 415)
-    assert size <= 300
+def test_who_is_not_signed_in_writes_nothing(world: World, what: str) -> None:
+    before = written(world)
+    status = status_of(raw(world, *UNSIGNED[what], source=STRANGER))
+    assert status in (400, 401, 404, 405, 414)
+    assert written(world) == before
 
 
-@pytest.mark.usefixtures("written")
-def test_without_a_name_no_line_is_written_and_with_one_a_line_without_what_is_odd(
-        world: World) -> None:
-    lines = [it for it in world.entries() if it["from"] == STRANGER]
-    assert [(it["who"], it["method"], it["target"], it["status"]) for it in lines] == [
-        ("?", "GET", "/", "401"), ("?", "GET", "/", "401"), ("jane", "GET", "/", "401"),
-        ("jane", "POST", "/", "403"), ("jane", "POST", "/", "415"), ("jane", "?", "/", "401"),
-        ("a" * 64, "GET", "/" + "x" * 79, "401"), ("jane", "GET", "/", "401")]
+@pytest.mark.parametrize("name", ["jane", "nobody", "\0\1\2", "\ud800", "é" * 900, '"\n{}'])
+def test_a_wrong_sign_in_writes_nothing(world: World, name: str) -> None:
+    before = written(world)
+    form = urllib.parse.urlencode({"name": name.encode("utf-8", "surrogatepass"), "password": "x"})
+    answer = world.ask("/sign-in", None, form, kind=FORM, options=("--interface", STRANGER))
+    assert (answer.status, answer.session, written(world)) == (403, "", before)
 
 
-def test_who_is_signed_in_is_logged_whole(world: World) -> None:
+def test_what_is_no_text_is_answered_by_the_register_and_is_in_no_history(world: World) -> None:
+    before = len(world.entries())
     body = '{"cmd":"accept","child":1,"school":"\xff\xfe"}'
-    raw(world, "POST /command", world.basic("jane"), f"Origin: https://{NAME}",
-        "Content-Type: application/json", f"Content-Length: {len(body)}", source=STRANGER)
-    begin = f'"who":"jane","from":"{STRANGER}","method":"POST","target":"/command","status":"4'
-    assert begin in world.logged()
+    answer = raw(world, "POST /command", world.field("jane"), f"Origin: https://{NAME}",
+                 "Content-Type: application/json", f"Content-Length: {len(body)}", "",
+                 body, source=STRANGER)
+    assert (status_of(answer), world.entries()[before:]) == (400, [])
 
 
-# Many wrong passwords from one address: all are refused, some of them without a look at what was
+# Many wrong passwords from one address: all are refused, most of them without a look at what was
 # sent; and nobody else is kept out
 
 
 class Tries(NamedTuple):
-    """The answers to 200 wrong passwords; and meanwhile from there to the right one, and to none,
-    and from another address to a wrong one; and the lines of the log."""
+    """The answers to 200 wrong passwords, and in how many seconds they came; and meanwhile from
+    there to the right one, to none, to a session and to a token, and from another address to the
+    right one; and how many entries the history has more."""
 
     wrong: list[Answer]
+    seconds: float
     right: Answer
     unsigned: Answer
+    session: Answer
+    token: Answer
     elsewhere: Answer
     lines: int
 
     def refused(self) -> list[Answer]:
-        """Those that were refused without a look."""
+        """Those that did not reach the application."""
         return [it for it in self.wrong if it.status == 429]
 
 
@@ -526,31 +791,37 @@ class Tries(NamedTuple):
 def tries_fixture(world: World) -> Tries:
     """Sends them."""
     here, elsewhere = ("--interface", "127.0.0.3"), ("--interface", "127.0.0.5")
-    before = len(world.entries())
+    world.ask("/child/1", "jane")
+    before, began = len(world.entries()), time.monotonic()
     with concurrent.futures.ThreadPoolExecutor(40) as pool:
-        wrong = list(pool.map(lambda _: world.ask(
-            "/child/1", "jane", password="wrong", options=here), range(200)))
-    lines = len(world.entries()) - before
-    return Tries(wrong, world.ask("/child/1", "jane", options=here),
-                 world.ask("/child/1", options=here),
-                 world.ask("/child/1", "jane", password="wrong", options=elsewhere), lines)
+        wrong = list(pool.map(lambda _: world.sign_in("rita", "wrong", *here), range(200)))
+    seconds, lines = time.monotonic() - began, len(world.entries()) - before
+    # (the site may let one pass again only after a second)
+    answers = (world.sign_in("rita", world.passwords["rita"], *here) for _ in range(100))
+    right = next(it for it in answers if it.status != 429)
+    return Tries(wrong, seconds, right, world.ask("/child/1", options=here),
+                 world.ask("/child/1", "jane", options=here),
+                 world.ask("/child/1", "robot", options=here),
+                 world.sign_in("rita", world.passwords["rita"], *elsewhere), lines)
 
 
 def test_of_200_wrong_passwords_from_one_address_all_are_refused(tries: Tries) -> None:
-    assert sorted({it.status for it in tries.wrong}) == [401, 429]
+    assert sorted({it.status for it in tries.wrong}) == [403, 429]
+    assert {it.session for it in tries.wrong} == {""}
 
 
-def test_at_most_one_each_second_after_the_first_hundred_is_looked_at(tries: Tries) -> None:
-    assert 100 <= len(tries.wrong) - len(tries.refused()) <= 160
+def test_at_most_two_each_second_after_the_first_thirty_reach_the_application(
+        tries: Tries) -> None:
+    assert 30 <= len(tries.wrong) - len(tries.refused()) <= 33 + 2 * tries.seconds
 
 
-def test_a_sign_in_that_is_not_looked_at_leaves_no_line_in_the_log(tries: Tries) -> None:
-    assert tries.lines == len(tries.wrong) - len(tries.refused())
+def test_a_wrong_sign_in_leaves_no_line_in_the_history(tries: Tries) -> None:
+    assert tries.lines == 0
 
 
 def test_who_is_not_looked_at_is_asked_to_wait(tries: Tries) -> None:
     assert {(it.body, it.fields.get("retry-after")) for it in tries.refused()} == {
-        ('{"reason":"too many requests or failed sign-ins from this address: wait some seconds",'
+        ('{"reason":"too many requests or sign-ins from this address: wait some seconds",'
          '"status":429}', "10")}
 
 
@@ -558,8 +829,15 @@ def test_who_is_not_looked_at_gets_each_header_of_the_list(tries: Tries) -> None
     assert [headers_differ(it.fields) for it in tries.refused()[:1]] == [[]]
 
 
-def test_the_right_password_is_accepted_from_there_meanwhile(tries: Tries) -> None:
-    assert tries.right.status == 200
+def test_the_right_password_is_not_tried_from_there_meanwhile_and_who_has_it_learns_that(
+        tries: Tries) -> None:
+    """Otherwise one that is guessed at the tenth try would be found."""
+    assert (tries.right.status, tries.right.session) == (403, "")
+    assert re.search("Too many attempts failed. Try again in [0-9]+ seconds?", tries.right.body)
+
+
+def test_who_is_signed_in_and_a_program_go_on_there_meanwhile(tries: Tries) -> None:
+    assert (tries.session.status, tries.token.status) == (200, 200)
 
 
 def test_who_gives_no_password_is_asked_for_one_there_meanwhile(tries: Tries) -> None:
@@ -567,72 +845,53 @@ def test_who_gives_no_password_is_asked_for_one_there_meanwhile(tries: Tries) ->
 
 
 def test_another_address_is_not_concerned(tries: Tries) -> None:
-    assert tries.elsewhere.status == 401
+    assert (tries.elsewhere.status, bool(tries.elsewhere.session)) == (303, True)
 
 
-# How long an answer takes to a name that is there, with a password whose check takes some tenths
-# of a second, and to one that is not
+# How long a wrong sign-in takes with a name that is there, whose password is looked at for some
+# tenths of a second, and with others
 
 
-class Times(NamedTuple):
-    """Seconds: of the check of that password, and until a known and an unknown name get an
-    answer."""
+@pytest.fixture(scope="module", name="times")
+def times_fixture(world: World) -> dict[str, float]:
+    """The seconds of a right sign-in, and of wrong ones with each kind of name. Whoever else uses
+    the processors can only make an answer later: so the quickest ones are compared, and more are
+    asked for until those are near each other. Each comes from an address that has not tried yet."""
+    kinds = {"right": ("jane", "jane"), "known": ("jane", "wrong"), "unknown": ("nobody", "wrong"),
+             "locked": ("smith", "smith"), "a program": ("robot", "robot")}
+    found = dict.fromkeys(kinds, float("inf"))
+    for turn in range(40):
+        for at, (kind, (name, whose)) in enumerate(kinds.items()):
+            form = urllib.parse.urlencode(
+                {"name": name, "password": world.passwords.get(whose, whose)})
+            found[kind] = min(found[kind], seconds(world, form, f"127.0.{3 + at}.{turn + 1}"))
+        if turn >= 4 and apart(found) < found["right"] / 4:
+            break
+    return found
 
-    check: float
-    known: float
-    unknown: float
 
-    def apart(self) -> float:
-        """How far the answers are apart."""
-        return abs(self.known - self.unknown)
+def apart(times: dict[str, float]) -> float:
+    """How far the times of wrong sign-ins are apart."""
+    wrong = [it for kind, it in times.items() if kind != "right"]
+    return max(wrong) - min(wrong)
 
 
-def seconds(world: World, path: str, name: str, password: str = "wrong") -> float:
-    """How long the first byte of an answer takes."""
-    sign_in = base64.b64encode(f"{name}:{password}".encode()).decode()
-    with world.connect("127.0.0.6") as it:
+def seconds(world: World, form: str, address: str) -> float:
+    """How long the first byte of an answer to a sign-in takes."""
+    with world.connect(address) as it:
         began = time.monotonic()
-        it.sendall(f"GET {path} HTTP/1.1\r\nHost: {NAME}\r\n"
-                   f"Authorization: Basic {sign_in}\r\n\r\n".encode())
+        it.sendall(f"POST /sign-in HTTP/1.1\r\nHost: {NAME}\r\nOrigin: https://{NAME}\r\n"
+                   f"Content-Type: {FORM}\r\nContent-Length: {len(form)}\r\n\r\n"
+                   f"{form}".encode())
         it.recv(1)
         return time.monotonic() - began
 
 
-@pytest.fixture(scope="module", name="times")
-def times_fixture(world: World) -> dict[str, Times]:
-    """The times for two paths. Whoever else uses the processors can only make an answer later: so
-    the quickest ones are compared, and more are asked for until those are near each other."""
-    crypt = 'print crypt("right", "\\$6\\$rounds=300000\\$tortoise")'
-    with open(world.settings / "passwords", "a", encoding="ascii") as file:
-        file.write(f"tortoise:{world.run('perl', '-e', crypt).stdout}\n")
-    check = min(seconds(world, "/who", "tortoise", "right") for _ in range(5))
-    found = {}
-    for path in ("/who", "/child/1"):
-        times = Times(check, float("inf"), float("inf"))
-        for turn in range(40):
-            times = Times(check, min(times.known, seconds(world, path, "tortoise")),
-                          min(times.unknown, seconds(world, path, "nobody")))
-            if turn >= 4 and times.apart() < check / 4:
-                break
-        found[path] = times
-    return found
-
-
-@pytest.mark.parametrize("path", ["/who", "/child/1"])
-def test_who_signs_in_wrongly_is_not_answered_at_once(
-        times: dict[str, Times], path: str) -> None:
-    # (nginx counts the second from a time that it has read some milliseconds before)
-    assert min(times[path].known, times[path].unknown) > 0.5
-
-
-@pytest.mark.parametrize("path", ["/who", "/child/1"])
 def test_the_time_of_an_answer_does_not_tell_which_names_there_are(
-        times: dict[str, Times], path: str, record_property: Callable[[str, object], None]) -> None:
-    seen = times[path]
-    record_property("seconds", f"{seen.check:.3f} for the check, {seen.known:.4f} for a known name,"
-                    f" {seen.unknown:.4f} for an unknown one")
-    assert seen.check > 0.04
-    assert seen.apart() < seen.check / 4
+        times: dict[str, float], record_property: Callable[[str, object], None]) -> None:
+    record_property("seconds", ", ".join(f"{kind} {it:.4f}" for kind, it in times.items()))
+    assert times["right"] > 0.02
+    assert apart(times) < times["right"] / 4
 
 
 # What the office sends
@@ -672,18 +931,54 @@ def test_a_body_in_chunks_is_passed_on_whole(world: World) -> None:
     assert answer.body == '{"name":"NotOffered","refused":15}'
 
 
-def test_whose_password_is_removed_is_signed_in_no_more(world: World) -> None:
-    passwords = world.settings / "passwords"
-    lines = passwords.read_text().splitlines(keepends=True)
-    passwords.write_text("".join(line for line in lines if not line.startswith("smith:")))
-    assert world.ask("/child/1", "smith").status == 401
+@pytest.mark.parametrize("name", ["rita", "robot"])
+def test_who_is_locked_is_signed_in_no_more_and_who_is_not_any_more_signs_in_again(
+        world: World, name: str) -> None:
+    before = world.field(name)
+    assert status_of(raw(world, "GET /child/1", before)) == 200
+    try:
+        assert world.submit("/people/", "jane", what="lock", name=name).status == 200
+        assert status_of(raw(world, "GET /child/1", before)) == 401
+    finally:
+        world.submit("/people/", "jane", what="unlock", name=name)
+        world.sessions.pop(name, None)
+    assert world.ask("/child/1", name).status == 200
 
 
-def test_the_log_has_who_sent_which_command_and_its_result(world: World) -> None:
-    done = [it for it in world.entries() if it.get("body") == ACCEPT and it["status"] == "200"]
-    assert [(it["who"], it["desk"]) for it in done] == [("jane", "200")]
+def test_who_is_given_another_role_has_no_more_what_the_one_before_could(world: World) -> None:
+    before = world.field("hal")
+    try:
+        world.submit("/people/", "jane", what="role", name="hal", role="reader")
+        world.sessions.pop("hal")
+        assert status_of(raw(world, "GET /child/1", before)) == 401
+        assert world.ask("/command", "hal", ACCEPT).status == 403
+    finally:
+        world.submit("/people/", "jane", what="role", name="hal", role="officer")
+        world.sessions.pop("hal")
+    assert world.ask("/command", "hal", ACCEPT).status == 409
 
 
-def test_no_password_is_in_the_log(world: World) -> None:
-    log = world.logged()
-    assert [who for who, password in world.passwords.items() if password in log] == []
+def test_the_history_has_who_sent_which_command_and_its_result(world: World) -> None:
+    entries = world.entries()
+    answers = {it["about"]["of"]: it["about"]["answer"] for it in entries if it["what"] == "answer"}
+    sent = [(it["who"], answers[it["n"]]) for it in entries
+            if it["what"] == "sends" and it["about"].get("command") == json.loads(ACCEPT)]
+    assert sent[0] == ("jane", {"done": True})
+    assert [answer for _, answer in sent].count({"done": True}) == 1
+
+
+def test_the_history_has_who_changed_whose_rights(world: World) -> None:
+    changed = [(it["who"], it["what"], it["about"]["person"]) for it in world.entries()
+               if "person" in it["about"]]
+    assert changed == [
+        *(("jane", it, "ivy") for it in ("added", "removed")),
+        *(("jane", it, name) for name in ("rita", "robot") for it in ("locked", "unlocked")),
+        *[("jane", "gave a role", "hal")] * 2]
+
+
+def test_no_password_no_token_and_no_session_is_on_the_disk(world: World) -> None:
+    secrets = [*world.passwords.values(), *(it for it, _ in world.sessions.values())]
+    files = [it for folder in ("office", "log") for it in (world.room / folder).rglob("*")]
+    kept = [it.read_bytes() for it in files if it.is_file()]
+    assert len(kept) >= 5
+    assert [it for it in secrets if any(it.encode() in data for data in kept)] == []

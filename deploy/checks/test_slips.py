@@ -43,7 +43,7 @@ def page_fixture(world: World) -> Iterator[Browser]:
 def test_who_is_on_a_list_of_what_is_due_to_the_day(
         world: World, today: str, name: str, due: list[int]) -> None:
     with browsing(world, today) as page:
-        opened(page, f"/#list/{name}")
+        opened(page, f"#list/{name}")
         assert len(rows(page)) == 1 + len(due)
         assert numbers(page) == due
 
@@ -283,7 +283,7 @@ def ahead(world: World, page: Browser, begin: Callable[[], None], typed: str,
 @pytest.fixture(name="loaded")
 def loaded_fixture(page: Browser) -> Iterator[Browser]:
     """The page, loaded anew, whose field at the top is empty afterwards."""
-    opened(page, "/?ahead")
+    opened(page, "?ahead")
     yield page
     page.value("document.getElementById('find').value = ''; document.activeElement.blur()")
 
@@ -568,7 +568,7 @@ def test_the_intake_of_a_school_has_who_has_a_place_there_and_how(
     for child in (7, 9):
         world.ask("/command", "jane", f'{{"cmd":"decline","child":{child},"school":"A"}}')
     world.ask("/command", "jane", '{"cmd":"name_plan","child":4,"school":"E"}')
-    opened(page, "/?intake")
+    opened(page, "?intake")
     page.console.clear()
     visit(page, "#intake/A")
     assert text(page, "intake") == (

@@ -60,7 +60,7 @@ class Beside(NamedTuple):
 
 def open_slow_ones(world: World) -> list[Slow]:
     """Ten clients of each kind."""
-    signed_in = f"Host: {NAME}\r\n{world.basic('jane')}\r\n"
+    signed_in = f"Host: {NAME}\r\n{world.field('jane')}\r\n"
     head = f"GET /child/1 HTTP/1.1\r\n{signed_in}X: {'x' * 7000}".encode()
     body = (f"POST /command HTTP/1.1\r\n{signed_in}Content-Type: application/json\r\n"
             f"Origin: https://{NAME}\r\nContent-Length: 500000\r\n\r\n{{").encode()

@@ -93,21 +93,21 @@ def requested(page: Browser, *addresses: str) -> list[tuple[str, list[str]]]:
 
 
 def test_the_first_view_has_one_request_for_data(page: Browser) -> None:
-    opened(page, "/?first")
+    opened(page, "?first")
     assert page.value(REQUESTED) == ["/register"]
     assert "Not answered" in page.value(RESULT)
 
 
 def test_a_worklist_has_one_request_and_another_view_within_the_few_seconds_none(
         page: Browser) -> None:
-    opened(page, "/?first")
+    opened(page, "?first")
     assert requested(page, "#list/remind-due", "#list/no-answer") == [
         ("Due for a reminder: 11 children.", ["/register"]), ("Not answered: 14 children.", [])]
 
 
 def test_a_worklist_after_a_command_of_the_page_has_one_request_however_soon(
         page: Browser) -> None:
-    opened(page, "/?first")
+    opened(page, "?first")
     page.value(REQUESTED)
     outdate(page)
     assert (visit(page, "#list/unplaced"), page.value(REQUESTED)) == (
@@ -115,19 +115,19 @@ def test_a_worklist_after_a_command_of_the_page_has_one_request_however_soon(
 
 
 def test_a_worklist_that_is_the_first_view_after_a_reload_has_one_request(page: Browser) -> None:
-    opened(page, "/?second#list/vacancies")
+    opened(page, "?second#list/vacancies")
     assert (page.value(ANSWER), page.value(REQUESTED)) == (
         "Schools with vacancies: 1 school.", ["/register"])
 
 
 def test_a_list_a_report_and_a_child_are_shown_from_one_request(page: Browser) -> None:
-    opened(page, "/?third")
+    opened(page, "?third")
     assert [it for _, it in requested(page, "#school/A", "#round/2", "#child/3")] == [
         ["/register"], [], []]
 
 
 def test_a_letter_is_a_request_of_its_own(page: Browser) -> None:
-    opened(page, "/?third")
+    opened(page, "?third")
     page.value(REQUESTED)
     visit(page, "#child/3/letter")
     assert [it for it in page.value(REQUESTED) if it != "/register"] == ["/child/3/letter"]
@@ -138,7 +138,7 @@ def test_a_letter_is_a_request_of_its_own(page: Browser) -> None:
 
 def test_six_children_are_imported_over_the_site_and_are_in_the_next_views(
         world: World, page: Browser) -> None:
-    opened(page, "/?import#list/unplaced")
+    opened(page, "?import#list/unplaced")
     done = world.ask("/import", "jane", IMPORT, kind="text/csv").body
     assert done == '{"added":6,"done":true,"known":0}'
     page.value(WAIT)

@@ -190,8 +190,7 @@ def test_a_withdrawal_without_an_answer_is_not_repeated_and_the_others_go_on(
     click(page, "go-on")
     page.wait("document.getElementById('counts')?.innerText === '3 withdrawals done.'")
     assert children_of(page.posted) == [2, 3, 4]
-    sent = [it["body"] for it in world.entries()[logged:] if it["method"] == "POST"]
-    assert sorted(children_of(sent)) == [2, 3, 4]
+    assert sorted(it["child"] for it in world.sent(logged)) == [2, 3, 4]
     assert rows(page)[1:] == []
 
 

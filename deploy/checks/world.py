@@ -1,5 +1,5 @@
-"""What the checks run on: a desk in a network of its own, the door to it, and the site before it,
-all under one folder; and beside it another register."""
+"""What the checks run on: a desk in a network of its own, the door to it, the office's application
+and the site before it, all under one folder; and beside it another register."""
 
 import base64
 import contextlib
@@ -12,17 +12,25 @@ import signal
 import socket
 import ssl
 import subprocess
+import threading
 import time
+import urllib.parse
 from collections.abc import Callable, Iterable, Iterator
 from typing import Any, TypeVar
 
+from checks import office
 from checks.commands import Command, application, child, lines_of, round_of, school
+from checks.office import Account
 
 HERE = pathlib.Path(__file__).resolve().parent.parent
 HAS_IPV6 = pathlib.Path("/proc/net/if_inet6").exists()
 NAME = "admissions.example"
 AUTHORITY = "Cyngor Sir Tŷ \"Ddewi\" Council"
-PEOPLE = {"jane": "office;", "alpha": "school-A;", "smith": None}
+PEOPLE = {
+    "jane": Account("head"), "hal": Account("officer"), "rita": Account("reader"),
+    "alpha": Account("school-A"), "sup": Account("supervisor"), "adam": Account("administrator"),
+    "smith": Account("officer", is_locked=True), "robot": Account("officer", is_program=True),
+}
 # Has the site of a register, the machine's own part, or a main file of nginx made by the installed
 # admissions-setup: its folder, then what is called and its arguments
 MAKE_SITE = """
@@ -64,6 +72,9 @@ REGISTER = [
     application(12, "D"),
     round_of(1, "2025-03-03", [10, 20, 10, 20, 10, 10, 20]),
 ]
+COOKIE, FORM = "__Host-admissions", "application/x-www-form-urlencoded"
+# A session of the application may end after 30 minutes without a request
+SESSION_SECONDS = 1200
 Process = subprocess.Popen[bytes]
 Ran = subprocess.CompletedProcess[str]
 T = TypeVar("T")
@@ -150,25 +161,32 @@ class World:
     holder: Process
     desk: Process
     door: Process
+    office: Process
     site: Process
     tested: Ran
 
     def __init__(self, installation: Installation, room: pathlib.Path,
                  name: str = "secondary-2025", host: str = NAME,
                  commands: Iterable[Command] = tuple(REGISTER),
-                 people: dict[str, str | None] | None = None) -> None:
+                 people: dict[str, Account] | None = None) -> None:
         self.installation, self.room = installation, room
         self.processes: list[Process] = []
+        # those whose own processes end with them
+        self.groups: set[int] = set()
         self.beside: list[World] = []
         self.name, self.host, self.commands = name, host, commands
-        self.people: dict[str, str | None] = people or dict(PEOPLE)
+        self.people = people or PEOPLE
         self.root, self.prefix = installation.root, installation.prefix
         self.file, self.settings = room / "reg.db", room / "settings"
         self.site_port = self.plain_port = 0
         self.desk_port = free_port()  # it is in a network of its own
-        for folder in ("run", "log", "copies", "temp", "downloads", "settings"):
+        for folder in ("run", "log", "copies", "temp", "downloads", "settings", "office"):
             (room / folder).mkdir(parents=True)
+        # (of a program, its token, once it is drawn)
         self.passwords = {name: os.urandom(9).hex() for name in self.people}
+        self.sessions: dict[str, tuple[str, float]] = {}
+        self.signing = threading.Lock()
+        self.office_socket = socket.socket(socket.AF_UNIX)
         path = f"{self.prefix}/bin:/usr/sbin:/sbin:{os.environ['PATH']}"
         self.environment = {**os.environ, "PATH": path, "no_proxy": "*", "HOME": str(room)}
 
@@ -179,10 +197,13 @@ class World:
         for world in (self, *self.beside):
             world.make_register(world.file, world.commands)
             world.make_certificate()
-            world.make_people()
+            world.passwords |= office.made(world.prefix, world.room / "office", world.people,
+                                           world.passwords)
             world.hold_network()
             world.start_desk()
             world.start_door()
+            world.listen()
+            world.start_office()
         self.start_site()
 
     def run(self, *arguments: object, input: str = "") -> Ran:
@@ -190,27 +211,41 @@ class World:
         return subprocess.run([str(it) for it in arguments], input=input, text=True,
                               capture_output=True, env=self.environment, timeout=300, check=False)
 
-    def spawn(self, *arguments: object, log: str) -> Process:
-        """Starts a process, which ends with the world."""
+    def spawn(self, *arguments: object, log: str, give: Iterable[int] = (),
+              group: bool = False) -> Process:
+        """Starts a process, which ends with the world. It is given open files, and is the first of
+        a group of processes, if it starts others."""
         with open(self.room / "log" / log, "a", encoding="utf-8") as out:
             # A write beyond the file size limit shall fail without ending the process: this is how
             # a disk is made to fail
             process = subprocess.Popen(
                 [str(it) for it in arguments], stdin=subprocess.DEVNULL, stdout=out, stderr=out,
-                env=self.environment, restore_signals=False,
+                env=self.environment, restore_signals=False, pass_fds=tuple(give),
+                start_new_session=group,
                 preexec_fn=lambda: signal.signal(signal.SIGXFSZ, signal.SIG_IGN))
         self.processes.append(process)
+        if group:
+            self.groups.add(process.pid)
         return process
 
     def end(self, process: Process, by: signal.Signals = signal.SIGTERM) -> None:
-        """Ends a process, if it has not ended."""
+        """Ends a process, if it has not ended. As systemd does, what it has started ends with it,
+        at once where it is killed."""
+        is_group = process.pid in self.groups
         if process.poll() is None:
-            process.send_signal(by)
+            if is_group and by == signal.SIGKILL:
+                os.killpg(process.pid, by)
+            else:
+                process.send_signal(by)
             try:
-                process.wait(10)
+                process.wait(40 if is_group else 10)
             except subprocess.TimeoutExpired:
                 process.kill()
         process.wait()
+        if is_group:
+            self.groups.remove(process.pid)
+            with contextlib.suppress(ProcessLookupError):
+                os.killpg(process.pid, signal.SIGKILL)
 
     def end_all(self) -> None:
         """Ends what was started."""
@@ -218,6 +253,7 @@ class World:
             world.end_all()
         for process in reversed(self.processes):
             self.end(process)
+        self.office_socket.close()
 
     def make_register(self, file: pathlib.Path, commands: Iterable[Command]) -> None:
         """Makes a register, and does commands on it."""
@@ -246,16 +282,6 @@ class World:
                  "-addext", f"subjectAltName=DNS:{self.host}", "-keyout", f"{at}.key", "-out",
                  f"{at}.crt")
         self.certificate = self.settings / "site.crt"
-
-    def make_people(self) -> None:
-        """Who may sign in, and as what."""
-        crypt = ("perl", "-e", 'print crypt($ARGV[0], "\\$6\\$rounds=1000\\$$ARGV[1]")')
-        hashed = {name: self.run(*crypt, password, os.urandom(8).hex()).stdout
-                  for name, password in self.passwords.items()}
-        lines = (f"{name}:{text}\n" for name, text in hashed.items())
-        (self.settings / "passwords").write_text("".join(lines))
-        lines = (f"{name} {role}\n" for name, role in self.people.items() if role)
-        (self.settings / "roles").write_text("".join(lines))
 
     def hold_network(self) -> None:
         """A network namespace as PrivateNetwork= makes one. In a user namespace of its own, so
@@ -323,6 +349,35 @@ class World:
                          f"127.0.0.1:{self.desk_port}"), log="door")
         until((self.room / "run/desk.sock").exists, "the door")
 
+    def listen(self) -> None:
+        """The socket of the application, which its unit has: what comes while there is no
+        application waits in it."""
+        unit = self.prefix / "lib/systemd/system/admissions-office@.socket"
+        self.office_socket.bind(f"{self.room}/run/office.sock")
+        self.office_socket.listen(int(group(r"(?m)^Backlog=(\d+)$", unit.read_text())))
+
+    def start_office(self) -> None:
+        """Starts the application at its socket. As its unit does, it is started again if it has
+        ended, as where the one before it has not wholly ended yet."""
+        settings = office.settings(self.prefix, self.room, self.name, self.host, AUTHORITY)
+        file = self.office_socket.fileno()
+
+        def is_serving() -> bool:
+            if "office" not in vars(self) or self.office.poll() is not None:
+                self.office = self.spawn(
+                    *office.command(file, settings), log="office", give=(file,), group=True)
+            return self.at_office("/sign-in") == 200
+
+        until(is_serving, "the application")
+
+    def at_office(self, path: str) -> int:
+        """The status that the application answers to nobody at its socket; 0 if it has not answered
+        within seconds."""
+        return int(self.run(
+            "curl", "--silent", "--max-time", "5", "--unix-socket", f"{self.room}/run/office.sock",
+            "--output", "/dev/null", "--write-out", "%{http_code}",
+            f"http://{self.host}{path}").stdout)
+
     def start_site(self) -> None:
         """The sites as they are installed, but with the folders of the rooms, and other ports. If
         another process took a port meanwhile, nginx ends, and others are tried."""
@@ -334,20 +389,17 @@ class World:
             self.write_sites()
             self.tested = self.run("nginx", "-t", "-c", settings, "-e", log)
             self.site = self.spawn("nginx", "-c", settings, "-e", log, log="nginx")
-            until(lambda: self.site.poll() is not None or self.ask("/").status, "the site")
+            until(lambda: self.site.poll() is not None or self.ask("/sign-in").status, "the site")
             if self.site.poll() is None:
                 return
         raise RuntimeError(log.read_text())
 
     def site_text(self) -> str:
         """The site as admissions-setup makes it."""
-        usr = self.installation.usr
         return replaced(self.installation.site(self.name, self.host), (
             (f"/etc/admissions/{self.name}", f"{self.settings}"),
-            ("root /etc/admissions;", f"root {self.root}/etc/admissions;"),
-            (f"/run/admissions/{self.name}.sock", f"{self.room}/run/desk.sock"),
-            (f"/var/log/admissions/{self.name}", f"{self.room}/log"),
-            (f"{usr}/share", f"{self.root}{usr}/share"),
+            (f"/run/admissions-office/{self.name}.sock", f"{self.room}/run/office.sock"),
+            ("syslog:server=unix:/dev/log,nohostname,tag=admissions", f"{self.room}/log/errors"),
             *self.listens(("443", self.site_port))))
 
     def listens(self, *ports: tuple[str, int]) -> list[tuple[str, str]]:
@@ -374,7 +426,7 @@ class World:
 
     def ask(self, path: str, who: str | None = None, body: str | None = None,
             origin: str | bool | None = True, kind: str = "application/json",
-            password: str | None = None, options: Iterable[str] = ()) -> "Answer":
+            options: Iterable[str] = ()) -> "Answer":
         """What curl gets, with the site's own name mapped to the port of the room, and by default
         as from a page of the site."""
         origin = f"https://{self.host}" if origin is True else origin
@@ -382,11 +434,43 @@ class World:
                      f"{self.host}:443:127.0.0.1:{self.site_port}", "--path-as-is", "--write-out",
                      "\n%{http_code}", "--max-time", "150", "--dump-header", "-"]
         if who:
-            arguments += ["--user", f"{who}:{password or self.passwords[who]}"]
+            arguments += ["--header", self.field(who)]
         if body is not None:
             arguments += ["--data-binary", body, "--header", f"Content-Type: {kind}"]
             arguments += ["--header", f"Origin: {origin}"] if origin else []
         return Answer(self.run(*arguments, *options, f"https://{self.host}{path}"))
+
+    def sign_in(self, name: str, password: str, *options: str,
+                origin: str | bool | None = True) -> "Answer":
+        """What the form for signing in gets."""
+        form = urllib.parse.urlencode({"name": name, "password": password})
+        return self.ask("/sign-in", None, form, origin, FORM, options)
+
+    def session(self, who: str) -> str:
+        """The session of a person, who signs in once; and again where no request was sent in it for
+        so long that the application may end it."""
+        with self.signing:
+            secret, used = self.sessions.get(who, ("", -SESSION_SECONDS))
+            if time.monotonic() - used >= SESSION_SECONDS:
+                answer = self.sign_in(who, self.passwords[who])
+                if not answer.session:
+                    raise RuntimeError(f"{who} is not signed in: {answer.status} {answer.body}")
+                secret = answer.session
+            self.sessions[who] = secret, time.monotonic()
+            return secret
+
+    def submit(self, path: str, who: str, **fields: str) -> "Answer":
+        """What the form of a page gets, from somebody who has that page open."""
+        page = self.ask("/password", who).body
+        secret = group('name="form" value="([^"]+)"', page)
+        return self.ask(path, who, urllib.parse.urlencode({"form": secret, **fields}), kind=FORM)
+
+    def field(self, who: str) -> str:
+        """The field of a head by which somebody is known: the session of a person, or the token of
+        a program."""
+        if self.people[who].is_program:
+            return basic(who, self.passwords[who])
+        return f"Cookie: {COOKIE}={self.session(who)}"
 
     def send(self, who: str = "jane", **command: object) -> None:
         """Sends a command that must be done, as somebody else of the office does."""
@@ -417,20 +501,20 @@ class World:
         return socket.create_connection(
             ("127.0.0.1", self.site_port), timeout=120, source_address=(source, 0))
 
-    def basic(self, who: str) -> str:
-        """The field of a head that signs somebody in."""
-        password = self.passwords[who]
-        return "Authorization: Basic " + base64.b64encode(f"{who}:{password}".encode()).decode()
+    def entries(self) -> list[dict[str, Any]]:
+        """The entries of the history, as far as they are whole lines."""
+        data = (self.room / "office/history.jsonl").read_bytes()
+        return [json.loads(line) for line in data.split(b"\n")[:-1]]
 
-    def logged(self) -> str:
-        """The log of requests."""
-        log = self.room / "log/asked.log"
-        return log.read_text(encoding="utf-8", errors="surrogateescape")
+    def sent(self, since: int = 0) -> list[Command]:
+        """The commands that were sent to the register, in the entries after so many."""
+        return [it["about"]["command"] for it in self.entries()[since:]
+                if it["what"] == "sends" and "command" in it["about"]]
 
-    def entries(self) -> list[dict[str, str]]:
-        """The entries of that log. (One ends at a line feed alone: a body may have other signs
-        that splitlines takes for an end.)"""
-        return [json.loads(line) for line in self.logged().split("\n") if line]
+
+def basic(name: str, token: str) -> str:
+    """The field of a head with a name and a token, or a password."""
+    return "Authorization: Basic " + base64.b64encode(f"{name}:{token}".encode("latin-1")).decode()
 
 
 def replaced(text: str, pairs: Iterable[tuple[str, str]]) -> str:
@@ -451,6 +535,8 @@ class Answer:
         if head.startswith("HTTP/1.1 100"):
             head, _, self.body = self.body.partition("\n\n")
         self.status, self.code, self.error = int(status or 0), done.returncode, done.stderr
+        cookie = re.search(f"(?im)^set-cookie: {COOKIE}=([^;]+)", head)
+        self.session = cookie[1] if cookie else ""
         lines = (line for line in head.split("\n")[1:] if ": " in line)
         fields = (line.lower().partition(": ") for line in lines)
         self.fields = {name: value for name, _, value in fields}
