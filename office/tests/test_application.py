@@ -2,8 +2,9 @@
 import json
 import pathlib
 import sqlite3
+import threading
 import time
-from collections.abc import Iterator
+from collections.abc import Callable, Iterator
 from typing import Any
 
 import pytest
@@ -369,6 +370,72 @@ def test_attempts_wait_longer_and_longer() -> None:
     assert found.wait("jane 192.0.2.2", "192.0.2.2") == 0
     found.succeed("jane 192.0.2.1")
     assert found.wait("jane 192.0.2.1", "192.0.2.1") == 0
+
+
+def at_once(count: int, act: Callable[[int], object]) -> list[str]:
+    """What came of calls at the same time: "" or why each was refused, in any order."""
+    barrier, found = threading.Barrier(count), []
+
+    def one(at: int) -> None:
+        barrier.wait()
+        try:
+            act(at)
+            found.append("")
+        except Refused as error:
+            found.append(str(error))
+
+    threads = [threading.Thread(target=one, args=(it,)) for it in range(count)]
+    for it in threads:
+        it.start()
+    for it in threads:
+        it.join()
+    return sorted(found)
+
+
+def test_attempts_at_the_same_time_are_not_free(
+    office: Site, monkeypatch: pytest.MonkeyPatch
+) -> None:
+    """Of 32 wrong ones five are checked, and the others are told to wait: from one address, with
+    one name or many. Colleagues who are right at the same time all come in.
+    """
+    found, checked = office.parts.people, []
+    names = [office.add(f"jane{it}", "officer") for it in range(8)]
+
+    def is_right(_: object, password: str) -> bool:
+        checked.append(password)
+        time.sleep(0.02)
+        return password == "right"
+
+    monkeypatch.setattr(found, "is_right", is_right)
+    for address, name in (("192.0.2.1", "jane0"), ("192.0.2.2", "nobody{}")):
+        checked.clear()
+        said = at_once(32, lambda it: found.sign_in(name.format(it), "wrong", address))
+        assert len(checked) == people.FREE_ATTEMPTS == said.count(people.WRONG) == 5
+        assert sum(it.startswith("Too many attempts failed.") for it in said) == 27
+    said = at_once(8, lambda it: found.sign_in(names[it], "right", "192.0.2.3"))
+    assert said == [""] * 8
+
+
+def test_a_wrong_present_password_waits_too(office: Site) -> None:
+    """Whoever is at an open session tries the password of its person as seldom as at the sign-in,
+    and no colleague waits for that.
+    """
+    jane, bo = office.browser("jane"), office.browser("bo")
+    office.parts.people.attempts.clock = lambda: 100.0
+    wrong = "Nothing was changed: the present password is wrong."
+    late = "Nothing was changed: Too many attempts failed. Try again in 1 seconds."
+
+    def tried(browser: Browser, present: str) -> str:
+        given = {"present": present, "new": "a new password", "again": "a new password"}
+        found = browser.post("/password", given)
+        assert found.status_code == (303 if present == office.passwords["bo"] else 403)
+        return str(Page(found.text).said())
+
+    said = [tried(jane, f"wrong {it}") for it in range(7)]
+    assert said == [wrong] * 5 + [late] * 2
+    assert tried(jane, office.passwords["jane"]) == late
+    tried(bo, office.passwords["bo"])
+    assert Browser(office.app).sign_in("jane", office.passwords["jane"]).status_code == 303
 
 
 def test_attempts_are_forgotten() -> None:

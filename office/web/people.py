@@ -1,4 +1,5 @@
 """Who may sign in, and do what: people with a password of their own, and programs with a token."""
+import collections
 import dataclasses
 import hashlib
 import re
@@ -80,12 +81,54 @@ def digest(secret: str) -> str:
 
 class Attempts:
     """How often somebody tried a password that was wrong. The wait grows with each, for a name from
-    an address and for an address; whether a name exists makes no difference.
+    an address and for an address; whether a name exists makes no difference. Those at the same time
+    count as if they failed until they have ended: what is beyond the free ones waits for them.
     """
 
     def __init__(self, clock: Callable[[], float] = time.monotonic) -> None:
-        self.clock, self.lock = clock, threading.Lock()
+        self.clock, self.lock = clock, threading.Condition(threading.RLock())
         self.failed: dict[str, tuple[int, float]] = {}
+        self.open: collections.Counter[str] = collections.Counter()
+
+    def is_right(self, check: Callable[[], bool], *keys: str) -> bool:
+        """Whether an attempt is right, which is counted before it is checked; a refusal where
+        nothing may be tried now.
+        """
+        self.begin(*keys)
+        is_right = False
+        try:
+            is_right = check()
+        finally:
+            self.end(is_right, *keys)
+        return is_right
+
+    def begin(self, *keys: str) -> None:
+        """Begins an attempt, once those in progress leave one of the free ones."""
+        with self.lock:
+            while not (wait := self.wait(*keys)) and any(map(self.is_full, keys)):
+                self.lock.wait()
+            if wait:
+                raise Refused(f"Too many attempts failed. Try again in {wait} seconds.")
+            self.open.update(keys)
+
+    def is_full(self, key: str) -> bool:
+        """Whether another attempt would be beyond the free ones, if those in progress fail. After a
+        wait there is one at a time.
+        """
+        count, until = self.failed.get(key, (0, 0.0))
+        known = 0 if self.clock() - until > FORGOTTEN_AFTER else count
+        return self.open[key] >= max(1, FREE_ATTEMPTS - known)
+
+    def end(self, is_right: bool, *keys: str) -> None:
+        """Ends an attempt."""
+        with self.lock:
+            self.open.subtract(keys)
+            self.open = +self.open
+            if is_right:
+                self.succeed(keys[0])
+            else:
+                self.fail(*keys)
+            self.lock.notify_all()
 
     def wait(self, *keys: str) -> int:
         """For how many seconds nothing more may be tried."""
@@ -194,7 +237,10 @@ class People:
     def set_password(self, person: Person, old: str, new: str) -> None:
         """Gives a person a password of their own, and ends their other sessions."""
         row = self.store.row("SELECT hash FROM person WHERE name=?", person.name)
-        if not row or not self.is_right(row["hash"], old):
+        hashed = row["hash"] if row else self.nobody
+        # (who may try it is signed in: the wait keeps nobody else out)
+        if not self.attempts.is_right(
+                lambda: self.is_right(hashed, old), f"{person.name} changes"):
             raise Refused("the present password is wrong")
         if not LEAST_PASSWORD <= len(new) <= MOST_PASSWORD:
             raise Refused(f"a password has {LEAST_PASSWORD} to {MOST_PASSWORD} characters")
@@ -216,15 +262,15 @@ class People:
 
     def sign_in(self, name: str, password: str, address: str) -> str:
         """The secret of a new session, or a refusal that does not say what was wrong."""
-        keys = f"{name[:64]} {address}", address
-        if wait := self.attempts.wait(*keys):
-            raise Refused(f"Too many attempts failed. Try again in {wait} seconds.")
         row = self.store.row("SELECT * FROM person WHERE name=? AND kind=?", name, PERSON)
-        is_right = self.is_right(row["hash"] if row else self.nobody, password[:MOST_PASSWORD])
-        if not row or not is_right or row["is_locked"]:
-            self.attempts.fail(*keys)
+
+        def check() -> bool:
+            hashed = row["hash"] if row else self.nobody
+            is_right = self.is_right(hashed, password[:MOST_PASSWORD])
+            return row is not None and is_right and not row["is_locked"]
+
+        if not self.attempts.is_right(check, f"{name[:64]} {address}", address):
             raise Refused(WRONG)
-        self.attempts.succeed(keys[0])
         return self.begin(name)
 
     def sign_in_outside(self, name: str) -> str:

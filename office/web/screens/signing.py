@@ -124,6 +124,6 @@ def password() -> Answer:
             guard.record("changed the own password")
             return flask.redirect("/", 303)
         except Refused as error:
-            said = str(error)
+            said = str(error).removesuffix(".")
     return flask.render_template(
         "password.html", said=said, least=people.LEAST_PASSWORD), 403 if said else 200
