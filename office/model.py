@@ -229,15 +229,17 @@ class File:
     nobody refers to it any more, or this process ends.
     """
 
-    def __init__(self, name: str, fd: int, program: str | None = None) -> None:
-        self.name, self.program = name, program or files.program()
+    def __init__(
+        self, name: str, fd: int, program: str | None = None, called: str | None = None,
+    ) -> None:
+        self.name, self.program = called or name, program or files.program()
         try:
             self.room = tempfile.TemporaryDirectory(prefix="admissions-")
             self.copy = os.path.join(self.room.name, "copy.db")
             files.copy_to(fd, self.copy)
         except OSError as error:
-            where = tempfile.tempdir or "/tmp"
-            raise Refused(f"{name} cannot be copied to {where}, where the program opens it:"
+            where = "" if called else f" to {tempfile.tempdir or '/tmp'}"
+            raise Refused(f"{self.name} cannot be copied{where}, where the program opens it:"
                           f" {error.strerror}") from error
 
     def shown(self) -> bytes:
@@ -313,7 +315,7 @@ class Server:
     """A register that is served."""
 
     def __init__(self, sender: senders.Http) -> None:
-        self.name, self.sender = sender.url, sender
+        self.name, self.sender = sender.named(), sender
 
     def shown(self) -> bytes:
         """The document of the register."""
@@ -393,17 +395,17 @@ def read_held(name: str) -> Register:
     return read_stored(name)
 
 
-def read_stored(name: str, program: str | None = None) -> Register:
+def read_stored(name: str, program: str | None = None, called: str | None = None) -> Register:
     """The register of a file as it is, without its log, whoever has it open: as it was when it was
-    closed last.
+    closed last. Errors name it as it is called, where their reader knows no path.
     """
     path = os.path.realpath(name)
     try:
         fd = os.open(path, os.O_RDONLY | os.O_NOFOLLOW | os.O_NONBLOCK | os.O_CLOEXEC)
     except OSError as error:
-        raise Refused(f"{name} cannot be read: {error.strerror}") from error
+        raise Refused(f"{called or name} cannot be read: {error.strerror}") from error
     try:
-        return of_source(File(name, fd, program))
+        return of_source(File(name, fd, program, called))
     finally:
         os.close(fd)
 

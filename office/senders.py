@@ -159,6 +159,8 @@ class Http:
     """
 
     rest = b""
+    # how errors name it where it is no address that their reader knows
+    called = ""
 
     def __init__(self, url: str, user: str | None = None, asked: Callable[[], str] = str) -> None:
         """The password is asked for once it is sure that it can be sent."""
@@ -177,6 +179,10 @@ class Http:
         if user:
             signed = base64.b64encode(f"{user}:{asked()}".encode()).decode()
             self.headers["Authorization"] = f"Basic {signed}"
+
+    def named(self, path: str = "") -> str:
+        """How errors name it, or what is read from it."""
+        return self.called or f"{self.url}{path}"
 
     def connection(self) -> http.client.HTTPConnection:
         """A connection that is not open yet."""
@@ -230,11 +236,11 @@ class Http:
         try:
             status, body = self.ask("GET", path)
         except Ended as error:
-            raise Refused(f"{self.url} cannot be read: {error}") from error
+            raise Refused(f"{self.named()} cannot be read: {error}") from error
         if status != 200:
             said = commands.read(body)
             reason, _ = refusal(status, said if isinstance(said, dict) else {})
-            raise Refused(f"{self.url}{path} cannot be read: {reason}")
+            raise Refused(f"{self.named(path)} cannot be read: {reason}")
         return body
 
     def close(self) -> str:

@@ -499,6 +499,53 @@ def behind(office: Site, machine: Machine, number: int, state: str, command: Com
 LEFT = {"cmd": "name_plan", "child": 5, "school": "ELM"}
 
 
+def unnamed(found: Any, said: str) -> None:
+    """A page says why something was not done, and names no path and no address for it."""
+    reason = re.search(r'id="answer"[^>]*>([^<]*)<', found.text)
+    assert found.status_code == 409 and reason and said in reason[1], found.text
+    for it in ("://", "127.0.0.1", "/tmp", ".db", "/office"):
+        assert it not in reason[1], reason[1]
+
+
+BROKEN = """#!{python}
+import subprocess, sys
+if sys.argv[1] == "{what}":
+    sys.exit(f"no good: {{sys.argv[2]}}")
+sys.exit(subprocess.run([{program!r}, *sys.argv[1:]], stdin=sys.stdin).returncode)
+"""
+
+
+def test_what_is_wrong_is_said_without_a_path(
+    small: Machine, monkeypatch: pytest.MonkeyPatch
+) -> None:
+    """The register and its copies are called so: an officer knows no file and no address."""
+    with small.office() as office:
+        hal, number = Person(office, "hal", "head"), begun(office)
+        brought(office, number, "copied")
+        ask = office.parts.desk.sender.ask
+        with monkeypatch.context() as patch:
+            patch.setattr(office.parts.desk.sender, "ask", lambda method, path, *more: (
+                (500, b"") if path == "/pairs" else ask(method, path, *more)))
+            unnamed(hal.step(number, "give"), "The register cannot be read: the server answered")
+        stand_in = small.folder / "broken"
+        for what, said in (
+            ("do", "The draw cannot be rehearsed: no good: the copy"),
+            ("show", "The copy is no register, or it is damaged: no good: the copy"),
+        ):
+            stand_in.write_text(
+                BROKEN.format(python=sys.executable, program=PROGRAM, what=what), "utf-8")
+            stand_in.chmod(0o755)
+            with monkeypatch.context() as patch:
+                patch.setenv("ADMISSIONS", str(stand_in))
+                unnamed(hal.step(number, "give"), said)
+        brought(office, number, "sealed")
+        copy = office.parts.copies.path(1)
+        copy.write_bytes(b"SQLite format 3\0" + b"damaged" * 999)
+        unnamed(hal.step(number, "rehearse"), "The copy is no register, or it is damaged:")
+        copy.unlink()
+        unnamed(hal.step(number, "rehearse"), "There is no copy 1")
+
+
 def test_a_register_that_changed_behind_is_refused(small: Machine) -> None:
     """After the seal by other pairs, or anything else; after the confirmation, before it is sent;
     and between two fills.

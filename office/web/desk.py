@@ -160,7 +160,7 @@ class Desk:
             moment = self.clock()
             document = self.document()
             register = model.of_document(
-                model.Server(self.sender), model.parsed(self.sender.url, document))
+                model.Server(self.sender), model.parsed(self.sender.named(), document))
             self.copy = moment, register, document
             return register, document
 

@@ -41,6 +41,7 @@ class Parts:
         self.people = People(self.store)
         is_socket = config.door.startswith("/")
         sender = senders.Door(config.door) if is_socket else senders.Http(config.door)
+        sender.called = "the register"
         self.desk = Desk(sender, self.history)
         self.copies = Copies(config.folder / "requests", config.copies, self.store, self.desk)
         self.draws = Draws(self.store, self.history, self.desk, self.copies)

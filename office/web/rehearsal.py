@@ -23,6 +23,8 @@ from .draws_terms import Command, Terms
 # an outcome as numbers: the draw, the child, the school that it had, the one that it has, and
 # whether that is new
 Outcome = list[Any]
+# how errors name a scratch copy, whose path says nothing to an officer
+COPY = "the copy"
 
 
 def outcomes(before: Register, after: Register, number: int) -> list[Outcome]:
@@ -32,10 +34,18 @@ def outcomes(before: Register, after: Register, number: int) -> list[Outcome]:
     return [[number, child, had.get(child), has[child], fresh[child]] for child in sorted(has)]
 
 
+def rows_of(path: str) -> audit_rows.Rows:
+    """What the second program reads of a scratch copy."""
+    try:
+        return audit_rows.rows_of(path)
+    except Refused as error:
+        raise Refused(str(error).replace(path, COPY)) from error
+
+
 def audited(before: str, after: str, is_later: bool) -> tuple[list[str], bool]:
     """What the second program says of two files, and whether all is right."""
     try:
-        return audit.audit(audit_rows.rows_of(before), audit_rows.rows_of(after), is_later, None)
+        return audit.audit(rows_of(before), rows_of(after), is_later, None)
     except audit.MISFITS as error:
         return [f"the rows of a copy do not fit each other: {error!r}"], False
 
@@ -94,7 +104,7 @@ class Rehearsal:
 
     def read(self, path: str) -> Register:
         """The register of a scratch copy."""
-        return model.read_stored(path, self.program)
+        return model.read_stored(path, self.program, COPY)
 
     def hold(self, is_audited: bool) -> None:
         """Holds all draws of the row, and audits each where that is wanted."""
@@ -138,7 +148,8 @@ class Rehearsal:
         except OSError as error:
             raise Refused(f"the program does not start: {error.strerror}") from error
         if not ran.stdout.endswith(b"\n"):
-            raise Refused(f"the draw cannot be rehearsed: {model.printed(ran)}")
+            said = model.printed(ran).replace(file, COPY)
+            raise Refused(f"the draw cannot be rehearsed: {said}")
         return commands.read(ran.stdout.rstrip(b"\n"))
 
     def kept(self) -> dict[str, Any]:

@@ -55,7 +55,4 @@ def register_of(given: FileStorage | None) -> Register:
         path = pathlib.Path(room) / "copy.db"
         path.touch(0o600)
         path.write_bytes(data)
-        try:
-            return model.read_stored(str(path))
-        except Refused as error:
-            raise Refused(str(error).replace(str(path), NAME)) from error
+        return model.read_stored(str(path), called=NAME)
