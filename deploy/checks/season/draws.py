@@ -7,6 +7,8 @@ import hashlib
 import random
 from collections.abc import Sequence
 
+from selenium.webdriver.common.keys import Keys
+
 from . import town
 from .allocation import Pair, lot_of_seed
 from .hands import Hands
@@ -114,8 +116,8 @@ def closed(office: Office, draw: Draw, pairs: int) -> None:
     jane.look("A draw that waits for lots")
     hal = office.people[HAL]
     hal.open("/")
-    report.see(hal.text("#answer").startswith(f"Closed for {draw.numbers} by {jane.who}"),
-               f"the officer sees that it is closed: {hal.text('#answer')!r}")
+    report.see(hal.text("#closed").startswith(f"Closed for {draw.numbers} by {jane.who}"),
+               f"the officer sees that it is closed: {hal.text('#closed')!r}")
 
 
 def drawn(office: Office, draw: Draw, pairs: Sequence[Pair], lots: Lots) -> None:
@@ -152,13 +154,28 @@ def by_workbook(office: Office, sup: Hands, draw: Draw, lots: dict[Pair, int]) -
 
 
 def by_keys(sup: Hands, draw: Draw, tied: Sequence[Pair], lots: Lots) -> None:
-    """The lots are typed in the table, and saved by Enter."""
+    """The lots are typed in the table, and saved by Enter. One that is wrong is marked once its
+    field is left.
+    """
+    first = f"Lot of draw {draw.first} {tied[0][0]} {tied[0][1]}"
+    sup.tab_to(first)
+    sup.type("x")
+    sup.key(Keys.TAB)
+    until(lambda: sup.field(first).get_attribute("aria-invalid") == "true",
+          "a wrong lot is marked")
+    sup.key(Keys.SHIFT, Keys.TAB)
+    sup.replace(str(lots[tied[0]][0]))
+    sup.key(Keys.TAB)
+    until(lambda: sup.field(first).get_attribute("aria-invalid") is None,
+          "and one that is right is not")
+    sup.key(Keys.SHIFT, Keys.TAB)
     for pair in tied:
         for at in range(draw.fills):
             sup.tab_to(f"Lot of draw {draw.first + at} {pair[0]} {pair[1]}")
             sup.type(str(lots[pair][at]))
     sup.enter()
-    sup.see(f"{len(tied) * draw.fills} lots saved.")
+    # (each was saved when its field was left)
+    sup.see("What is on this page is saved.")
 
 
 def sealed_text(draw: Draw, lots: Lots) -> str:

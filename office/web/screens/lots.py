@@ -152,7 +152,8 @@ def save(number: int) -> Answer:
     if to == "all":
         return flask.redirect(flask.url_for("lots.whole", number=number), 303)
     shown = int(to) if to.isascii() and to.isdigit() and len(to) < 6 else None
-    return kept_page(number, f"{texts.count(count, 'lot')} saved.", shown)
+    said = f"{texts.count(count, 'lot')} saved." if count else "What is on this page is saved."
+    return kept_page(number, said, shown)
 
 
 @screen.post("/<int:number>/seed")
