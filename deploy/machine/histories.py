@@ -36,10 +36,15 @@ class Request:
 
     @property
     def command(self) -> str | None:
-        """Its command as one line, as the application sends it; None for an import."""
+        """Its command as one line, as the application sends it; None for an import, and for a line
+        that the application knows no command of."""
         if "command" not in self.entry.about:
             return None
         return json.dumps(self.entry.about["command"], separators=(",", ":"), ensure_ascii=False)
+
+    @property
+    def is_import(self) -> bool:
+        return "import" in self.entry.about
 
     @property
     def rows(self) -> str:
@@ -108,9 +113,10 @@ def follows_another(line: bytes, before: str) -> bool:
 
 
 def see_request(about: dict[str, typing.Any]) -> None:
-    """Raises an error unless this is a command or the rows of an import."""
+    """Raises an error unless this is a command, the rows of an import, or a line that was passed on
+    as it is."""
     is_command = isinstance(about.get("command"), dict)
-    if not is_command and not isinstance(about.get("import"), str):
+    if not is_command and not any(isinstance(about.get(it), str) for it in ("import", "line")):
         raise ValueError("a request without a command")
 
 

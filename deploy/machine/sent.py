@@ -12,14 +12,15 @@ is a day or a moment of the local time, such as 2025-03-03T02:30; a command is
 printed if it was sent then or later. Commands that were sent by `admissions
 do` are not in the history.
 
-Three things are not printed, but named on the standard error with file and
+Four things are not printed, but named on the standard error with file and
 line: a command or import of which no answer is known, with who sent it and
-when; an import that was done, with who sent it; and the first line of a
-history that was changed, after which nothing is read. What is before that line
-is printed; where the change may be in the answer just before it, that is taken
-for unknown. The rows of an import are no command: its line says after how many
-of the printed commands it was done, and with --rows they are written to the
-new FOLDER, each import to a CSV file of that number.
+when; an import that was done, with who sent it; a line that was done, and is
+no command of this version; and the first line of a history that was changed,
+after which nothing is read. What is before that line is printed; where the
+change may be in the answer just before it, that is taken for unknown. The rows
+of an import are no command: its line says after how many of the printed
+commands it was done, and with --rows they are written to the new FOLDER, each
+import to a CSV file of that number.
 
 example:
   admissions-sent secondary-2025 2025-03-03T02:30 > again.jsonl
@@ -61,9 +62,12 @@ def main(given: argparse.Namespace) -> int:
     for number, it in found.requests.items():
         if it.moment < since or it.is_done is False:
             continue
-        where = f"{found.name}, line {number}: {it.in_words(it.command or 'an import')}"
+        what = it.command or ("an import" if it.is_import else "a line that is no command here")
+        where = f"{found.name}, line {number}: {it.in_words(what)}"
         if it.is_done is None:
             count += report(f"{where}, and {LOOK}")
+        elif it.command is None and not it.is_import:
+            count += report(f"{where}, which was done: the history has its begin, send it by hand")
         elif it.command is None:
             written = kept(it.rows, given.rows, printed)
             count += report(

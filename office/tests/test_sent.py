@@ -179,6 +179,28 @@ def test_what_was_found_to_be_done_is_printed_in_the_place_where_it_was_sent(mad
     assert sent(made) == (0, line_of(1, "Ann") + line_of(2, "Bo") + third, "")
 
 
+def test_a_line_that_is_no_command_is_passed_over_and_named_if_the_register_took_it(
+    made: Made,
+) -> None:
+    """One by a mistake must not make what follows it unreadable."""
+    begin = made.done(1, "Ann")
+    refused = made.sends({"line": "no command"})
+    made.history.add("jane", ANSWER, {"of": refused, "answer": {"fault": 1, "name": "NotJson"}})
+    later = made.sends({"line": '{"cmd":"later"}'}, 2, "hal")
+    made.history.add("hal", ANSWER, {"of": later, "answer": DONE})
+    end = made.done(2, "Bo", 3)
+    assert sent(made) == (
+        1,
+        begin + end,
+        said(
+            made,
+            later,
+            "hal sent a line that is no command here at 2025-03-03 10:00:02, which was done: the"
+            " history has its begin, send it by hand",
+        ),
+    )
+
+
 def test_what_may_be_done_is_named(made: Made) -> None:
     """Who sent what and when, in its place, and only from the moment on."""
     first = made.sends({"command": child(1, "Ann", 0)}, 1, "ben")
