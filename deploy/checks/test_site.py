@@ -82,10 +82,15 @@ def test_a_browser_of_nobody_is_led_to_the_form_and_from_there_to_the_page(
     assert (form.status, f'name="to" value="{path}"' in form.body) == (200, True)
 
 
-def test_who_sends_a_form_without_a_session_is_told_to_sign_in_on_a_page(world: World) -> None:
+def test_who_sends_a_form_without_a_session_has_it_again_and_is_told_to_sign_in(
+        world: World) -> None:
     sent = world.ask("/people/", None, "what=lock&name=hal", kind=FORM, options=PAGE)
     assert (sent.status, sent.fields["content-type"]) == (401, "text/html; charset=utf-8")
-    assert "sign in first" in sent.body
+    assert "Your session has ended, and nothing was done." in sent.body
+    assert "<bdi>hal</bdi>" in sent.body
+    (world.room / "long-form").write_text("name=" + "x" * 1_000_000)
+    long = world.ask("/people/", None, f"@{world.room}/long-form", kind=FORM, options=PAGE)
+    assert (long.status, "sign in first" in long.body) == (401, True)
 
 
 def test_the_internal_query_for_a_session_cannot_be_requested(world: World) -> None:
@@ -96,13 +101,18 @@ def test_nobody_sends_a_command_without_signing_in(world: World) -> None:
     assert world.ask("/command", body=ACCEPT).status == 401
 
 
-@pytest.mark.parametrize("fields", [("Content-Length: 1000000",), ("Transfer-Encoding: chunked",)])
 @pytest.mark.parametrize("begin", ["POST /command", "POST /import", "PUT /", "GET /child/1"])
-def test_nothing_of_a_body_is_read_of_who_is_not_signed_in(
-        world: World, begin: str, fields: tuple[str, ...]) -> None:
-    """The answer comes although nothing of the body does."""
-    kind = "Content-Type: application/json"
-    assert status_of(raw(world, begin, f"Origin: https://{NAME}", kind, *fields)) == 401
+def test_nothing_of_a_long_body_is_read_of_who_is_not_signed_in(world: World, begin: str) -> None:
+    """The answer comes although nothing of the body does. (A form that was typed is shorter.)"""
+    fields = ("Content-Type: application/json", "Content-Length: 1000000")
+    assert status_of(raw(world, begin, f"Origin: https://{NAME}", *fields)) == 401
+
+
+def test_of_a_body_whose_length_is_not_announced_no_more_is_read_of_who_is_not_signed_in(
+        world: World) -> None:
+    (world.room / "over-a-mebibyte").write_text(" " * ((1 << 20) + 1))
+    answer = world.ask("/command", None, f"@{world.room}/over-a-mebibyte", options=CHUNKED)
+    assert answer.status == 413
 
 
 # Who tries a password of somebody, as each from an address that has tried none yet, and what for
@@ -561,7 +571,7 @@ def shake_hands(world: World, context: ssl.SSLContext, name: str) -> None:
 # header of the list, and none but those
 
 SIGN_IN, NOT_FROM_HERE = "sign in first", "a request must come from a page of this site"
-LONG_BODY = "a body has at most 16 MB, and that of a sign-in 8 KB"
+LONG_BODY = "a body has at most 16 MB, that of a sign-in 8 KB, and 1 MB where nobody is signed in"
 LONG_COMMAND = "the register takes at most 1,048,576 bytes at once"
 NO_REQUEST = "this is no request that the site reads, or its head has over 8 KB"
 # What is asked, its status and the reason
@@ -755,13 +765,26 @@ def test_a_wrong_sign_in_writes_nothing(world: World, name: str) -> None:
     assert (answer.status, answer.session, written(world)) == (403, "", before)
 
 
-def test_what_is_no_text_is_answered_by_the_register_and_is_in_no_history(world: World) -> None:
+def test_what_is_no_text_is_answered_by_the_register_and_is_in_the_history_as_text(
+        world: World) -> None:
     before = len(world.entries())
     body = '{"cmd":"accept","child":1,"school":"\xff\xfe"}'
     answer = raw(world, "POST /command", world.field("jane"), f"Origin: https://{NAME}",
                  "Content-Type: application/json", f"Content-Length: {len(body)}", "",
                  body, source=STRANGER)
-    assert (status_of(answer), world.entries()[before:]) == (400, [])
+    assert status_of(answer) == 400
+    assert [(it["who"], it["what"], it["about"]) for it in world.entries()[before:]] == [
+        ("jane", "sends", {"line": body.replace("\xff\xfe", "\ufffd\ufffd")}),
+        ("jane", "answer", {"of": before + 1, "answer": {"fault": 1, "name": "NotJson"}})]
+
+
+def test_of_a_long_line_that_is_no_command_the_begin_alone_is_in_the_history(
+        world: World) -> None:
+    (world.room / "long-line").write_text("x" * 1_000_000)
+    size = (world.room / "office/history.jsonl").stat().st_size
+    assert world.ask("/command", "robot", f"@{world.room}/long-line").status == 400
+    assert world.entries()[-2]["about"] == {"line": "x" * 1000}
+    assert (world.room / "office/history.jsonl").stat().st_size < size + 2000
 
 
 # Many wrong passwords from one address: all are refused, most of them without a look at what was
