@@ -36,6 +36,7 @@ exit status: 0 done; 1 not or not wholly done, and the line says why: correct
 that and type it again; 2 wrong arguments.
 """
 import argparse
+import importlib.util
 import os
 import pathlib
 import sys
@@ -43,6 +44,7 @@ import time
 import typing
 
 from office import model
+from office.run import PACKAGES
 from register_files import Refused
 
 from . import answers, certificates, files, holidays, people, settings_copy, sites
@@ -58,6 +60,8 @@ NEEDED = {
     "systemd-sysusers": "systemd",
     "systemd-tmpfiles": "systemd",
 }
+# what the office's application imports
+MODULES = ("argon2", "authlib", "flask", "gunicorn", "requests")
 AUTHORITY = SETTINGS / "authority"
 WAIT = 60
 # where systemd finds what is changed of a unit, and what lets an application out into the network
@@ -127,6 +131,8 @@ def main(given: argparse.Namespace) -> int:
     see_one_command(given)
     for command, package in NEEDED.items():
         tool(command, package)
+    if lacking := [PACKAGES[it] for it in MODULES if not importlib.util.find_spec(it)]:
+        raise Refused(f"the office's application needs: apt-get install {' '.join(lacking)}")
     if given.sites:
         with files.lock():
             return again()

@@ -4,6 +4,7 @@ import argparse
 import contextlib
 import dataclasses
 import datetime
+import importlib.util
 import io
 import json
 import multiprocessing
@@ -690,3 +691,19 @@ def test_another_certificate_or_key_is_confirmed(
         ["--certificate", str(machine / "site.crt"), "--key", str(machine / "site.key")],
         said,
     )
+
+
+def test_what_the_application_lacks_is_named_before_anything_is_made(
+    monkeypatch: pytest.MonkeyPatch,
+) -> None:
+    monkeypatch.setattr(os, "geteuid", lambda: 0)
+    monkeypatch.setattr(setup, "tool", lambda name, package: name)
+    real = importlib.util.find_spec
+    monkeypatch.setattr(
+        importlib.util, "find_spec",
+        lambda name: None if name in ("flask", "argon2") else real(name))
+    reader = argparse.ArgumentParser()
+    setup.arguments(reader)
+    said = "^the office's application needs: apt-get install python3-argon2 python3-flask$"
+    with pytest.raises(Refused, match=said):
+        setup.main(reader.parse_args(["--sites"]))
