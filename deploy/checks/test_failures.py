@@ -159,7 +159,7 @@ def test_a_form_of_another_site_is_refused(world: World, page: Browser) -> None:
     page.value("document.forms[0].submit()")
     page.wait("!document.forms.length && document.body?.innerText.trim()")
     # (the session is not even sent with it)
-    assert "sign in first" in page.value("document.body.innerText")
+    assert "Sign in first." in page.value("document.body.innerText")
     assert world.ask("/child/1", "jane").body == before
 
 
@@ -252,6 +252,13 @@ def test_the_blocks_of_a_draw_are_shown_while_the_desk_is_closed_for_it(
 # The real desk, killed in the middle of a command, and on a full disk
 
 
+def suspend(world: World) -> None:
+    """Suspends the desk just before a command of the page comes. The application has just read the
+    register, with which it compares what the page saw: so it is the command that waits there."""
+    world.ask("/register", "robot")
+    world.stop_desk()
+
+
 def test_a_desk_that_ends_before_its_answer_is_shown_and_a_second_press_sends_nothing(
         world: World, page: Browser) -> None:
     opened(page, "#child/11")
@@ -259,7 +266,7 @@ def test_a_desk_that_ends_before_its_answer_is_shown_and_a_second_press_sends_no
 
     def rule(method: str, _: str) -> None:
         if method == "POST":
-            world.stop_desk()
+            suspend(world)
 
     page.rule = rule
     page.value(FORGET)
@@ -284,7 +291,7 @@ def test_an_application_that_is_killed_before_its_answer_is_shown_and_the_page_g
 
     def rule(method: str, _: str) -> None:
         if method == "POST":
-            world.stop_desk()
+            suspend(world)
 
     page.rule = rule
     write(page, name="Hal Hill-Killed")

@@ -17,7 +17,7 @@ import pytest
 from checks.expected import headers_differ
 from checks.raw import raw, status_of
 from checks.office import Account
-from checks.world import COOKIE, FORM, HAS_IPV6, NAME, Answer, World, basic, group
+from checks.world import COOKIE, FORM, HAS_IPV6, NAME, Answer, World, basic, group, until
 
 ACCEPT = '{"cmd":"accept","child":1,"school":"A"}'
 QUESTION = '{"child":3,"lots":[1,2,3],"preferences":["B"]}'
@@ -149,13 +149,19 @@ def test_after_five_wrong_passwords_an_address_waits_and_then_the_right_one_is_a
     assert world.sign_in("hal", "wrong", *here).session == ""
 
 
+def wait_of(answer: Answer) -> int:
+    """For how many seconds nothing more may be tried, as an answer says."""
+    found = re.search("Try again in ([0-9]+) seconds?", answer.body)
+    return int(found[1]) if found else 0
+
+
 def waited(ask: Callable[[], Answer]) -> int:
     """Waits as long as an answer says, and asks again, until it is looked at. Returns for how many
     seconds at most."""
     seconds = [0]
-    while found := re.search("Try again in ([0-9]+) seconds?", (answer := ask()).body):
-        seconds.append(int(found[1]))
-        time.sleep(seconds[-1])
+    while wait := wait_of(answer := ask()):
+        seconds.append(wait)
+        time.sleep(wait)
     assert answer.status == 303 or "is wrong" in answer.body
     return max(seconds)
 
@@ -819,6 +825,7 @@ def tries_fixture(world: World) -> Tries:
     with concurrent.futures.ThreadPoolExecutor(40) as pool:
         wrong = list(pool.map(lambda _: world.sign_in("rita", "wrong", *here), range(200)))
     seconds, lines = time.monotonic() - began, len(world.entries()) - before
+    until(lambda: wait_of(world.sign_in("rita", "wrong", *here)) >= 8, "a wait of some seconds")
     # (the site may let one pass again only after a second)
     answers = (world.sign_in("rita", world.passwords["rita"], *here) for _ in range(100))
     right = next(it for it in answers if it.status != 429)
