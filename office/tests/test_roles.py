@@ -28,7 +28,7 @@ SCREENS: dict[str, tuple[set[str], set[str]]] = {
 # what differs from its screen
 OTHERS: dict[tuple[str, str], set[str]] = {
     ("child.ask", "GET"): RECORDS, ("child.correct", "GET"): RECORDS,
-    ("draws.second", "POST"): {HEAD, OFFICER}, ("register.what_if", "POST"): READS,
+    ("draws.second", "POST"): {HEAD, OFFICER}, ("register.question", "POST"): READS,
     ("register.waiting", "GET"): READS | {SCHOOL}, ("schools.one", "GET"): READS | {SCHOOL},
     ("schools.workbook", "GET"): READS | {SCHOOL}, ("schools.raise_number", "GET"): RECORDS,
 }
