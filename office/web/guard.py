@@ -1,5 +1,6 @@
 """Who asks, and whether they may: sessions, tokens, rights, requests of other sites, headers."""
 import json
+import re
 import threading
 import time
 from collections.abc import Callable
@@ -18,6 +19,8 @@ from .people import Person
 COOKIE = "__Host-admissions"
 # where a site is tried without TLS, a browser takes no such cookie
 PLAIN_COOKIE = "admissions"
+# what no form can send
+TYPES = ("application/json", "text/csv")
 PUBLIC = "public"
 SIGNED_IN = "signed in"
 HEADERS = {
@@ -95,7 +98,8 @@ def is_foreign() -> bool:
     request = flask.request
     if request.headers.get("Origin") != parts().config.origin:
         return True
-    if request.mimetype in ("application/json", "text/csv"):
+    # (of two kinds some versions of the library name the first, and others both)
+    if re.split("[;,]", request.headers.get("Content-Type", ""))[0].strip().lower() in TYPES:
         return False
     if request.endpoint == "signing.sign_in":
         return False

@@ -27,6 +27,8 @@ class Server(gunicorn.app.base.BaseApplication):  # type: ignore[misc]
             ("workers", 1), ("worker_class", "gthread"),
             ("threads", THREADS), ("timeout", 0), ("graceful_timeout", 30), ("umask", 0o077),
             ("proc_name", f"admissions-office {self.office.name}"), ("loglevel", "warning"),
+            # (the site limits it: some versions write of each longer one to the log)
+            ("limit_request_line", 0),
             ("worker_tmp_dir", str(self.office.folder)), ("control_socket_disable", True),
         ):
             if name in self.cfg.settings:

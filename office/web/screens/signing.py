@@ -16,7 +16,7 @@ def own_path(text: str) -> str:
     """A path of this site to go on at, or that of the first screen."""
     found = urllib.parse.urlsplit(text)
     is_own = text.startswith("/") and not text.startswith("//") and not found.netloc
-    return text if is_own and "\\" not in text else "/"
+    return text if is_own and "\\" not in text and text.isprintable() else "/"
 
 
 def sign_in_page(to: str, said: str, name: str) -> str:
