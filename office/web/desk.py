@@ -1,12 +1,14 @@
 """The way to the register: requests one after another, each compared just before with what the
 register says now, and on record before it is sent.
 """
+import contextlib
 import dataclasses
 import datetime
+import gc
 import json
 import threading
 import time
-from collections.abc import Callable
+from collections.abc import Callable, Iterator
 from typing import Any
 
 from register_files import Refused
@@ -130,6 +132,20 @@ def local(at: str) -> str:
     return f"{found:%H:%M}{day}"
 
 
+@contextlib.contextmanager
+def uncollected() -> Iterator[None]:
+    """Many objects are made meanwhile, and none of them is garbage: to look for some among all that
+    there are would take as long again.
+    """
+    was_enabled = gc.isenabled()
+    gc.disable()
+    try:
+        yield
+    finally:
+        if was_enabled:
+            gc.enable()
+
+
 class Away(Refused):
     """The register does not answer."""
 
@@ -159,8 +175,9 @@ class Desk:
                 return self.copy[1:]
             moment = self.clock()
             document = self.document()
-            register = model.of_document(
-                model.Server(self.sender), model.parsed(self.sender.named(), document))
+            with uncollected():
+                register = model.of_document(
+                    model.Server(self.sender), model.parsed(self.sender.named(), document))
             self.copy = moment, register, document
             return register, document
 
