@@ -1,5 +1,5 @@
 """The people of a register's application, for whoever sets up a machine: they are in office.db, and
-each change is told to the application, which has it in its history from its next request on."""
+each change is left there for the history of the application, which takes it at its next request."""
 import contextlib
 import os
 import typing
