@@ -42,14 +42,14 @@ def teller() -> str:
 
 def add(register: Register, name: str, role: str) -> str:
     """Adds a person, and returns the drawn password."""
-    with opened(register) as (found, kept):
+    with opened(register) as (found, kept), kept.writing():
         kept.tell(teller(), "added", {"person": name, "role": role, "kind": people.PERSON})
         return found.add(name, role)
 
 
 def set_role(register: Register, before: User, role: str) -> None:
     """Gives a person another role."""
-    with opened(register) as (found, kept):
+    with opened(register) as (found, kept), kept.writing():
         told = {"person": before.name, "role": role, "before": before.role}
         kept.tell(teller(), "gave a role", told)
         found.set_role(before.name, role)
@@ -57,14 +57,14 @@ def set_role(register: Register, before: User, role: str) -> None:
 
 def reset(register: Register, name: str) -> str:
     """Draws another password or token, and returns it. A person who was locked stays so."""
-    with opened(register) as (found, kept):
+    with opened(register) as (found, kept), kept.writing():
         kept.tell(teller(), "drew a new password", {"person": name})
         return found.reset(name)
 
 
 def remove(register: Register, user: User) -> None:
     """Removes a person."""
-    with opened(register) as (found, kept):
+    with opened(register) as (found, kept), kept.writing():
         kept.tell(teller(), "removed", {"person": user.name, "role": user.role})
         found.remove(user.name)
 
@@ -73,7 +73,7 @@ def set_provider(register: Register, text: str) -> None:
     """Signs people in by the accounts of the authority, as a text of JSON says; or no more."""
     from office.web import authority
 
-    with opened(register) as (_, kept):
+    with opened(register) as (_, kept), kept.writing():
         provider = authority.provider_in(text) if text else None
         told = {"issuer": provider.issuer if provider else "none"}
         kept.tell(teller(), "changed the sign-in by the authority's accounts", told)

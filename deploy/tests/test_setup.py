@@ -296,6 +296,17 @@ def test_what_an_administrator_changes_is_left_for_the_history(users: registers.
     ]
 
 
+def test_what_was_refused_is_not_left_for_the_history(users: registers.Register) -> None:
+    """A change and what is left of it for the history are stored together, or neither."""
+    before, was = told(users), people.users_of(users)
+    with pytest.raises(Refused, match="jane is there already"):
+        people.add(users, "jane", "reader")
+    gone = people.User("mary", "person", "reader", False)
+    with pytest.raises(Refused, match="there is no mary"):
+        people.set_role(users, gone, "head")
+    assert (told(users), people.users_of(users)) == (before, was)
+
+
 @pytest.mark.parametrize(
     "user, who",
     [

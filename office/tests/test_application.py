@@ -395,8 +395,8 @@ def at_once(count: int, act: Callable[[int], object]) -> list[str]:
 def test_attempts_at_the_same_time_are_not_free(
     office: Site, monkeypatch: pytest.MonkeyPatch
 ) -> None:
-    """Of 32 wrong ones five are checked, and the others are told to wait: from one address, with
-    one name or many. Colleagues who are right at the same time all come in.
+    """Of 32 wrong ones five are checked, and the others must wait: from one address, with one name
+    or many. Colleagues who are right at the same time all come in.
     """
     found, checked = office.parts.people, []
     names = [office.add(f"jane{it}", "officer") for it in range(8)]

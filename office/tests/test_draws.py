@@ -935,7 +935,7 @@ MADE_UP = {
 @pytest.mark.parametrize("how", MADE_UP)
 def test_a_second_person_is_not_made_up(small: Machine, how: str) -> None:
     """Whom the head has added since the draw was begun, or given a role or a password, confirms
-    nothing and asks for nothing, even with a password of their own; before it was begun, they may.
+    and requests nothing, even with a password of their own; before it was begun, they may.
     """
     given, said = MADE_UP[how]
     with small.office() as office:

@@ -110,6 +110,10 @@ class Store:
     def writing(self) -> Iterator[sqlite3.Connection]:
         """A transaction."""
         with self.lock:
+            if self.db.in_transaction:
+                # (a part of one that this thread has begun)
+                yield self.db
+                return
             self.db.execute("BEGIN IMMEDIATE")
             try:
                 yield self.db
