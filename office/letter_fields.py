@@ -3,6 +3,8 @@ program that it must agree with.
 """
 import dataclasses
 import datetime
+import json
+from typing import Any
 
 from register_files import Refused
 
@@ -13,6 +15,8 @@ from .rules import LIMITS
 Cell = str | int | datetime.date | None
 # of a child without a place
 NONE = "none"
+# what a day has in a letter as JSON
+DAY = "day"
 MOST_WAITS = LIMITS["preferences"].most
 # why a child does not wait at a school above its place
 DECLINED, LEFT = "declined", "you left its list"
@@ -89,6 +93,8 @@ class Letter:
     listed: tuple[Listed, ...]
     closing: datetime.date
     is_late: bool
+    # from the date of the letter until the last day of the answer
+    days_left: int | None = None
 
     @property
     def late(self) -> str | None:
@@ -194,6 +200,7 @@ class Writer:
         found = application.listed.get(place.school) if application and place else None
         above = self.above(number, application, place) if register.draws else ()
         started = place and (place.reminded or place.day)
+        answer_by = started + days.NOTICE if started else None
         criterion, code = self.criterion_of(school, found)
         ended = self.ended(number, place)
         return Letter(
@@ -203,11 +210,12 @@ class Writer:
             school=school.code if school else None, school_name=school.name if school else None,
             preference=len(above) + 1 if found else None, offered=place.day if place else None,
             reminded=place.reminded if place else None,
-            answer_by=started + days.NOTICE if started else None, criterion=criterion,
+            answer_by=answer_by, criterion=criterion,
             criterion_code=code, metres=found.metres if found else None,
             criteria=self.criteria_of(school), ended_school=ended.school, ended_name=ended.name,
             ended_because=ended.because, listed=above, closing=register.days[0],
             is_late=application is not None and not register.is_in_time(application.day),
+            days_left=(answer_by - self.day).days if answer_by else None,
         )
 
     def above(self, number: int, application: Application | None, place: Place | None,
@@ -277,3 +285,22 @@ def header() -> list[str]:
     """The columns of the file for a mail merge."""
     waits = [f"waiting_{at}_{it}" for at in range(1, MOST_WAITS + 1) for it in WAIT_COLUMNS]
     return [*COLUMNS, *waits]
+
+
+def text_of(letter: Letter) -> str:
+    """A letter as JSON, from which it is made again."""
+    return json.dumps(dataclasses.asdict(letter), ensure_ascii=False,
+                      default=lambda day: {DAY: day.isoformat()})
+
+
+def of_text(text: str) -> Letter:
+    """The letter of such a text."""
+    found = json.loads(text, object_hook=day_or_row)
+    found["criteria"] = tuple(found["criteria"])
+    found["listed"] = tuple(Listed(**it) for it in found["listed"])
+    return Letter(**found)
+
+
+def day_or_row(found: dict[str, Any]) -> Any:
+    """A day of such a text, or a row as it is."""
+    return datetime.date.fromisoformat(found[DAY]) if set(found) == {DAY} else found

@@ -23,16 +23,18 @@ import time
 import urllib.parse
 from collections.abc import Callable, Iterator, Mapping, Sequence
 from multiprocessing.context import ForkProcess
+from types import MappingProxyType
 from typing import TYPE_CHECKING, Any, NamedTuple
 
 from register_files import Refused
 
-from . import days, inputs, rules, sheet, texts
+from . import days, inputs, letter_faults, rules, sheet, texts
 from .letter_fields import Letter
 from .served_copy import ends_with
 
 if TYPE_CHECKING:
     from jinja2 import Template
+    from jinja2.sandbox import SandboxedEnvironment
     from pikepdf import Pdf
 
 
@@ -45,7 +47,12 @@ class Batch(NamedTuple):
 
 
 BATCH, STEP = 50, 100
-SECONDS_OF_LETTER, MOST_LETTER = 5, 1_000_000
+SECONDS_OF_LETTER, MOST_LETTER, MOST_PAGES = 5, 1_000_000, 100
+# the largest operands of a power, and the bits of a number that is multiplied
+MOST_POWER, MOST_BITS = 1000, 10_000
+# what fills a text to a width, and how jinja2 names what a letter has not
+WIDE = re.compile(r"%[^a-zA-Z%]*(\*|[0-9]{4})")
+NO_FIELD = re.compile(r"'office\.letter_fields\.\w+ object' has no attribute")
 TOO_DEEP = ": it is nested too deeply, or a macro calls itself"
 # the beginnings of the pictures and fonts that a letter shows
 FIRST_BYTES, RIFF = 4096, "RIFF"
@@ -77,56 +84,130 @@ def copy_template(name: str) -> None:
         sheet.write_new(name, file.read())
 
 
-def template_of(name: str) -> Template:
-    """A template, whose values are escaped for HTML, and in which a misspelt name is an error."""
+def environment() -> SandboxedEnvironment:
+    """What templates are made in: values are escaped for HTML, and a misspelt name is an error. A
+    power, or a text that is repeated or filled, has a limit, as one operation takes its time."""
     import jinja2
     import jinja2.sandbox
 
-    made = jinja2.sandbox.ImmutableSandboxedEnvironment(
+    class Sandbox(jinja2.sandbox.ImmutableSandboxedEnvironment):  # type: ignore[misc]
+        """The environment, which looks at some operations first."""
+
+        intercepted_binops = frozenset(("*", "**", "%"))
+
+        def call_binop(
+            self, context: jinja2.runtime.Context, operator: str, left: Any, right: Any
+        ) -> Any:
+            """The result of an operation, or a refusal of one that is too large."""
+            see_product(operator, left, right)
+            return super().call_binop(context, operator, left, right)
+
+    made = Sandbox(
         autoescape=True, undefined=jinja2.StrictUndefined, trim_blocks=True, lstrip_blocks=True
     )
     made.filters["day"] = days.in_words
     made.filters["thousands"] = "{:,}".format
+    return made
+
+
+def see_product(operator: str, left: Any, right: Any) -> None:
+    """Refuses a product, a power or a filled text that is larger than any letter."""
+    sides = (left, right)
+    if operator == "%":
+        is_large = isinstance(left, str) and WIDE.search(left) is not None
+    elif operator == "**":
+        is_large = any(isinstance(it, int) and abs(it) > MOST_POWER for it in sides)
+    else:
+        repeated = [len(it) for it in sides if isinstance(it, (str, list, tuple))]
+        times = [abs(it) for it in sides if isinstance(it, int)]
+        is_large = any(it.bit_length() > MOST_BITS for it in times) or bool(
+            repeated and times and repeated[0] * times[0] > MOST_LETTER)
+    if is_large:
+        raise ArithmeticError(f"the result of {operator} is too large")
+
+
+def template_of(name: str, text: bytes) -> Template:
+    """The template of a text that has this name."""
+    import jinja2
+
     try:
-        return made.from_string(inputs.bytes_of(name).decode("utf-8"))
+        return environment().from_string(text.decode("utf-8"))
     except UnicodeDecodeError as error:
         raise Refused(f"{name} is not in UTF-8") from error
     except (RecursionError, SyntaxError) as error:
         # (a SyntaxError is one of the Python code that jinja2 makes)
         raise Refused(f"{name}{TOO_DEEP}") from error
     except jinja2.TemplateSyntaxError as error:
-        raise Refused(f"{name}, line {error.lineno}: {error.message}") from error
+        line, said = letter_faults.in_words(environment(), text.decode("utf-8"), error)
+        raise Refused(f"{name}, line {line}: {said}") from error
+
+
+def line_of(error: BaseException) -> int | None:
+    """The line of a template in which an error was raised, where it was raised in one."""
+    found, trace = None, error.__traceback__
+    while trace is not None:
+        names = trace.tb_frame.f_globals
+        if "__jinja_exception__" in names:
+            # (jinja2 has put the line of the template there already)
+            found = trace.tb_lineno
+        elif "__jinja_template__" in names:
+            found = names["__jinja_template__"].get_corresponding_lineno(trace.tb_lineno)
+        trace = trace.tb_next
+    return found
+
+
+def at_line(name: str, error: BaseException) -> str:
+    """A template by its name, with the line in which an error was raised."""
+    line = line_of(error)
+    return f"{name}, line {line}" if line else name
 
 
 def html_of(
-    template: Template, name: str, letter: Letter, address: list[str], day: datetime.date
+    template: Template,
+    name: str,
+    letter: Letter,
+    address: list[str],
+    day: datetime.date,
+    values: Mapping[str, object] = MappingProxyType({}),
 ) -> str:
-    """One letter as HTML. A template whose loops do not end, or fill the memory, is refused."""
+    """One letter as HTML, of which the values are the same in all letters. A template whose loops
+    do not end, or fill the memory, is refused."""
     import jinja2
 
     pieces, size = [], 0
+    given = {**values, "letter": letter, "address": address, "date": days.in_words(day)}
     try:
-        with inputs.within(f"{name}: a letter by this template", SECONDS_OF_LETTER):
-            for it in template.generate(letter=letter, address=address, date=days.in_words(day)):
+        with inputs.within("a letter by this template", SECONDS_OF_LETTER):
+            for it in template.generate(given):
                 pieces.append(it)
                 size += len(it)
                 if size > MOST_LETTER:
                     most = f"has over {MOST_LETTER:,} characters"
-                    raise Refused(f"{name}: a letter by this template {most}")
+                    raise Refused(f"a letter by this template {most}")
     except RecursionError as error:
         raise Refused(f"{name}{TOO_DEEP}") from error
-    except (jinja2.TemplateError, ArithmeticError, AttributeError) as error:
-        raise Refused(f"{name}: {error}") from error
+    except MemoryError as error:
+        raise Refused(f"{at_line(name, error)}: a letter takes too much memory") from error
+    except (jinja2.TemplateError, ArithmeticError, AttributeError, Refused) as error:
+        said = NO_FIELD.sub("there is no field", str(error))
+        raise Refused(f"{at_line(name, error)}: {said}") from error
     except (LookupError, TypeError, ValueError) as error:
-        raise Refused(f"{name}: {error}") from error
+        raise Refused(f"{at_line(name, error)}: {error}") from error
     return "".join(pieces)
 
 
 def addresses_of(name: str) -> tuple[list[str], dict[int, list[str]]]:
     """The columns of a sheet of addresses but `child`, and their cells by child."""
+    return addresses_in(name, sheet.read(name).rows)
+
+
+def addresses_in(
+    name: str, rows: Sequence[sheet.Row]
+) -> tuple[list[str], dict[int, list[str]]]:
+    """The same of the rows of a sheet."""
     columns: list[str] = []
     found: dict[int, list[str]] = {}
-    for row, number, cells in by_child(name):
+    for row, number, cells in by_child_in(name, rows):
         if number is None:
             columns = cells
         elif number in found:
@@ -138,10 +219,21 @@ def addresses_of(name: str) -> tuple[list[str], dict[int, list[str]]]:
     return columns, found
 
 
+def lines_of(cells: Sequence[str]) -> list[str]:
+    """The lines of an address, without those that are empty."""
+    return [it for it in cells if it]
+
+
 def by_child(name: str) -> Iterator[tuple[int, int | None, list[str]]]:
     """The rows of a sheet that has a column `child`: the number of the row, the child (None in the
     header), and the other cells in their order."""
-    rows = sheet.read(name).rows
+    return by_child_in(name, sheet.read(name).rows)
+
+
+def by_child_in(
+    name: str, rows: Sequence[sheet.Row]
+) -> Iterator[tuple[int, int | None, list[str]]]:
+    """The same of the rows of a sheet."""
     header = [it.strip().lower() for it in rows[0].cells] if rows else []
     if "child" not in header:
         raise Refused(f"{name} has no column `child`")
@@ -240,6 +332,9 @@ def laid_out(pages: list[str], folder: str) -> tuple[bytes, list[int]]:
             page = HTML(string=it, base_url=folder + os.sep, url_fetcher=fetch)
             see_links(page)
             letters.append(page.render(font_config=config))
+        if len(letters[-1].pages) > MOST_PAGES:
+            raise Refused(f"a letter has {len(letters[-1].pages):,} pages by this template, and at"
+                          f" most {MOST_PAGES:,} are made")
     # (pictures within pictures are loaded here)
     with all_shown(refused):
         data: bytes = letters[0].copy([page for it in letters for page in it.pages]).write_pdf()
@@ -272,17 +367,24 @@ def write_batch(batch: Batch, folder: str, room: str, is_double: bool) -> None:
     with Pdf.open(io.BytesIO(data)) as source, new_file("Letters") as printed:
         start = 0
         for child, count in zip(batch.children, counts):
-            pages = source.pages[start : start + count]
-            start += count
             with new_file(f"Letter of child {child}") as pdf:
-                pdf.pages.extend(pages)
+                pdf.pages.extend(source.pages[start : start + count])
                 write(pdf, os.path.join(room, f"letter-{child:07}.pdf"))
-            printed.pages.extend(pages)
-            if is_double and count % 2:
-                printed.add_blank_page(page_size=A4)
+            start += count
+        add_letters(printed, source, counts, is_double)
         path = batch_file(room, batch.number)
         write(printed, path + ".new")
         os.rename(path + ".new", path)
+
+
+def add_letters(printed: Pdf, source: Pdf, counts: Sequence[int], is_double: bool) -> None:
+    """Adds letters of so many pages each to the file that the printer gets."""
+    start = 0
+    for count in counts:
+        printed.pages.extend(source.pages[start : start + count])
+        start += count
+        if is_double and count % 2:
+            printed.add_blank_page(page_size=A4)
 
 
 def batch_file(room: str, number: int) -> str:
@@ -365,13 +467,13 @@ def write_letters(
     for package in ("weasyprint", "pikepdf"):
         if importlib.util.find_spec(package) is None:
             raise ImportError(f"{package} is not there", name=package)
-    template = template_of(template_name)
+    template = template_of(template_name, inputs.bytes_of(template_name))
     folder = os.path.realpath(os.path.dirname(template_name) or ".")
     batches: list[Batch] = []
     for at in range(0, len(letters), BATCH):
         some, pages = letters[at : at + BATCH], []
         for it in some:
-            address = [line for line in addresses.get(it.child, []) if line]
+            address = lines_of(addresses.get(it.child, []))
             pages.append(html_of(template, template_name, it, address, day))
         batches.append(Batch(at, [it.child for it in some], pages))
     write_batches(batches, folder, room, is_double)
@@ -380,12 +482,17 @@ def write_letters(
 
 def write_whole(parts: Sequence[str], path: str) -> None:
     """Writes the file for the printer, of the files of its batches, which are removed."""
+    join(parts, path, "Letters")
+    for part in parts:
+        os.unlink(part)
+
+
+def join(parts: Sequence[str], path: str, title: str) -> None:
+    """Writes a new file of several."""
     from pikepdf import Pdf
 
     with contextlib.ExitStack() as stack:
-        whole = stack.enter_context(new_file("Letters"))
+        whole = stack.enter_context(new_file(title))
         for part in parts:
             whole.pages.extend(stack.enter_context(Pdf.open(part)).pages)
         write(whole, path)
-    for part in parts:
-        os.unlink(part)

@@ -208,10 +208,11 @@ def compare(letters: list[Letter], proved: dict[int, bytes]) -> None:
                           " letter is written; report this with a copy of the register")
 
 
-def csv_of(letters: list[Letter], columns: list[str], addresses: dict[int, list[str]]) -> bytes:
-    """The file for a mail merge: with a mark by which spreadsheets know UTF-8, and without cells
-    that they would run. The columns of the addresses are last; one that is also a column of the
-    letters has another name.
+def merge_rows(
+    letters: list[Letter], columns: list[str], addresses: dict[int, list[str]],
+) -> list[Sequence[Cell]]:
+    """The rows of a mail merge, of which the first is the header. The columns of the addresses are
+    last; one that is also a column of the letters has another name.
     """
     header = letter_fields.header()
     header += [f"address_{it}" if it in header else it for it in columns]
@@ -219,9 +220,16 @@ def csv_of(letters: list[Letter], columns: list[str], addresses: dict[int, list[
     for one in letters:
         address = addresses.get(one.child, [""] * len(columns))
         lines.append([*letter_fields.row_of(one), *address])
-    rows = [[texts.for_spreadsheet(it) if isinstance(it, str) else it for it in cells]
-            for cells in lines]
-    data: bytes = sheet.csv_bytes(rows)
+    return lines
+
+
+def csv_of(rows: list[Sequence[Cell]]) -> bytes:
+    """The file for a mail merge: with a mark by which spreadsheets know UTF-8, and without cells
+    that they would run.
+    """
+    data: bytes = sheet.csv_bytes(
+        [[texts.for_spreadsheet(it) if isinstance(it, str) else it for it in cells]
+         for cells in rows])
     return b"\xef\xbb\xbf" + data
 
 
@@ -290,7 +298,7 @@ def write(given: argparse.Namespace, letters: list[Letter], proved: dict[int, by
             letter_pdf.write_letters(letters, template, addresses, given.date, rooms[-1][0],
                                      given.double_sided)
         if given.csv:
-            sheet.write_new(given.csv, csv_of(letters, columns, addresses))
+            sheet.write_new(given.csv, csv_of(merge_rows(letters, columns, addresses)))
         name_all(rooms)
 
 

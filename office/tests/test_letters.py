@@ -954,7 +954,7 @@ def test_a_template_shows_pictures_fonts_and_styles_alone(office: Office, tmp_pa
 
 WHOLE = """
 Example County Council
-School Admissions · County Hall, 1 High Street, Exampleton EX1 1AA
+School Admissions, County Hall, 1 High Street, Exampleton EX1 1AA
 admissions@example.gov.uk · 01234 567890
 To the parents or carers of
 Ann Abel

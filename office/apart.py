@@ -1,0 +1,63 @@
+"""Work of the application in a process of its own: what takes too much time or memory ends that
+process alone. (The time of a thread cannot be limited as that of a command is.)
+"""
+import json
+import os
+import resource
+import signal
+import subprocess
+import sys
+import threading
+from typing import Any
+
+import register_files
+from register_files import Refused
+
+from . import inputs
+
+MOST_MEMORY = 2_000 * inputs.MB
+# wall-clock seconds, for a machine that does much else
+MOST_SECONDS = 4 * inputs.SECONDS
+# so many are at work at once: the others wait
+AT_ONCE = threading.BoundedSemaphore(2)
+HERE = os.path.dirname(os.path.abspath(__file__))
+BEGIN = ("import sys; places, name = sys.argv[1:-1], sys.argv[-1]; sys.path[:0] = places;"
+         " import importlib; importlib.import_module(name).main()")
+
+
+class Ended(Refused):
+    """A process that did not end well."""
+
+    def __init__(self, what: str, status: int) -> None:
+        super().__init__(f"{what} was not possible: it ended with status {status}")
+        self.ended_with = status
+
+
+def done(module: str, what: str, asked: dict[str, Any], data: bytes) -> bytes:
+    """What the process of a module prints, which gets what is asked and bytes; or a refusal that
+    says what took too long or did not end well.
+    """
+    places = [os.path.dirname(HERE), os.path.dirname(os.path.abspath(register_files.__file__))]
+    late = Refused(f"{what} takes more than {inputs.SECONDS} seconds")
+    try:
+        with AT_ONCE:
+            ran = subprocess.run(
+                [sys.executable, "-I", "-B", "-c", BEGIN, *places, module],
+                input=json.dumps(asked).encode() + b"\n" + data,
+                capture_output=True, check=False, timeout=MOST_SECONDS)
+    except subprocess.TimeoutExpired as error:
+        raise late from error
+    if ran.returncode in (-signal.SIGXCPU, -signal.SIGKILL):
+        raise late
+    if ran.returncode:
+        raise Ended(what, ran.returncode)
+    return ran.stdout
+
+
+def given() -> tuple[dict[str, Any], bytes]:
+    """What such a process was asked, and its bytes. Its time and memory are limited from now on."""
+    seconds = inputs.SECONDS + 10
+    resource.setrlimit(resource.RLIMIT_AS, (MOST_MEMORY, MOST_MEMORY))
+    resource.setrlimit(resource.RLIMIT_CPU, (seconds, seconds))
+    asked, _, data = sys.stdin.buffer.read().partition(b"\n")
+    return dict(json.loads(asked)), data

@@ -1,0 +1,28 @@
+"""An application in a process of its own, which asks for letters and is killed by a test: its
+folder and the address of the register are its arguments. It makes four letters at a time.
+"""
+import pathlib
+import sys
+import time
+
+from applications import site
+
+from office.web import letters_sets, people
+from office.web.letters_sets import Asked, Sets
+
+MANY, AT_A_TIME = 12, 4
+
+
+def main() -> None:
+    """Asks for letters, and waits to be killed."""
+    letters_sets.BATCH = AT_A_TIME
+    with site(pathlib.Path(sys.argv[1]), sys.argv[2]) as office:
+        found: Sets = office.app.extensions["letters"]
+        template = found.templates.standard()
+        asked = Asked("a try", list(range(1, MANY + 1)), template, 1, "2025-03-03", "pdf")
+        print(found.ask(people.Person("jane", "officer"), "key", asked), flush=True)
+        time.sleep(3600)
+
+
+if __name__ == "__main__":
+    main()

@@ -1,0 +1,260 @@
+"""What letters say of the office and where they go, the question before they are recorded as sent,
+the way back, and a faulty template in words.
+"""
+import datetime
+import html
+import io
+import pathlib
+from collections.abc import Iterator
+from typing import Any
+
+import openpyxl
+import pytest
+from applications import Browser, Site
+from letter_site import (
+    OFFICE, after_round, asked, audited, count, hidden, letter_pages, made, pages, typed,
+)
+from test_letter_templates import number_of, own
+
+from office import letter_pdf
+from office.web.letters_examples import ADDRESS, DAY, OFFERED, SENDER
+
+
+@pytest.fixture(name="address", scope="module")
+def address_fixture(tmp_path_factory: pytest.TempPathFactory) -> Iterator[str]:
+    """A register that is served, after its round."""
+    with after_round(tmp_path_factory.mktemp("round")) as found:
+        yield found
+
+
+@pytest.fixture(name="office")
+def office_fixture(address: str, tmp_path: pathlib.Path) -> Iterator[Site]:
+    """An application over it."""
+    with audited(tmp_path, address) as found:
+        yield found
+
+
+def page_of(browser: Browser, path: str) -> str:
+    """The text of a page."""
+    text: str = browser.get(path).text
+    return html.unescape(text)
+
+
+def test_the_office_is_typed_in_fields_and_shown_on_its_letters(office: Site) -> None:
+    """By the head alone; a field that is needed has its error and loses nothing; a preview shows
+    what is typed and saves nothing; each version is kept with who and when.
+    """
+    jane, hal = office.browser("jane"), office.browser("hal", "head")
+    form = {**OFFICE, "opening": "We write\nof a place.", "closing": "Ring us <soon>.", "seen": "1"}
+    assert jane.post("/letters/office/", {**form, "what": "save"}).status_code == 403
+    found = hal.post("/letters/office/", {**form, "signs": " ", "what": "save"})
+    assert found.status_code == 422 and 'id="signs-error"' in found.text
+    assert "We write of a place." in found.text and count(office, "letter_sender") == 1
+    found = hal.post("/letters/office/", {**form, "what": "preview"})
+    assert "Nothing was saved" in found.text and count(office, "letter_sender") == 1
+    text = pages(hal.get("/letters/templates/preview.pdf").data)[0]
+    head = ("Borough of Tŷ & Sons Civic Hall, 2 Low Street, Town TN1 1AA"
+            " schools@borough.example · 020 7946 0000 · www.borough.example")
+    for part in (head, "Dear parent or carer, We write of a place.", "Ring us <soon>. Yours"
+                 " faithfully, Mary Head, Borough of Tŷ", "17 Low Lane Exampleton EX2 2BB",
+                 "DRAFT"):
+        assert part in text, (part, text)
+    typed(hal, **form)
+    assert hal.post("/letters/office/", {**form, "office": "X", "what": "save"}).status_code == 409
+    page = page_of(jane, "/letters/office/")
+    assert "by hal" in page and "by gwyn" in page
+    entry = office.parts.history.entries[-1]
+    assert (entry.what, entry.who) == ("saved the office on its letters", "hal")
+    letter = letter_pages(jane, made(jane, asked(jane, "offers", "1", child=["4"])))[0]
+    assert head in letter and "We write of a place." in letter and "Example" not in letter
+
+
+def test_letters_with_the_address_of_an_example_are_not_recorded_as_sent(office: Site) -> None:
+    """The screen warns until the office's own is typed; a set from before stays an example's."""
+    with office.parts.store.writing() as db:
+        db.execute("DELETE FROM letter_sender")
+    jane, hal = office.browser("jane"), office.browser("hal", "head")
+    assert 'class="warning" id="example"' in jane.get("/letters/").text
+    path = made(jane, asked(jane, "offers", "1", child=["1"]))
+    assert "Example County Council" in letter_pages(jane, path)[0]
+    page = page_of(jane, path)
+    assert "the address of an example" in page and 'id="record"' not in page
+    typed(hal)
+    assert 'id="example"' not in jane.get("/letters/").text
+    found = jane.post(f"{path}/record", {"day": "3 March 2025", "count": "1"})
+    assert found.status_code == 400 and "have the address of an example" in found.text
+    assert count(office, "letter_set WHERE sent IS NOT NULL") == 0
+
+
+def test_an_own_template_can_show_the_office_or_has_its_own_address(office: Site) -> None:
+    """One that names no example is recorded also where nothing was typed."""
+    head = office.browser("hal", "head")
+    path = own(head)
+    text = "<p>{{ sender.telephone }} for {{ letter.name }}</p>"
+    assert head.post(path, {"text": text, "seen": "1", "what": "save"}).status_code == 303
+    form = asked(head, "offers", "1", child=["4"], template=f"{number_of(path)}.2")
+    assert letter_pages(head, made(head, form)) == ["020 7946 0000 for Siân Tŷ Gwyn"]
+    with office.parts.store.writing() as db:
+        db.execute("DELETE FROM letter_sender")
+    form = asked(head, "offers", "1", child=["4"], template=f"{number_of(path)}.1")
+    assert 'id="record"' in head.get(made(head, form)).text
+
+
+def test_the_example_of_the_application_is_that_of_the_template() -> None:
+    """The letter of the command by the template alone is the one with the example's values."""
+    text = pathlib.Path(letter_pdf.TEMPLATE).read_bytes()
+    template = letter_pdf.template_of("it", text)
+    alone = letter_pdf.html_of(template, "it", OFFERED, ADDRESS, DAY)
+    assert alone == letter_pdf.html_of(template, "it", OFFERED, ADDRESS, DAY, {"sender": SENDER})
+    assert "Example County Council" in alone
+
+
+@pytest.mark.parametrize("text, line, said", [
+    ("<p>\n{% if letter.school %}\n<p>x\n", 2, "the {% if %} that begins here"),
+    ("{% for it in letter.listed %}\n{% if it.position %}\nx\n{% endfor %}\n", 2, "{% endif %}"),
+    ("\n{% for it in letter.listed %}\n{% set a = 1 %}\n{% if a %}{% endif %}\n", 2, "{% for %}"),
+    ("{% set a %}x {{ dict(b=1) }}\n", 1, "{% endset %}"),
+])
+def test_what_is_not_ended_is_named_with_its_line(text: str, line: int, said: str) -> None:
+    """Not the last line, and in words an officer can act on."""
+    with pytest.raises(Exception) as error:
+        letter_pdf.template_of("Mine", text.encode())
+    assert str(error.value).startswith(f"Mine, line {line}: ") and said in str(error.value)
+    assert "Jinja" not in str(error.value)
+
+
+def test_a_refused_template_is_shown_beside_the_version_in_use(office: Site) -> None:
+    """As text: what is not in it any more, and what is new."""
+    head = office.browser("hal", "head")
+    path = own(head)
+    text = "<h1>{{ letter.name }}</h1>\n{% if letter.school %}<b>\n"
+    found = head.post(path, {"text": text, "seen": "1", "what": "save"})
+    assert found.status_code == 422
+    _, _, rest = found.text.partition('id="differences"')
+    shown = html.unescape(rest.partition("</pre>")[0])
+    assert "-<p>{{ date }}</p>\n+{% if letter.school %}<b>" in shown
+    assert "-<h1>" not in shown and "&lt;b&gt;" in rest
+    assert 'id="differences"' not in head.get(path).text
+
+
+def test_a_question_stands_before_the_record(office: Site) -> None:
+    """How many, of which draw, of which date; the day is that of the letters unless it is to come,
+    and is today's then.
+    """
+    jane = office.browser("jane")
+    path = made(jane, asked(jane, "offers", "1", child=["1", "2"]))
+    assert f'id="record" href="{path}/record"' in jane.get(path).text
+    page = page_of(jane, f"{path}/record")
+    for part in ("2 letters: Offers: round 1 of 3 March 2025, 2 of 5", "round 1: 2 letters",
+                 "<dd>3 March 2025</dd>", "Yes, record 2 letters as sent"):
+        assert part in page, part
+    assert hidden(jane.get(f"{path}/record"), "day") == "2025-03-03"
+    today = datetime.date.today()
+    later = (today + datetime.timedelta(days=3)).isoformat()
+    path = made(jane, asked(jane, "offers", "1", child=["1"], day_of_letters=later))
+    assert hidden(jane.get(f"{path}/record"), "day") == today.isoformat()
+    found = jane.post(f"{path}/record", {"day": "someday", "count": "1"})
+    assert found.status_code == 400 and 'value="someday"' in found.text
+    assert 'id="day-error"' in found.text
+
+
+def record(browser: Browser, path: str, **more: str) -> None:
+    """Records a set as sent."""
+    many = hidden(browser.get(f"{path}/record"), "count")
+    found = browser.post(f"{path}/record", {"day": "3 March 2025", "count": many, **more})
+    assert found.status_code == 303, found.text
+
+
+def test_a_record_is_taken_back_with_a_reason(office: Site) -> None:
+    """It is on record, and the letters can be recorded again; not where there is no reason."""
+    jane = office.browser("jane")
+    path = made(jane, asked(jane, "offers", "1", child=["1", "2"]))
+    record(jane, path)
+    assert "Take back the record of 2 letters of 3 March 2025" in jane.get(path).text
+    found = jane.post(f"{path}/take-back", {"reason": " "})
+    assert found.status_code == 400 and "say why" in found.text
+    assert count(office, "letter_set WHERE sent IS NOT NULL") == 1
+    assert jane.post(f"{path}/take-back", {"reason": "not in the post"}).status_code == 303
+    entry = office.parts.history.entries[-1]
+    assert (entry.what, entry.who, entry.about["reason"]) == (
+        "took back a record of letters", "jane", "not in the post")
+    assert "sent by" not in jane.get("/children/1").text.lower()
+    assert jane.post(f"{path}/take-back", {"reason": "again"}).status_code == 400
+    record(jane, path)
+
+
+def test_a_record_on_which_something_rests_stays(office: Site, address: str) -> None:
+    """A second letter because there was a first; and a reminder that was recorded since."""
+    jane = office.browser("jane")
+    form = asked(jane, "offers", "1", child=["1", "2"])
+    first = made(jane, form)
+    other = made(jane, {**form, "key": "other", "child": ["2"]})
+    record(jane, first)
+    record(jane, other, agreed="yes")
+    assert "child 2 was sent the same letter a second time" in jane.get(first).text
+    found = jane.post(f"{first}/take-back", {"reason": "a slip"})
+    assert found.status_code == 400 and "The record stays: child 2" in found.text
+    assert jane.post(f"{other}/take-back", {"reason": "a slip"}).status_code == 303
+    command = {"cmd": "remind", "child": 1, "school": "OAK", "day": "2025-03-17"}
+    history = office.parts.history
+    entry = history.add("jane", "sends", {"command": command})
+    history.add("jane", "answer", {"of": entry.number, "answer": {"done": True}})
+    assert "a reminder was recorded for child 1 since" in jane.get(first).text
+    assert jane.post(f"{first}/take-back", {"reason": "a slip"}).status_code == 400
+    assert count(office, "letter_set WHERE sent IS NOT NULL") == 1
+
+
+def sheet(rows: list[list[Any]]) -> io.BytesIO:
+    """A workbook."""
+    book, out = openpyxl.Workbook(), io.BytesIO()
+    for row in rows:
+        book.active.append(row)
+    book.save(out)
+    return io.BytesIO(out.getvalue())
+
+
+def uploaded(browser: Browser, data: io.BytesIO, name: str, way: str) -> Any:
+    """The answer to a file of addresses."""
+    return browser.post("/letters/addresses/", {"way": way, "file": (data, name)})
+
+
+def test_addresses_are_uploaded_once_and_stand_on_the_letters(office: Site) -> None:
+    """By child or whole; who has none is shown; a faulty file stores nothing."""
+    jane = office.browser("jane")
+    rows: list[list[Any]] = [
+        ["child", "street", "more", "town"], [4, "1 High <St>", None, "Town"],
+        [2, "@Low", "Flat 3", "Village"]]
+    found = uploaded(jane, sheet(rows), "addresses.xlsx", "child")
+    assert found.status_code == 303, found.text
+    page = jane.get("/letters/addresses/").text
+    assert "2 children have an address, and 3 children have none" in page
+    path = made(jane, asked(jane, "offers", "1", child=["2", "4"]))
+    texts = letter_pages(jane, path)
+    assert "Siân Tŷ Gwyn 1 High <St> Town " in texts[1] and "Flat 3 Village" in texts[0]
+    path = made(jane, asked(jane, "offers", "1", child=["3", "4"], kind="merge"))
+    merged = openpyxl.load_workbook(io.BytesIO(jane.get(f"{path}/file").data)).active
+    assert [[it.value for it in row[-2:]] for row in merged.iter_rows()] == [
+        ["address_1", "address_2"], [None, None], ["1 High <St>", "Town"]]
+    for text, said in (("child,a\n99,x\n", "child 99"), ("number,a\n1,x\n", "no column"),
+                       ("child,a\n1,x\n1,y\n", "twice"), (f"child,a\n1,{'x' * 101}\n", "at most"),
+                       ("child,a\n", "no rows")):
+        found = uploaded(jane, io.BytesIO(text.encode()), "a.csv", "whole")
+        assert found.status_code == 422 and said in found.text, (text, found.text)
+    assert count(office, "letter_address") == 2
+    assert uploaded(jane, io.BytesIO(b"child,a\n1,Low\n4,\n"), "a.csv", "child").status_code == 303
+    assert office.app.extensions["letters"].addresses.all() == {
+        1: ["Low"], 2: ["@Low", "Flat 3", "Village"]}
+    assert uploaded(jane, io.BytesIO(b"child,a\n3,New\n"), "a.csv", "whole").status_code == 303
+    assert office.app.extensions["letters"].addresses.all() == {3: ["New"]}
+    assert office.parts.history.entries[-1].about == {"children": [3], "in place of all": True}
+
+
+def test_the_page_of_a_set_says_that_it_looks_again(office: Site) -> None:
+    """While it is made, and not afterwards."""
+    jane = office.browser("jane")
+    sets = office.app.extensions["letters"]
+    sets.wake = lambda: None
+    path = jane.post("/letters/make", asked(jane, "offers", "1", child=["1"])).location
+    page = jane.get(path).text
+    assert '<meta http-equiv="refresh" content="5">' in page
+    assert "This page looks again by itself." in page

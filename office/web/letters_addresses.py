@@ -1,0 +1,62 @@
+"""Where letters go: the lines of the address of each child, from a sheet of the office."""
+import json
+from collections.abc import Iterable
+
+from register_files import Refused
+
+from office import letter_pdf, texts
+from office.sheet import Row
+
+from .history import History, now
+from .people import Person
+from .store import Store
+
+# (more lines than a window of an envelope shows)
+MOST_LINES, MOST_CHARACTERS = 8, 100
+NAME = "the file"
+
+
+def read(rows: list[Row], known: Iterable[int]) -> dict[int, list[str]]:
+    """The lines of a sheet by child: each child is one that the register has."""
+    _, cells = letter_pdf.addresses_in(NAME, rows)
+    found = {child: letter_pdf.lines_of(it) for child, it in cells.items()}
+    if not found:
+        raise Refused("the file has no rows of children below its header")
+    there = set(known)
+    for child, lines in found.items():
+        if child not in there:
+            raise Refused(f"the file has child {child}, and the register has not")
+        if len(lines) > MOST_LINES or any(
+                len(it) > MOST_CHARACTERS or texts.UNSHOWN.search(it) for it in lines):
+            raise Refused(f"the address of child {child} has at most {MOST_LINES} lines, each of"
+                          f" {MOST_CHARACTERS} characters that can be printed")
+    return found
+
+
+class Addresses:
+    """The addresses of one application."""
+
+    def __init__(self, store: Store, record: History) -> None:
+        self.store, self.history = store, record
+
+    def all(self) -> dict[int, list[str]]:
+        """The lines of each child that has an address."""
+        return {it["child"]: json.loads(it["lines"]) for it in self.store.rows(
+            "SELECT * FROM letter_address ORDER BY child")}
+
+    def save(self, who: Person, found: dict[int, list[str]], is_whole: bool) -> None:
+        """Stores addresses by child, or in place of all that are there; on record before. A child
+        without a line has none.
+        """
+        with self.store.lock:
+            self.history.add(who.name, "stored addresses for letters", {
+                "children": sorted(found), "in place of all": is_whole})
+            with self.store.writing() as db:
+                if is_whole:
+                    db.execute("DELETE FROM letter_address")
+                db.executemany("DELETE FROM letter_address WHERE child=?",
+                               [(it,) for it in found])
+                db.executemany(
+                    "INSERT INTO letter_address VALUES (?, ?, ?, ?)",
+                    [(child, json.dumps(lines), who.name, now())
+                     for child, lines in found.items() if lines])

@@ -1,0 +1,340 @@
+"""Letters: whom and which template, the sets that are made and were sent, and a letter again."""
+import collections
+import datetime
+import os
+import secrets
+import sqlite3
+import tempfile
+from typing import Any, cast
+
+import flask
+from flask.blueprints import BlueprintSetupState
+from register_files import Refused
+from werkzeug.datastructures import MultiDict
+from werkzeug.wrappers import Response
+
+from office.model import Register
+
+from .. import letters_back, letters_sets, letters_whom, numbers, wording
+from ..guard import needs, parts, person
+from ..letters_audits import Audits
+from ..letters_sets import Asked, Set, Sets, Twice
+from ..letters_templates import Templates
+from ..letters_whom import CHILDREN, KINDS, LIST, ORDERS, Chosen, Lists
+from ..parts import Parts
+from ..people import READ, RECORD
+from ..wording import sentence
+
+screen = flask.Blueprint("letters", __name__, url_prefix="/letters")
+Answer = str | Response | tuple[str, int]
+TYPES = {
+    letters_sets.PDF: "application/pdf",
+    letters_sets.MERGE: "application/vnd.openxmlformats-officedocument.spreadsheetml.sheet",
+}
+# how often the page of a set that is being made looks again, in seconds
+LOOKS_AGAIN = 5
+WRONG_DAY = "a day as 17 March 2025 or 17/3/2025"
+
+
+@screen.record_once
+def begin(state: BlueprintSetupState) -> None:
+    """Goes on with the sets that an application before this one has left."""
+    made = sets_of(state.app.extensions["office"])
+    state.app.extensions["letters"] = made
+    made.wake()
+
+
+def sets_of(found: Parts) -> Sets:
+    """The sets of an application."""
+    templates = Templates(found.store, found.history)
+    audits = Audits(found.store, found.draws, found.copies)
+    return Sets(found.store, found.history, found.desk, found.copies, templates, audits,
+                found.config.folder / "letters")
+
+
+def sets() -> Sets:
+    """The sets of this application."""
+    return cast(Sets, flask.current_app.extensions["letters"])
+
+
+def lists() -> Lists:
+    """The whom-lists of this application."""
+    return Lists(parts().store, parts().history)
+
+
+@screen.app_context_processor
+def shared() -> dict[str, Any]:
+    """What the screen of a child shows of its letters."""
+    return {"letters_of": lambda child: sets().of_child(child)}
+
+
+def today() -> datetime.date:
+    """The day of today."""
+    return datetime.date.today()
+
+
+@screen.get("/")
+@needs(READ)
+def show() -> Answer:
+    """The question whom, and the sets."""
+    return page()
+
+
+def page(said: str = "", status: int = 200) -> Answer:
+    """The first page of letters."""
+    register: Register | None = None
+    try:
+        register = parts().desk.register()
+    except Refused as error:
+        said, status = sentence(str(error)), 503
+    draws = [(str(it.number), f"{wording.draw_in_words(it)}, {it.day}")
+             for it in register.draws] if register else []
+    agreed = sets().audits.agreed(register) if register else set()
+    return flask.render_template(
+        "letters.html", said=said, is_bad=status != 200, kinds=KINDS, draws=draws[::-1],
+        given=flask.request.args, found=sets().listed(), size=sets().bytes_kept(),
+        day=flask.request.args.get("day", today().isoformat()),
+        has_sender=bool(sets().sender.number),
+        unaudited=[it for it in register.draws if it.number not in agreed] if register else [],
+        may_audit=person().may("draw")), status
+
+
+@screen.get("/whom")
+@needs(READ)
+def whom() -> Answer:
+    """The children of a list, with the template and the form of their letters."""
+    if "whom" not in flask.request.args:
+        return flask.redirect(flask.url_for("letters.show"))
+    return whom_page(flask.request.args)
+
+
+def whom_page(given: MultiDict[str, str], said: str = "", status: int = 200) -> Answer:
+    """The same with what was chosen before."""
+    try:
+        found = letters_whom.read(given)
+        register = parts().desk.register()
+        rows = lists().chosen(register, found, given.get("order", "number"))
+        words = lists().words(register, found)
+    except Refused as error:
+        return page(sentence(str(error)), 400)
+    picked = set(given.getlist("child")) if "key" in given else None
+    return flask.render_template(
+        "letters_whom.html", said=said, is_bad=status != 200, whom=found, words=words,
+        has_sender=bool(sets().sender.number),
+        rows=[(it, is_ticked(it, picked)) for it in rows], given=given,
+        orders=[(name, words) for name, (words, _) in ORDERS.items()],
+        templates=sets().templates.listed(), day=given.get("day_of_letters", today().isoformat()),
+        wrong_day="" if typed_day(given, "day_of_letters") else WRONG_DAY,
+        lacks_place=lists().withdrawal(found)[0] and not lists().withdrawal(found)[1],
+        key=given.get("key") or secrets.token_urlsafe(12)), status
+
+
+def is_ticked(it: Chosen, picked: set[str] | None) -> bool:
+    """Whether the box of a child is ticked: not at first where it has the letter already."""
+    return str(it.child) in picked if picked is not None else not it.sent
+
+
+def typed_day(given: MultiDict[str, str], name: str) -> datetime.date | None:
+    """A day that was typed, or today where nothing was."""
+    return wording.day_of(given.get(name, today().isoformat()))
+
+
+@screen.post("/make")
+@needs(RECORD)
+def make() -> Answer:
+    """Asks for the letters of the children that are ticked."""
+    form = flask.request.form
+    try:
+        asked = asked_in(form)
+        number = sets().ask(person(), form.get("key", "")[:40], asked)
+    except Refused as error:
+        return whom_page(form, sentence(str(error)), 400)
+    return flask.redirect(flask.url_for("letters.one", number=number), 303)
+
+
+def asked_in(form: MultiDict[str, str]) -> Asked:
+    """What a form asks for."""
+    found, register = letters_whom.read(form), parts().desk.register()
+    there = [it.child for it in lists().chosen(register, found, form.get("order", "number"))]
+    picked = {it for it in map(numbers.read, form.getlist("child")) if it >= 0}
+    if missing := picked - set(there):
+        raise Refused(f"child {min(missing)} is not on the list any more: look at it again")
+    if not picked:
+        raise Refused("tick the children whom the letters go to")
+    day, kind = typed_day(form, "day_of_letters"), form.get("kind", "")
+    if day is None:
+        raise Refused("Nothing was made: see the day of the letters")
+    if kind not in letters_sets.FILES:
+        raise Refused("choose letters for print or a mail merge")
+    number, _, version = form.get("template", "").partition(".")
+    if numbers.read(number) < 0 or numbers.read(version) < 0:
+        raise Refused("choose a template")
+    template = sets().templates.get(numbers.read(number), numbers.read(version))
+    withdrawn, copy = lists().withdrawal(found)
+    copy = copy or lists().draw(found, parts().draws.listed())
+    words = lists().words(register, found)
+    if len(picked) < len(there):
+        words = f"{words}, {len(picked)} of {len(there)}"
+    return Asked(words, [it for it in there if it in picked], template.template, template.version,
+                 day.isoformat(), kind, "double" in form,
+                 withdrawn.isoformat() if withdrawn else "", copy, sets().sender.number)
+
+
+def set_of(number: int) -> Set:
+    """A set that is there."""
+    try:
+        return sets().get(number)
+    except Refused:
+        flask.abort(404)
+
+
+@screen.get("/sets/<int:number>")
+@needs(READ)
+def one(number: int) -> Answer:
+    """A set: how far it is, its file, and whether it was sent."""
+    return set_page(number)
+
+
+def set_page(number: int, said: str = "", status: int = 200, reason: str = "") -> Answer:
+    """The page of a set."""
+    found = set_of(number)
+    template = sets().templates.get(found.asked.template, found.asked.version)
+    return flask.render_template(
+        "letters_set.html", it=found, said=said, is_bad=status != 200, template=template,
+        looks_again=LOOKS_AGAIN, may_record=may_record(found), reason=reason,
+        rests=letters_back.rests(sets(), found) if found.sent else "",
+        has_example=sets().has_example(found), children=letters_of(number)), status
+
+
+def letters_of(number: int) -> list[sqlite3.Row]:
+    """The letters of a set in their order."""
+    return parts().store.rows("SELECT child, words FROM letter WHERE set_id=? ORDER BY place",
+                              number)
+
+
+def may_record(found: Set) -> bool:
+    """Whether the letters of a set can be recorded as sent."""
+    is_there = found.state in (letters_sets.MADE, letters_sets.GONE) and found.made > 0
+    return is_there and not found.sent and not found.is_draft and not sets().has_example(found)
+
+
+@screen.get("/sets/<int:number>/file")
+@needs(RECORD)
+def file(number: int) -> Response:
+    """The file of a set, which is taken."""
+    found = set_of(number)
+    data = sets().take(person(), number).read_bytes()
+    draft = "-draft" if found.is_draft else ""
+    stem, _, end = letters_sets.FILES[found.asked.kind].partition(".")
+    headers = {"Content-Disposition": f'attachment; filename="{stem}-{number}{draft}.{end}"'}
+    return flask.Response(data, mimetype=TYPES[found.asked.kind], headers=headers)
+
+
+@screen.post("/sets/<int:number>/end")
+@needs(RECORD)
+def end(number: int) -> Answer:
+    """Ends a set, or removes its file."""
+    set_of(number)
+    sets().end(person(), number)
+    return flask.redirect(flask.url_for("letters.show"), 303)
+
+
+@screen.get("/sets/<int:number>/record")
+@needs(RECORD)
+def ask_record(number: int) -> Answer:
+    """Asks whether the letters of a set were sent, and when."""
+    found = set_of(number)
+    if not may_record(found):
+        return flask.redirect(flask.url_for("letters.one", number=number), 303)
+    return record_page(found, min(found.asked.date, today()).isoformat())
+
+
+def record_page(
+    found: Set, day: str, said: str = "", status: int = 200, wrong: str = "",
+) -> Answer:
+    """The question with what was typed: how many letters, about what, and of which date."""
+    about = collections.Counter(it["words"].partition(":")[0] for it in letters_of(found.number))
+    return flask.render_template(
+        "letters_record.html", it=found, said=said, is_bad=status != 200, day=day, wrong=wrong,
+        about=sorted(about.items()), doubled=sets().again(found.number)), status
+
+
+@screen.post("/sets/<int:number>/record")
+@needs(RECORD)
+def record(number: int) -> Answer:
+    """Records that the letters of a set were sent."""
+    form = flask.request.form
+    found = set_of(number)
+    typed, count = form.get("day", ""), form.get("count", "")
+    day = wording.day_of(typed)
+    if day is None or day > today():
+        return record_page(found, typed, "Nothing was recorded: see the day.", 400,
+                           "the day on which they were sent, as 17 March 2025, and not one that is"
+                           " to come")
+    try:
+        sets().record(person(), number, day, numbers.read(count),
+                      form.get("agreed") == "yes")
+    except Twice as error:
+        return record_page(found, typed, sentence(str(error)), 409)
+    except Refused as error:
+        return set_page(number, sentence(str(error)), 400)
+    return flask.redirect(flask.url_for("letters.one", number=number), 303)
+
+
+@screen.post("/sets/<int:number>/take-back")
+@needs(RECORD)
+def take_back(number: int) -> Answer:
+    """Takes back the record that the letters of a set were sent."""
+    reason = flask.request.form.get("reason", "").strip()
+    set_of(number)
+    try:
+        letters_back.take_back(sets(), person(), number, reason)
+    except Refused as error:
+        return set_page(number, sentence(str(error)), 400, reason)
+    return flask.redirect(flask.url_for("letters.one", number=number), 303)
+
+
+@screen.post("/audit/<int:number>")
+@needs("draw")
+def audit(number: int) -> Answer:
+    """Audits a draw that was not held here."""
+    register = parts().desk.now()
+    if number not in register.outcomes:
+        flask.abort(404)
+    try:
+        is_right, said = sets().audits.audit(person(), register, number)
+    except Refused as error:
+        return page(sentence(str(error)), 409)
+    if not is_right:
+        return page(f"The audit of draw {number} has found a difference: {said}", 409)
+    return flask.redirect(flask.url_for("letters.show"), 303)
+
+
+@screen.get("/of/<int:number>")
+@needs(READ)
+def of_child(number: int) -> Response:
+    """The whom-list of one child."""
+    return flask.redirect(
+        flask.url_for("letters.whom", whom=CHILDREN, value=str(number)), 303)
+
+
+@screen.get("/again/<int:number>")
+@needs(READ)
+def again(number: int) -> Response:
+    """A letter that was sent, as it was."""
+    with tempfile.TemporaryDirectory(prefix="admissions-") as room:
+        path = os.path.join(room, "letter.pdf")
+        child = sets().as_it_was(number, path)
+        with open(path, "rb") as found:
+            data = found.read()
+    headers = {"Content-Disposition": f'attachment; filename="letter-{child}.pdf"'}
+    return flask.Response(data, mimetype=TYPES[letters_sets.PDF], headers=headers)
+
+
+@screen.get("/from-list/<name>")
+@needs(READ)
+def from_list(name: str) -> Response:
+    """The whom-list of a list of the office, with its options."""
+    options = flask.request.query_string.decode("ascii", "replace")
+    return flask.redirect(
+        flask.url_for("letters.whom", whom=LIST, value=f"{name}?{options}"), 303)
