@@ -1,0 +1,217 @@
+"""Reminders and withdrawals as one flow: the list of a day, what is ticked shown whole, a copy, the
+record, and the letters of the same children. Days are worked out by hand.
+"""
+import pathlib
+import re
+from collections.abc import Iterator
+from typing import Any
+
+import pytest
+from applications import Browser, Site
+from conftest import child
+from letter_site import (
+    NAMES, after_round, asked, audited, beside, count, hidden, letter_pages, made,
+)
+
+from office.senders import Ended
+from office.web.answers import Meant
+
+
+@pytest.fixture(name="address", scope="function")
+def address_fixture(tmp_path_factory: pytest.TempPathFactory) -> Iterator[str]:
+    """A register that is served, after its round."""
+    with after_round(tmp_path_factory.mktemp("round")) as found:
+        yield found
+
+
+@pytest.fixture(name="office")
+def office_fixture(address: str, tmp_path: pathlib.Path) -> Iterator[Site]:
+    """An application over it."""
+    with audited(tmp_path, address) as found:
+        yield found
+
+
+def shown(browser: Browser, kind: str, day: str, children: list[int]) -> Any:
+    """The question about those that are ticked."""
+    return browser.post(f"/notices/{kind}", {
+        "day": day, "ticked": "yes", "child": [str(it) for it in children]})
+
+
+def confirmed(browser: Browser, kind: str, page: Any) -> Any:
+    """The answer to its button."""
+    return browser.post(f"/notices/{kind}", {
+        "day": hidden(page, "day"), "digest": hidden(page, "digest"), "key": hidden(page, "key"),
+        "child": re.findall(r'name="child" value="([0-9]+)"', page.text)})
+
+
+def test_reminders_and_withdrawals_lead_to_the_letters_of_the_same_children(
+    office: Site, address: str,
+) -> None:
+    """Two of five are reminded on 17 March; of these one is withdrawn on 31 March."""
+    jane = office.browser("jane")
+    page = jane.get("/notices/remind?day=17 March 2025")
+    assert re.findall(r'name="child" value="([0-9]+)"[^>]* checked', page.text) == list("12345")
+    assert jane.get("/notices/remind?day=16 March 2025").text.count('name="child"') == 0
+    page = shown(jane, "remind", "17 March 2025", [2, 3])
+    assert "Record 2 reminders of 17 March 2025" in page.text
+    assert "Monday, 17 March 2025" in page.text and "=SUM(A1)" in page.text
+    assert "may be withdrawn from 31 March 2025 on" in page.text
+    found = confirmed(jane, "remind", page)
+    assert found.status_code == 303, found.text
+    row = jane.get(found.location)
+    assert "2 of 2 reminders recorded" in row.text and "Letters to these 2 children" in row.text
+    places = office.parts.desk.now().places
+    assert {it for it, place in places.items() if place.reminded} == {2, 3}
+    assert str(places[3].reminded) == "2025-03-17"
+    assert office.copied == ["before reminders of 2025-03-17"]
+    assert not any(it.reminded for it in office.parts.copies.register(1).places.values())
+    form = asked(jane, "row", "1", day_of_letters="18 March 2025")
+    assert form["child"] == ["2", "3"]
+    for number, text in zip((2, 3), letter_pages(jane, made(jane, form))):
+        assert NAMES[number] in text and "18 March 2025" in text
+        assert "We offered this place on 3 March 2025 and reminded you on 17 March 2025" in text
+        assert "If we have no answer by 31 March 2025, the offer may be withdrawn." in text
+    assert jane.get("/letters/whom?whom=reminded&value=17/3/2025").text.count(
+        "reminder of 17 March 2025") == 2
+    withdrawn(jane, office, address)
+
+
+def withdrawn(jane: Browser, office: Site, address: str) -> None:
+    """The other half: one of the two answers, and the other offer is withdrawn."""
+    assert jane.get("/notices/lapse?day=30 March 2025").text.count('name="child"') == 0
+    beside(office, address, [{"cmd": "accept", "child": 3, "school": "ELM"}])
+    page = shown(jane, "lapse", "31 March 2025", [2])
+    assert "Record 1 withdrawal of 31 March 2025" in page.text
+    assert "cannot be undone" in page.text
+    found = confirmed(jane, "lapse", page)
+    assert found.status_code == 303
+    assert 2 not in office.parts.desk.now().places
+    for whom, value in (("row", "2"), ("withdrawn", "31 March 2025")):
+        form = asked(jane, whom, value, day_of_letters="31 March 2025")
+        assert form["child"] == ["2"]
+        text = letter_pages(jane, made(jane, form))[0]
+        assert "The place at Elm has ended" in text
+        assert "our offer of 3 March 2025, of which we reminded you on 17 March 2025" in text
+
+
+def test_what_changed_meanwhile_is_not_recorded(office: Site, address: str) -> None:
+    """Neither what is on the page, nor what was shown to be confirmed; and two clicks record once.
+    """
+    jane = office.browser("jane")
+    page = shown(jane, "remind", "17 March 2025", [1, 4])
+    beside(office, address, [{"cmd": "accept", "child": 4, "school": "ELM"}])
+    found = confirmed(jane, "remind", page)
+    assert found.status_code == 409 and "child 4 is not due any more" in found.text.lower()
+    assert count(office, "notice_row") == 0
+    page = shown(jane, "remind", "17 March 2025", [1])
+    first = confirmed(jane, "remind", page)
+    assert first.status_code == 303
+    assert confirmed(jane, "remind", page).location == first.location
+    sends = [it for it in office.parts.history.entries if it.what == "sends"
+             and it.about.get("command", {}).get("cmd") == "remind"]
+    assert len(sends) == 1 and count(office, "notice_row") == 1
+
+
+def test_wrong_days_and_ticks_are_said(office: Site) -> None:
+    """At the field, and the boxes stay."""
+    jane = office.browser("jane")
+    found = jane.get("/notices/remind?day=someday")
+    assert found.status_code == 400 and "a day as 17 March 2025" in found.text
+    found = shown(jane, "remind", "17 March 2025", [])
+    assert found.status_code == 409 and "Tick at least one child" in found.text
+    found = jane.get("/notices/remind?day=1 March 2025")
+    assert found.status_code == 400 and "Nobody had an offer" in found.text
+
+
+def test_a_row_that_stopped_goes_on_and_sends_nothing_twice(
+    office: Site, monkeypatch: pytest.MonkeyPatch,
+) -> None:
+    """The register is away after the first of two; then the other one is recorded."""
+    jane = office.browser("jane")
+    page = shown(jane, "remind", "17 March 2025", [1, 2])
+    sender, send, sent = office.parts.desk.sender, office.parts.desk.sender.send, list[bytes]()
+
+    def once(line: bytes) -> bytes:
+        sent.append(line)
+        if len(sent) > 1:
+            raise Ended("the register is away", False)
+        return send(line)
+
+    monkeypatch.setattr(sender, "send", once)
+    row = confirmed(jane, "remind", page).location
+    text = jane.get(row).text
+    assert "1 of 2 reminders recorded" in text and "the register is away" in text
+    assert "Record the other 1" in text
+    monkeypatch.setattr(sender, "send", send)
+    assert jane.post(row).status_code == 303
+    assert "2 of 2 reminders recorded" in jane.get(row).text
+    places = office.parts.desk.now().places
+    assert {it for it, place in places.items() if place.reminded} == {1, 2}
+    assert len(sent) == 2 and len(office.copied) == 1
+
+
+def test_a_row_that_was_killed_is_settled_by_a_look(office: Site) -> None:
+    """The first was sent and its answer lost with the application: it is not sent again."""
+    jane = office.browser("jane")
+    page = shown(jane, "remind", "17 March 2025", [1, 2])
+    row = confirmed(jane, "remind", page).location
+    with office.parts.store.writing() as db:
+        db.execute("UPDATE notice SET state='sending', said='' WHERE place=0")
+    count_before = len(office.parts.history.entries)
+    assert "2 of 2 reminders recorded" in jane.get(row).text
+    sends = [it for it in office.parts.history.entries if it.what == "sends"]
+    assert len(sends) == 2 and len(office.parts.history.entries) == count_before
+
+
+def test_an_offer_is_not_withdrawn_while_its_answer_waits_in_a_pile(
+    office: Site, address: str, monkeypatch: pytest.MonkeyPatch,
+) -> None:
+    """Nobody is ticked; each row says what to look at; and the piles are read again at the end."""
+    beside(office, address, [
+        {"cmd": "remind", "child": it, "school": "ELM", "day": "2025-03-17"} for it in (2, 3, 4)])
+    jane, bo = office.browser("jane"), office.browser("bo")
+    bo.get("/answers/")
+    assert bo.post("/answers/", {"entry": "2-"}).status_code == 303
+    path = "/notices/lapse?day=31 March 2025"
+    page = jane.get(path).text
+    assert re.findall(r'name="child" value="([0-9]+)"', page) == list("234")
+    assert not re.findall(r'name="child"[^>]* checked', page)
+    assert re.findall(r'name="child" value="([0-9]+)"[^>]* checked', jane.get(
+        f"{path}&tick=all").text) == ["3", "4"]
+    waits = "bo has an answer for this child in a pile (decline)"
+    letter = "the letter of the reminder of 17 March 2025 is not recorded as sent"
+    assert page.count(waits) == 1 and page.count(letter) == 3
+    assert re.search(r'value="2"[^>]* disabled', page)
+    found = shown(jane, "lapse", "31 March 2025", [2, 3])
+    assert found.status_code == 409 and f"hild 2: {waits}. Nothing was recorded" in found.text
+    question = shown(jane, "lapse", "31 March 2025", [3, 4])
+    assert question.status_code == 200 and question.text.count(letter) == 2
+    bo.post("/answers/", {"entry": "4"})
+    found = confirmed(jane, "lapse", question)
+    assert found.status_code == 409 and "hild 4: bo has an answer" in found.text
+    assert count(office, "notice_row") == 0
+    question = shown(jane, "lapse", "31 March 2025", [3])
+    make = office.parts.copies.make
+
+    def meanwhile(purpose: str, *more: Any) -> int:
+        office.app.extensions["piles"].add(
+            "bo", office.parts.desk.now(), [Meant("3", "accept", 3, "ELM")])
+        return make(purpose, *more)
+
+    monkeypatch.setattr(office.parts.copies, "make", meanwhile)
+    row = confirmed(jane, "lapse", question)
+    assert "bo has an answer for this child in a pile (accept). Nothing was sent." in jane.get(
+        row.location).text
+    assert {2, 3, 4} <= set(office.parts.desk.now().places)
+
+
+def test_a_child_that_is_looked_after_is_named_before_a_withdrawal(
+    office: Site, address: str,
+) -> None:
+    """On the list, and in the question."""
+    beside(office, address, [
+        {"cmd": "remind", "child": 2, "school": "ELM", "day": "2025-03-17"},
+        {**child(2, 200, NAMES[2]), "cmd": "amend", "looked_after": True}])
+    jane = office.browser("jane")
+    assert "looked after, or was" in jane.get("/notices/lapse?day=31 March 2025").text
+    assert "looked after, or was" in shown(jane, "lapse", "31 March 2025", [2]).text

@@ -1,0 +1,46 @@
+"""What is said beside a child on the list of reminders or withdrawals: looked after, an answer that
+waits in a pile, and a reminder whose letter is not recorded as sent.
+"""
+from office import days
+from office.model import Register
+
+from . import answers
+from .answers import WORDS
+from .history import History
+from .letters_whom import Lists, about_of
+from .piles import DONE
+from .store import Store
+
+
+def waiting(store: Store) -> dict[int, str]:
+    """The children whose answer waits in a pile, with whose it is and which."""
+    rows = store.rows("SELECT child, person, kind FROM answer WHERE state<>? AND child IS NOT NULL"
+                      " ORDER BY number", DONE)
+    return {it["child"]: f"{it['person']} has an answer for this child in a pile"
+            f" ({WORDS[it['kind']]})" for it in rows}
+
+
+class Marks:
+    """The marks of all children as they are now."""
+
+    def __init__(self, store: Store, record: History, register: Register) -> None:
+        self.register, self.waiting = register, waiting(store)
+        self.sent = Lists(store, record).earlier("sent IS NOT NULL")
+        self.possible: dict[int, str] = {}
+        names = answers.Names(register)
+        for it in store.rows("SELECT person, name FROM answer WHERE state<>? AND child IS NULL",
+                             DONE):
+            self.possible |= {child: f"{it['person']} has an answer in a pile that may be of this"
+                              " child" for child in names.matches(it["name"])}
+
+    def of(self, child: int) -> tuple[str, ...]:
+        """What is said of a child."""
+        found = ["looked after, or was"] if self.register.children[child].looked_after else []
+        if said := self.waiting.get(child) or self.possible.get(child):
+            found.append(said)
+        place = self.register.places.get(child)
+        is_sent = (child, about_of(self.register, child, None).key) in self.sent
+        if place and place.reminded and not is_sent:
+            day = days.in_words(place.reminded)
+            found.append(f"the letter of the reminder of {day} is not recorded as sent")
+        return tuple(found)

@@ -1,0 +1,195 @@
+"""Reminders and withdrawals: the list of a day, what is ticked shown whole, and recorded; then the
+letters of the same children.
+"""
+import datetime
+import secrets
+from typing import cast
+
+import flask
+from register_files import Refused
+from werkzeug.wrappers import Response
+
+from office import days, texts
+from office.days import NOTICE
+from office.model import Register
+
+from .. import children, notices, numbers, wording
+from ..guard import needs, parts, person
+from ..notice_marks import Marks
+from ..notices import LAPSE, REMIND, Due, Notices
+from ..people import READ, RECORD
+from ..piles import DONE
+from ..wording import sentence
+
+screen = flask.Blueprint("notices", __name__, url_prefix="/notices")
+Answer = str | Response | tuple[str, int]
+KINDS = f"any({REMIND}, {LAPSE})"
+WAIT_SECONDS = 20.0
+WHAT = {REMIND: ("reminder", "reminders"), LAPSE: ("withdrawal", "withdrawals")}
+TITLES = {REMIND: "Reminders", LAPSE: "Withdrawals of offers"}
+LOOKS_AGAIN = 5
+
+
+def rows() -> Notices:
+    """The rows of this application."""
+    found = parts()
+    made = Notices(found.store, found.history, found.desk, found.copies)
+    return cast(Notices, flask.current_app.extensions.setdefault("notices", made))
+
+
+def today() -> datetime.date:
+    """The day of today."""
+    return datetime.date.today()
+
+
+@screen.get("/")
+@needs(READ)
+def show() -> Answer:
+    """What is due today, and the rows that were recorded."""
+    register: Register = parts().desk.register()
+    counts = {}
+    for kind in TITLES:
+        try:
+            counts[kind] = len(notices.due(register, kind, today()))
+        except Refused:
+            counts[kind] = 0
+    return flask.render_template("notices.html", counts=counts, titles=TITLES, what=WHAT,
+                                 found=rows().listed())
+
+
+@screen.get(f"/<{KINDS}:name>")
+@needs(RECORD)
+def choose(name: str) -> Answer:
+    """Those that are due on a day, to be ticked."""
+    return choose_page(name)
+
+
+def choose_page(kind: str, said: str = "", status: int = 200) -> Answer:
+    """The list of a day with its boxes."""
+    given = flask.request.values
+    typed = given.get("day", today().isoformat())
+    day, found, marks = wording.day_of(typed), [], None
+    wrong = "" if day else "a day as 17 March 2025 or 17/3/2025"
+    if day:
+        try:
+            register = parts().desk.register()
+            found, marks = notices.due(register, kind, day), marks_of(register)
+        except Refused as error:
+            wrong = sentence(str(error).partition(";")[0])
+    is_all = given.get("tick", "all" if kind == REMIND else "none") == "all"
+    picked = set(given.getlist("child")) if "ticked" in given else None
+    if wrong and status == 200 and "day" in given:
+        status = 400
+    return flask.render_template(
+        "notices_choose.html", kind=kind, title=TITLES[kind], typed=typed, wrong=wrong, said=said,
+        is_bad=status != 200, day=wording.weekday(day) if day else "",
+        rows=[(it, is_all if picked is None else str(it.child) in picked,
+               rows().why_kept(kind, it.child), marks.of(it.child) if marks else ())
+              for it in found]), status
+
+
+def marks_of(register: Register) -> Marks:
+    """What is said beside each child."""
+    return Marks(parts().store, parts().history, register)
+
+
+def ticked(register: Register, kind: str, day: datetime.date) -> list[Due]:
+    """Those that are ticked, which must all be due still."""
+    found = {it.child: it for it in notices.due(register, kind, day)}
+    given = map(numbers.read, flask.request.form.getlist("child"))
+    wanted = [it for it in given if it >= 0]
+    if gone := [it for it in wanted if it not in found]:
+        raise Refused(f"child {gone[0]} is not due any more: somebody has recorded an answer or a"
+                      " reminder meanwhile. Nothing was recorded")
+    if not wanted:
+        raise Refused("tick at least one child")
+    for it in wanted:
+        if said := rows().why_kept(kind, it):
+            raise Refused(f"child {it}: {said}. Nothing was recorded")
+    chosen = set(wanted)
+    return [it for number, it in found.items() if number in chosen]
+
+
+@screen.post(f"/<{KINDS}:name>")
+@needs(RECORD)
+def ask(name: str) -> Answer:
+    """The question, with all that is to be recorded; or the row that was confirmed."""
+    kind = name
+    form, day = flask.request.form, wording.day_of(flask.request.form.get("day", ""))
+    if day is None:
+        return choose_page(kind, status=400)
+    register = parts().desk.now()
+    try:
+        chosen = ticked(register, kind, day)
+    except Refused as error:
+        if form.get("key") and (known := known_row(form["key"])):
+            # (a second click, after the first one was done)
+            return to_row(known)
+        return choose_page(kind, sentence(str(error)), 409)
+    marks = marks_of(register)
+    digest = notices.digest(kind, day, chosen, marks)
+    if form.get("digest") == digest:
+        try:
+            number = rows().add(person(), form.get("key", "")[:40], kind, day, chosen)
+        except Refused as error:
+            return choose_page(kind, sentence(str(error)), 409)
+        rows().record(person(), number, WAIT_SECONDS)
+        return to_row(number)
+    said = ("What was shown has changed meanwhile. Nothing was recorded: look at it again."
+            if "digest" in form else "")
+    warnings = children.day_warnings(
+        register, notices.command_of(kind, chosen[0].child, chosen[0].school, day), day, today())
+    one, several = WHAT[kind]
+    return flask.render_template(
+        "notices_ask.html", kind=kind, title=TITLES[kind], chosen=chosen, marks=marks,
+        day=day, digest=digest,
+        weekday=wording.weekday(day), warnings=warnings, said=said, register=register,
+        becomes=becomes(kind, day), key=secrets.token_urlsafe(12),
+        button=f"Record {texts.count(len(chosen), one, several)} of {days.in_words(day)}",
+    ), 409 if said else 200
+
+
+def becomes(kind: str, day: datetime.date) -> str:
+    """What becomes of it."""
+    action = children.ACTIONS[kind]
+    return action.becomes.replace("{withdrawn}", days.in_words(day + NOTICE))
+
+
+def known_row(key: str) -> int | None:
+    """The row that a form has made already."""
+    found = parts().store.row("SELECT id FROM notice_row WHERE key=?", key)
+    return int(found["id"]) if found else None
+
+
+def to_row(number: int) -> Response:
+    """Leads to a row."""
+    return flask.redirect(flask.url_for("notices.one", number=number), 303)
+
+
+@screen.get("/rows/<int:number>")
+@needs(READ)
+def one(number: int) -> Answer:
+    """A row: what came of each, and the letters of the same children."""
+    try:
+        if not rows().is_running(number):
+            rows().settle(number)
+        row = rows().get(number)
+    except Refused as error:
+        if not parts().store.row("SELECT 1 FROM notice_row WHERE id=?", number):
+            flask.abort(404)
+        return flask.render_template("failed.html", reason=sentence(str(error)), status=503), 503
+    names = {it.number: it.name for it in parts().desk.register().children.values()}
+    return flask.render_template(
+        "notices_row.html", row=row, title=TITLES[row.kind], what=WHAT[row.kind], names=names,
+        done=row.count(DONE), is_running=rows().is_running(number),
+        looks_again=LOOKS_AGAIN)
+
+
+@screen.post("/rows/<int:number>")
+@needs(RECORD)
+def go_on(number: int) -> Answer:
+    """Goes on with a row where it stopped."""
+    if known := parts().store.row("SELECT id FROM notice_row WHERE id=?", number):
+        rows().record(person(), int(known["id"]), WAIT_SECONDS)
+        return to_row(number)
+    return flask.abort(404)
