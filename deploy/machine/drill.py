@@ -21,6 +21,7 @@ import argparse
 import pathlib
 import tempfile
 
+from office import drills
 from register_files import Refused
 
 from . import copies
@@ -68,16 +69,7 @@ def tried(copy: pathlib.Path, room: str) -> str:
         call(program("admissions-restore"), copy, file)
         if error := open_error(file):
             raise Refused(f"{copy} was restored, but does not open: {error}")
-        found = stored(file)
-        counts = {
-            "schools": len(found.schools),
-            "children": len(found.children),
-            "applications": len(found.applications),
-            "places": len(found.places),
-            "rounds and fills": len(found.draws),
-        }
-        text = ", ".join(f"{number} {name}" for name, number in counts.items())
-        return f"restored and opened, {found.phase} {found.year}: {text}; {settings_text(copy)}"
+        return f"restored and opened, {drills.in_words(stored(file))}; {settings_text(copy)}"
 
 
 def settings_text(copy: pathlib.Path) -> str:

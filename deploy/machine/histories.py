@@ -9,7 +9,7 @@ import typing
 import zlib
 
 from office import commands
-from office.web import history
+from office.web import history, lineage
 from office.web.history import Entry
 from register_files import Refused
 
@@ -64,6 +64,7 @@ class Record:
         self.name, self.problem = name, ""
         self.entries: list[Entry] = []
         self.requests: dict[int, Request] = {}
+        self.restores: list[tuple[int, int]] = []
         before = history.FIRST
         # (what is behind the last line end is being written, or a crash has left it)
         for at, text in enumerate(data.split(b"\n")[:-1], 1):
@@ -96,7 +97,14 @@ class Record:
             self.requests[entry.about["of"]].is_done = commands.is_done(entry.about["answer"])
         elif entry.what == history.SETTLED:
             self.requests[entry.about["of"]].is_done = bool(entry.about["done"])
+        elif entry.what == history.RESTORED:
+            self.restores.append((entry.number, int(entry.about["position"])))
         self.entries.append(entry)
+
+    def undone(self) -> set[int]:
+        """The requests that a restore by the application has undone."""
+        there = lineage.of(self.restores, len(self.entries))
+        return {number for number in self.requests if number not in there}
 
     def open_requests(self) -> list[Request]:
         """The requests of which no answer is known."""

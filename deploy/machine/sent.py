@@ -9,8 +9,8 @@ the order in which they were done, from its history,
 /var/lib/admissions-office/NAME/history.jsonl, also while it is in use. FILE is
 a copy of a history, compressed or not, such as one from the second place. TIME
 is a day or a moment of the local time, such as 2025-03-03T02:30; a command is
-printed if it was sent then or later. Commands that were sent by `admissions
-do` are not in the history.
+printed if it was sent then or later, unless the application has undone it by a
+restore. Commands that were sent by `admissions do` are not in the history.
 
 Four things are not printed, but named on the standard error with file and
 line: a command or import of which no answer is known, with who sent it and
@@ -59,8 +59,9 @@ def main(given: argparse.Namespace) -> int:
     if given.rows:
         pathlib.Path(given.rows).mkdir()
     count = printed = 0
+    undone = found.undone()
     for number, it in found.requests.items():
-        if it.moment < since or it.is_done is False:
+        if it.moment < since or it.is_done is False or number in undone:
             continue
         what = it.command or ("an import" if it.is_import else "a line that is no command here")
         where = f"{found.name}, line {number}: {it.in_words(what)}"

@@ -26,7 +26,9 @@ import time
 
 from register_files import Refused
 
-from . import certificates, copies, files, histories, office_store
+from office.days import DELETION_NOTICE
+
+from . import certificates, copies, deletion, files, histories, office_store
 from .desk import site_status_of, status_of
 from .drill import REPORT as DRILL
 from .registers import REGISTERS, SETTINGS, Register, all_registers, known, stored
@@ -39,6 +41,9 @@ COPY_HOURS, DRILL_DAYS, CERTIFICATE_DAYS = 26, 35, 21
 LEAST_ROOM, ROOM_FACTOR = 200_000_000, 10
 # for so long the answer to a request may be unknown
 OPEN_SECONDS = 3600
+# what the application asks for, and the units whose last run must not have failed
+REQUESTS = ("copy", "restore", "deletion-day", "delete")
+JOBS = ("backup", "second-copy", "drill", *(f"office-{it}" for it in REQUESTS))
 State = tuple[bool, str]
 
 
@@ -84,6 +89,7 @@ def report(register: Register) -> dict[str, State]:
         "drill": drill_of,
         "disk": room_of,
         "certificate": certificate_of,
+        "deletion": deletion_of,
     }
     out = {}
     for name, part in parts.items():
@@ -94,6 +100,16 @@ def report(register: Register) -> dict[str, State]:
         except ValueError as error:
             out[name] = False, f"cannot be read: {error}"
     return out
+
+
+def deletion_of(register: Register) -> State:
+    """Whether the office's application may delete the register soon."""
+    day = deletion.kept(register)
+    if day is None:
+        return True, "no day of deletion is kept"
+    is_soon = deletion.today() >= day - DELETION_NOTICE
+    return not is_soon, (f"the office's application may delete it from {day.isoformat()} on; to"
+                         f" prevent that, rm {deletion.place(register)}")
 
 
 def file_of(register: Register) -> State:
@@ -166,7 +182,7 @@ def units_of(register: Register) -> State:
         if unit in enabled and found["UnitFileState"] != "enabled":
             state = found["UnitFileState"] or "not there"
             bad.append(f"{unit} is {state}: systemctl enable {unit}")
-    for name in ("backup", "second-copy", "drill", "office-copy", "office-restore"):
+    for name in JOBS:
         unit = f"admissions-{name}@{register.name}.service"
         if shown_of(unit, "ActiveState")["ActiveState"] == "failed":
             bad.append(f"{unit} has failed: journalctl -u {unit}")
@@ -176,11 +192,10 @@ def units_of(register: Register) -> State:
 
 
 def office_units(register: Register) -> list[str]:
-    """The units of the application: its socket, itself, and what waits for its requests for a copy
-    or a restore."""
+    """The units of the application: its socket, itself, and what waits for its requests."""
     name = register.name
     application = [f"admissions-office@{name}.{it}" for it in ("socket", "service")]
-    return application + [f"admissions-office-{it}@{name}.path" for it in ("copy", "restore")]
+    return application + [f"admissions-office-{it}@{name}.path" for it in REQUESTS]
 
 
 def shown_of(unit: str, *names: str) -> dict[str, str]:

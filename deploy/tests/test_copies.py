@@ -31,7 +31,14 @@ from machine import (
 )
 from office.web import people
 from office.web.store import Store
-from office_files import add_people, children_of, history, record
+from office_files import (
+    add_note_and_file,
+    add_people,
+    children_of,
+    history,
+    notes_and_files_of,
+    record,
+)
 from register_files import Refused
 from setup_arguments import given_to_setup
 
@@ -540,6 +547,20 @@ def test_people_settings_and_history_come_back_where_there_are_none(
     assert children_of(register.history.read_bytes()) == [1, 2, 3]
     names = [it.name for it in office_store.people_of(register)]
     assert names == ["alpha", "ben", "jane", "page"]
+
+
+def test_notes_and_files_of_children_come_back_with_the_people(office: registers.Register) -> None:
+    """Whole, on a machine that has nothing of the application: also bytes that are no text."""
+    path = copy(office, "nightly-000001-2025-03-01T023000.db", with_settings=False)
+    data = bytes(range(256)) * 4000
+    add_note_and_file(office, 7, "asked for =help\nSecond line", data)
+    kept = [("note", "asked for =help\nSecond line", b""), ("file", "../../evidence.pdf", data)]
+    assert copy_settings(office) == 0
+    shutil.rmtree(office.office)
+    assert not office_store.path_of(office).exists()
+    list(settings_copy.restored(office, path))
+    assert notes_and_files_of(office, 7) == kept
+    assert notes_and_files_of(office, 8) == []
 
 
 def test_what_comes_back_is_given_to_the_application(

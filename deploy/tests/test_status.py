@@ -10,7 +10,7 @@ import subprocess
 import time
 
 import pytest
-from machine import certificates, office_store, registers, second_copy, status
+from machine import certificates, deletion, office_store, registers, second_copy, status
 from office.web.history import SENDS, SETTLED
 from office.web.store import Store
 from office_files import add_people, history, record
@@ -275,7 +275,7 @@ def test_a_certificate_that_is_none_is_reported_and_so_is_all_else(
     (register.settings / "site.crt").write_bytes(content)
     monkeypatch.setattr(status, "site_status_of", lambda *_: (401, b""))
     found = status.report(register)
-    assert (found["site"][0], said in found["site"][1], len(found)) == (False, True, 11)
+    assert (found["site"][0], said in found["site"][1], len(found)) == (False, True, 12)
 
 
 ENABLED = [
@@ -289,8 +289,18 @@ OFFICE = [
     "admissions-office@secondary-2025.service",
     "admissions-office-copy@secondary-2025.path",
     "admissions-office-restore@secondary-2025.path",
+    "admissions-office-deletion-day@secondary-2025.path",
+    "admissions-office-delete@secondary-2025.path",
 ]
-JOBS = ("backup", "second-copy", "drill", "office-copy", "office-restore")
+JOBS = (
+    "backup",
+    "second-copy",
+    "drill",
+    "office-copy",
+    "office-restore",
+    "office-deletion-day",
+    "office-delete",
+)
 
 
 @pytest.mark.parametrize(
@@ -416,4 +426,21 @@ def test_each_part_is_reported(register: registers.Register) -> None:
         "drill",
         "disk",
         "certificate",
+        "deletion",
     ]
+
+
+def test_a_deletion_that_is_near_is_reported(
+    register: registers.Register, monkeypatch: pytest.MonkeyPatch
+) -> None:
+    day = datetime.date(2026, 1, 31)
+    assert status.deletion_of(register) == (True, "no day of deletion is kept")
+    register.settings.mkdir(parents=True, exist_ok=True)
+    deletion.place(register).write_text(f"{day}\n", encoding="ascii")
+    for today, is_well in (("2026-01-16", True), ("2026-01-17", False), ("2026-02-20", False)):
+        monkeypatch.setattr(deletion, "today", lambda it=today: datetime.date.fromisoformat(it))
+        assert status.deletion_of(register) == (
+            is_well,
+            "the office's application may delete it from 2026-01-31 on; to prevent that, rm"
+            f" {deletion.place(register)}",
+        )

@@ -90,7 +90,7 @@ def test_what_the_machine_has_not_begun_is_taken_back(
         with pytest.raises(Refused, match="the machine has not answered"):
             found.make("a try")
         with pytest.raises(Refused, match="the machine has not answered"):
-            found.restore(1)
+            found.restore(1, "hal")
         given = argparse.Namespace(name=NAME)
         for command in (office_copy, office_restore):
             with pytest.raises(Refused, match="there is no request"):
@@ -122,7 +122,7 @@ def test_what_the_machine_has_begun_is_awaited(
             time.sleep(0.01)
         do_over(small.address, [RAISED])
         count = small.answered
-        found.restore(1)
+        found.restore(1, "hal")
         assert small.answered >= count + 1
         assert not list((small.state / "requests").glob("*.begun"))
 
@@ -226,7 +226,7 @@ def test_a_restore_that_is_killed(
         assert answer["error"] == "NotRestored" and answer["why"].startswith(wanted[when])
         pan = office.parts.desk.now().schools["OAK"].pan
         assert pan == {"before": 2, "after": 1}[when]
-        office.parts.copies.restore(1)
+        office.parts.copies.restore(1, "hal")
         assert copies.is_same(office.parts.desk.now(), before)
 
 
@@ -291,5 +291,5 @@ def test_a_restore_that_leaves_no_register_says_so(
         assert small.run is None
         with monkeypatch.context() as patch:
             patch.setattr("machine.office_requests.stop", lambda _: None)
-            office.parts.copies.restore(1)
+            office.parts.copies.restore(1, "hal")
         assert copies.is_same(office.parts.desk.now(), before)

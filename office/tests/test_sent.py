@@ -15,7 +15,7 @@ from applications import ROUND, child, office_over, town
 from conftest import PROGRAM, ROOT, do, make
 
 from office.web import people
-from office.web.history import ANSWER, FIRST, SENDS, SETTLED, Entry, History, digest
+from office.web.history import ANSWER, FIRST, RESTORED, SENDS, SETTLED, Entry, History, digest
 
 # Has the command read the histories of a folder: the repository, the folder, and its arguments
 RUN = """
@@ -117,6 +117,19 @@ def test_a_command_is_one_line_of_the_same_value(made: Made) -> None:
     assert (status, errors, out.count("\n"), out[-1]) == (0, "", 1, "\n")
     assert json.loads(out) == command
     assert "T\u0177" in out
+
+
+def test_what_a_restore_has_undone_is_not_printed(made: Made) -> None:
+    """But what was sent again after it is, once; and all of it where the restore was taken back."""
+    first = made.done(1, "Before the copy")
+    position = len(made.history.entries)
+    undone = made.done(2, "Undone")
+    whole = len(made.history.entries)
+    made.history.add("hal", RESTORED, {"copy": 1, "position": position})
+    again = made.done(3, "Sent again")
+    assert sent(made)[:2] == (0, first + again)
+    made.history.add("hal", RESTORED, {"copy": 2, "position": whole})
+    assert sent(made)[:2] == (0, first + undone)
 
 
 def test_sent_again_a_register_is_the_same(tmp_path: Path, made: Made) -> None:

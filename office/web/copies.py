@@ -10,7 +10,7 @@ import re
 import stat
 import tempfile
 import time
-from collections.abc import Callable
+from collections.abc import Callable, Iterator
 from typing import Any
 
 from register_files import Refused
@@ -18,8 +18,9 @@ from register_files import Refused
 from office import model
 from office.model import Register
 
+from . import plain
 from .desk import Desk
-from .history import now
+from .history import RESTORED, now
 from .store import Store
 
 # what is asked for; the answer has the same name with DONE
@@ -29,6 +30,8 @@ NAME = re.compile(r"office-([0-9]{6,9})-[0-9]{4}-[0-9]{2}-[0-9]{2}T[0-9]{6}\.db"
 # answers again
 BEGIN_SECONDS, END_SECONDS, BACK_SECONDS, PAUSE = 60.0, 960.0, 30.0, 0.05
 MOST_BYTES = 4096
+# how errors name a copy, whose path says nothing to an officer
+COPY_NAME = "the copy"
 # the errors of the machine that have words of their own; for others it has given them
 ERRORS = {
     "NoNumber": "the machine does not take the request for a number",
@@ -39,7 +42,8 @@ ERRORS = {
 @dataclasses.dataclass(frozen=True)
 class Copy:
     """A copy that was compared with the register: its number, when it was asked for (UTC), what it
-    is for, the name of its file, and its bytes.
+    is for, the name of its file, and its bytes; who asked for it; whether its file is there; when
+    it was tested last (UTC), and what that found.
     """
 
     number: int
@@ -47,11 +51,30 @@ class Copy:
     purpose: str
     name: str
     size: int
+    who: str
+    is_there: bool
+    tested: str
+    test: dict[str, Any]
 
 
 def is_same(one: Register, other: Register) -> bool:
     """Whether two registers show the same, whatever they are called."""
     return dataclasses.replace(one, name="") == dataclasses.replace(other, name="")
+
+
+@contextlib.contextmanager
+def readable() -> Iterator[None]:
+    """Refuses what the machine cannot do with its files, in words that name none of them."""
+    try:
+        yield
+    except OSError as error:
+        raise Refused(f"the machine cannot be asked for copies ({plain.reason(error)})."
+                      f" {plain.ADVICE}") from error
+
+
+def read_copy(path: pathlib.Path) -> Register:
+    """The register of a copy."""
+    return model.read_stored(str(path), plain.program(), COPY_NAME)
 
 
 class Copies:
@@ -65,13 +88,15 @@ class Copies:
     ) -> None:
         self.requests, self.folder, self.store, self.desk = requests, folder, store, desk
         self.clock = clock
+        # the copy that was read last, by its file
+        self.read: tuple[tuple[int, ...], Register] | None = None
         requests.mkdir(mode=0o700, exist_ok=True)
 
-    def make(self, purpose: str) -> int:
+    def make(self, purpose: str, who: str = "") -> int:
         """Makes a copy of the register as it is now, compares the two, and returns its number."""
         with self.desk.lock:
             self.desk.settle()
-            number = self.next_number(purpose)
+            number = self.next_number(purpose, who)
             try:
                 name = str(self.asked(COPY, number).get("copy", ""))
                 found = NAME.fullmatch(name)
@@ -84,15 +109,16 @@ class Copies:
             self.change("name=?, size=?", name, size, number)
             return number
 
-    def next_number(self, purpose: str) -> int:
+    def next_number(self, purpose: str, who: str) -> int:
         """The number of a new copy, which no file of the folder has."""
         there = (NAME.fullmatch(it.name) for it in self.folder.glob("office-*.db"))
         last = max((int(it[1]) for it in there if it), default=0)
         with self.store.writing() as db:
             known = db.execute("SELECT max(number) FROM copy").fetchone()[0] or 0
             number = max(known, last) + 1
-            db.execute("INSERT INTO copy (number, purpose, asked) VALUES (?, ?, ?)",
-                       (number, purpose, now()))
+            db.execute(
+                "INSERT INTO copy (number, purpose, asked, who, position) VALUES (?, ?, ?, ?, ?)",
+                (number, purpose, now(), who, len(self.desk.history.entries)))
         return number
 
     def change(self, query: str, *values: object) -> None:
@@ -102,9 +128,10 @@ class Copies:
 
     def compared(self, path: pathlib.Path) -> int:
         """The size of a copy, or a refusal where it is not the register as it is now."""
-        if not is_same(model.read_stored(str(path)), self.back()):
+        if not is_same(read_copy(path), self.back()):
             raise Refused("the copy differs from the register")
-        return path.stat().st_size
+        with readable():
+            return path.stat().st_size
 
     def back(self) -> Register:
         """The register, once it answers again."""
@@ -126,16 +153,41 @@ class Copies:
         return path
 
     def register(self, number: int) -> Register:
-        """The register as a copy has it."""
-        return model.read_stored(str(self.path(number)))
+        """The register as a copy has it, which is read once while its file is as it was."""
+        path = self.path(number)
+        found = path.stat()
+        key = number, found.st_ino, found.st_size, found.st_mtime_ns
+        kept = self.read
+        if kept is None or kept[0] != key:
+            kept = self.read = key, read_copy(path)
+        return kept[1]
 
     def listed(self) -> list[Copy]:
         """The copies, the last first."""
         rows = self.store.rows("SELECT * FROM copy WHERE name IS NOT NULL ORDER BY number DESC")
-        return [Copy(it["number"], it["asked"], it["purpose"], it["name"], it["size"])
+        return [Copy(it["number"], it["asked"], it["purpose"], it["name"], it["size"], it["who"],
+                     (self.folder / it["name"]).is_file(), it["tested"] or "",
+                     json.loads(it["test"] or "{}"))
                 for it in rows]
 
-    def restore(self, number: int) -> None:
+    def get(self, number: int) -> Copy:
+        """A copy by its number, also where its file is gone."""
+        found = next((it for it in self.listed() if it.number == number), None)
+        if found is None:
+            raise Refused(f"there is no copy {number}")
+        return found
+
+    def position(self, number: int) -> int:
+        """The last entry of the history from before a copy."""
+        row = self.store.row("SELECT asked, position FROM copy WHERE number=?", number)
+        if row is None:
+            raise Refused(f"there is no copy {number}")
+        if row["position"] is not None:
+            return int(row["position"])
+        # (of an earlier release: nothing was sent between that moment and the copy)
+        return sum(it.at <= row["asked"] for it in self.desk.history.entries)
+
+    def restore(self, number: int, who: str) -> None:
         """Makes the register that of a copy. What was there is kept by the machine."""
         with self.desk.lock:
             wanted = self.register(number)
@@ -145,6 +197,16 @@ class Copies:
             self.asked(RESTORE, number)
             if not is_same(wanted, self.back()):
                 raise Refused("the register is not that of the copy")
+            self.desk.history.add(
+                who, RESTORED, {"copy": number, "position": self.position(number)})
+
+    def end_request(self, what: str) -> None:
+        """Takes back a request of the application that was here before. What the machine has begun
+        is awaited.
+        """
+        with self.desk.reading:
+            self.is_taken_back(self.requests / what)
+            self.wait(what, lambda: not self.is_begun(what))
 
     def asked(self, what: str, number: int) -> dict[str, Any]:
         """The answer of the machine to a request, or a refusal."""
@@ -152,8 +214,9 @@ class Copies:
         with self.desk.reading:
             # (which an application before this one has asked for, and whose answer is not this one)
             self.wait(what, lambda: not self.is_begun(what))
-            answer.unlink(missing_ok=True)
-            self.put(request, f"{number}\n")
+            with readable():
+                answer.unlink(missing_ok=True)
+                self.put(request, f"{number}\n")
             end = self.clock() + BEGIN_SECONDS
             while request.exists():
                 if self.clock() > end and self.is_taken_back(request):
@@ -162,7 +225,7 @@ class Copies:
             self.wait(what, lambda: is_answer(read(answer), number) and not self.is_begun(what))
             found = read(answer)
         if "error" in found:
-            raise Refused(ERRORS.get(str(found["error"]), str(found.get("why", ""))))
+            raise Refused(ERRORS.get(str(found["error"]), plain.said(str(found.get("why", "")))))
         return found
 
     def is_begun(self, what: str) -> bool:
@@ -177,6 +240,8 @@ class Copies:
             request.unlink()
         except FileNotFoundError:
             return False
+        except OSError as error:
+            raise Refused(f"a request cannot be taken back: {plain.reason(error)}") from error
         return True
 
     def wait(self, what: str, is_so: Callable[[], bool]) -> None:

@@ -1,0 +1,630 @@
+"""Copies made by hand, tested and restored by the office, with what came since sent again; over the
+real program, with the machine's commands as its units run them. What is expected is worked out by
+a small model of the commands.
+"""
+import contextlib
+import copy
+import html
+import json
+import pathlib
+import re
+from collections.abc import Callable, Iterator
+from typing import Any
+
+import pytest
+from applications import Browser, Site
+from conftest import HEADER, apply, child
+from draw_site import (
+    HAL, JANE, OFFER_DAY, SUP, Machine, begun, brought, given_up, machine_over, small_register,
+    version,
+)
+from pages import Page, press
+from register_files import Refused
+
+from office.model import Register
+from office.web import copies, draws_again, lineage, restores_again
+from office.web.draws_drafts import Typed
+from office.web.history import RESTORED, Entry, History
+from office.web.parts import Parts
+from office.web.step_store import StepStore
+
+Command = dict[str, Any]
+
+
+@pytest.fixture(name="register", scope="module")
+def register_fixture(tmp_path_factory: pytest.TempPathFactory) -> pathlib.Path:
+    """The file of a small register."""
+    return small_register(tmp_path_factory)
+
+
+@pytest.fixture(name="small")
+def small_fixture(
+    tmp_path: pathlib.Path, register: pathlib.Path, monkeypatch: pytest.MonkeyPatch
+) -> Iterator[Machine]:
+    """A machine with a small register."""
+    with machine_over(tmp_path, register, monkeypatch) as found:
+        yield found
+
+
+class Model:
+    """What a register has after commands, worked out apart from the program: numbers of places,
+    names and applications.
+    """
+
+    def __init__(self) -> None:
+        self.pans = {"OAK": 1, "ELM": 9}
+        self.names = {it: str(child(it)["name"]) for it in range(1, 6)}
+        self.applied = {it: ["OAK", "ELM"] for it in range(1, 6)}
+
+    def do(self, command: Command) -> bool:
+        """Does a command, or refuses it."""
+        what, number = command["cmd"], command.get("child", 0)
+        if what == "raise_pan" and self.pans[command["school"]] < command["pan"]:
+            self.pans[command["school"]] = command["pan"]
+        elif what == "add_child" and number not in self.names:
+            self.names[number] = command["name"]
+        elif what == "amend" and number in self.names:
+            self.names[number] = command["name"]
+        elif what == "apply" and number in self.names and number not in self.applied:
+            self.applied[number] = command["preferences"]
+        else:
+            return False
+        return True
+
+    def see(self, register: Register) -> None:
+        """Sees that a register has this and no more."""
+        assert {it.code: it.pan for it in register.schools.values()} == self.pans
+        assert {it.number: it.name for it in register.children.values()} == self.names
+        assert {at: list(it.preferences) for at, it in register.applications.items()} == (
+            self.applied)
+
+
+NEW_NAME: Command = {**child(1, name="Ada =1+1 <b>"), "cmd": "amend"}
+RAISED: Command = {"cmd": "raise_pan", "school": "OAK", "pan": 2}
+ADDED: Command = child(6, name="Fay")
+APPLIED: Command = apply(6, ["ELM"])
+ROWS = f"{HEADER}\n8,Hal Hill,100,0,no,,,2024-10-20,ELM,\n"
+
+
+class Room:
+    """An office with two persons in browsers."""
+
+    def __init__(self, office: Site) -> None:
+        self.office = office
+        self.hal, self.jane = office.browser("hal", "head"), office.browser("jane", "officer")
+
+    def since(self) -> dict[str, int]:
+        """The entries of what was sent, by the command."""
+        return {it.about.get("command", {"cmd": "import"})["cmd"]: it.number
+                for it in self.office.parts.history.entries if it.what == "sends"}
+
+    def copy_now(self, purpose: str = "a try") -> None:
+        """Makes a copy by hand."""
+        page = self.hal.post("/copies/", {"purpose": purpose})
+        assert page.status_code == 200, page.text
+
+    def begin(self, number: int, **given: object) -> int:
+        """Closes the register for a restore, and returns its number."""
+        found = self.hal.post(f"/copies/{number}/restore", given)
+        assert found.status_code == 303, found.text
+        return int(found.headers["Location"].rsplit("/", 1)[1])
+
+    def press(self, browser: Browser, number: int, name: str, entries: tuple[int, ...] = ()) -> Any:
+        """Presses a button of a restore, with what is ticked."""
+        seen = self.office.parts.restores.get(number).version
+        second = "second/" if name == "confirm" else ""
+        given = {f"again-{it}": "on" for it in entries}
+        if name == "ask" and not entries:
+            given["none"] = "yes"
+        return browser.post(f"/restores/{number}/{second}{name}", {"seen": seen, **given})
+
+    def state(self, number: int) -> str:
+        """The state of a restore."""
+        return self.office.parts.restores.get(number).state
+
+    def now(self) -> Register:
+        """The register as it is."""
+        return self.office.parts.desk.now()
+
+
+def text_of(page: str, name: str) -> str:
+    """The text of a table of a page."""
+    found = re.search(rf'<table id="{name}".*?</table>', page, re.S)
+    assert found, name
+    return re.sub(r"\s+", " ", html.unescape(re.sub("<[^>]*>", " ", found[0])))
+
+
+def sent(office: Site, *given: tuple[Any, Command]) -> None:
+    """Commands of persons, each of which is done."""
+    for who, command in given:
+        assert office.parts.desk.send(who, command).is_done, command
+
+
+def staged_by(office: Site, entry: int) -> None:
+    """An application of the staging table that was stored by an entry of the history."""
+    with office.parts.store.writing() as db:
+        db.execute("INSERT INTO staged_file VALUES (1, 'a.csv', '', 0, 0, '[]', 'jane', '')")
+        db.execute("INSERT INTO staged_row (file, number, cells, others, notes, state, who, added,"
+                   " changed_by, changed, entry) VALUES (1, 1, '{}', '{}', '[]', 'committed',"
+                   " 'jane', '', 'jane', '', ?)", (entry,))
+
+
+def test_a_copy_is_restored_and_what_is_ticked_is_sent_again(small: Machine) -> None:
+    """What came since is listed with who and when, what is not ticked is lost, what the restored
+    register refuses is shown; and all of it is taken back by the copy that was made before.
+    """
+    with small.office() as office:
+        room, model = Room(office), Model()
+        room.copy_now("before =1+1 <i>")
+        sent(office, (JANE, NEW_NAME), (HAL, RAISED), (JANE, ADDED), (HAL, APPLIED))
+        assert office.parts.desk.send_import(JANE, ROWS.encode()).is_done
+        at = room.since()
+        staged_by(office, at["import"])
+        before = copy.deepcopy(model)
+        assert all(before.do(it) for it in (NEW_NAME, RAISED, ADDED, APPLIED))
+        before.names[8], before.applied[8] = "Hal Hill", ["ELM"]
+        before.see(room.now())
+
+        number = room.begin(1)
+        page = room.hal.get(f"/restores/{number}").text
+        listed = text_of(page, "since")
+        for it in ("jane child 1 Ada =1+1 <b>: data corrected", "hal admission number of OAK raised"
+                   " to 2", "jane child 6 Fay: child added", "1 application stored from files"):
+            assert it in listed, listed
+        lost = text_of(page, "lost")
+        for it in ("School OAK Admission number 2 1", "Child 6 Fay in the register not in the copy",
+                   f"Child 1 Ada =1+1 <b> Name Ada =1+1 <b> {child(1)['name']}"):
+            assert it in lost, lost
+        assert "<b>" not in page.replace("&lt;b&gt;", "")
+        # nobody else records anything, holds a draw, or restores
+        said = "Closed for the restore of copy 1 by hal since"
+        assert said in room.jane.get("/").text
+        assert office.parts.desk.send(JANE, RAISED).said.startswith(said)
+        for path in ("/draws/", "/copies/1/restore"):
+            refused = room.hal.post(path, {"kind": "round", "day": OFFER_DAY})
+            assert refused.status_code == 409 and "restore of copy 1" in refused.text
+
+        ticked = at["amend"], at["apply"]
+        assert room.press(room.hal, number, "ask", (*ticked, 1)).status_code == 409
+        assert room.press(room.hal, number, "ask", ticked).status_code == 303
+        assert room.press(room.hal, number, "confirm").status_code == 409
+        assert room.state(number) == "asked" and room.now().schools["OAK"].pan == 2
+        assert room.press(room.jane, number, "confirm").status_code == 303
+        assert room.state(number) == "sent again"
+        # (an application of a child that is not there is refused)
+        assert model.do(NEW_NAME) and not model.do(APPLIED)
+        model.see(room.now())
+        page = room.hal.get(f"/restores/{number}").text
+        assert "stored" in text_of(page, "since") and "It was not done" in text_of(page, "since")
+        assert office.parts.desk.closed()
+        assert ("Can be taken back by restoring copy 2, which has what was there before"
+                in " ".join(re.sub("<[^>]*>", "", page.replace("</dt>", " ")).split()))
+        assert room.press(room.hal, number, "open").status_code == 303
+        assert not office.parts.desk.closed()
+        shown(office, room, at)
+
+        # taken back: the copy that was made before is restored, and nothing is sent again
+        assert "before copy 1 was restored" in text_of(room.hal.get("/copies/").text, "copies")
+        number = room.begin(2)
+        since = text_of(room.hal.get(f"/restores/{number}").text, "since")
+        assert "1 entry" in since and "data corrected" in since
+        room.press(room.hal, number, "ask")
+        room.press(room.jane, number, "confirm")
+        room.press(room.hal, number, "open")
+        before.see(room.now())
+        assert {it.number for it in office.parts.history.done()} == {
+            at[it] for it in ("amend", "raise_pan", "add_child", "apply", "import")}
+
+
+def test_a_restore_that_sends_nothing_again_is_asked_once_more(small: Machine) -> None:
+    """Nothing is ticked by a slip, and the second person reads at the top that nothing is sent
+    again.
+    """
+    with small.office() as office:
+        room = Room(office)
+        room.copy_now()
+        sent(office, (JANE, NEW_NAME), (HAL, RAISED))
+        path = f"/restores/{room.begin(1)}"
+        page = Page(room.hal.get(path).text)
+        assert "none" not in page.by_id
+        found = press(room.hal, path, page, "Ask to restore copy 1")
+        asked = Page(found.text)
+        assert found.status_code == 409 and room.state(1) == "closed"
+        assert "2 entries are not sent again" in asked.by_id["none"]
+        ticked = press(room.hal, path, asked, "Ask to restore copy 1",
+                       **{f"again-{room.since()['amend']}": "on"})
+        assert ticked.status_code == 303
+        assert "none" not in Page(room.jane.get(path).text).by_id
+        press(room.hal, path, Page(room.hal.get(path).text), "Choose once more what is sent again")
+        again = Page(press(room.hal, path, Page(room.hal.get(f"{path}?tick=none").text),
+                           "Ask to restore copy 1").text)
+        found = press(room.hal, path, again,
+                      "Ask to restore copy 1, and send none of 2 entries again")
+        assert found.status_code == 303 and room.state(1) == "asked"
+        assert Page(room.jane.get(path).text).by_id["none"].startswith(
+            "Nothing is sent again: 2 entries that came since the copy would be lost")
+
+
+def shown(office: Site, room: Room, at: dict[str, int]) -> None:
+    """Sees what the office shows after the first restore: the first author of what was sent again,
+    what was undone, and the applications of an import that was not sent again, to be stored anew.
+    """
+    again = [it for it in office.parts.history.entries if "again" in it.about]
+    assert len(again) == 2
+    assert [(it.who, it.about["again"]["who"], it.about["again"]["of"]) for it in again] == [
+        ("jane", "jane", at["amend"]), ("jane", "hal", at["apply"])]
+    page = html.unescape(room.hal.get("/children/1").text)
+    assert "done, and undone when copy 1 was restored" in page
+    assert "recorded first by jane on" in page
+    assert "undone when copy 1 was restored" in room.hal.get("/activity/").text
+    row = office.parts.store.row("SELECT state, entry FROM staged_row")
+    assert row and (row["state"], row["entry"]) == ("open", None)
+
+
+class Killed(BaseException):
+    """The application ends here."""
+
+
+class Kills:
+    """Ends the application at the event of a number, before it is done or after it."""
+
+    def __init__(self, patch: pytest.MonkeyPatch) -> None:
+        self.count, self.at, self.is_after = 0, 0, False
+        self.names: set[str] = set()
+        self.sent: list[bytes] = []
+        for kind, name in ((History, "add"), (copies.Copies, "asked"),
+                           (restores_again.Sending, "change")):
+            patch.setattr(kind, name, self.around(f"{kind.__name__}.{name}", getattr(kind, name)))
+        patch.setattr(StepStore, "moving", self.around_block(StepStore.moving))
+
+    def begin(self, at: int, is_after: bool) -> None:
+        """Arms it."""
+        self.count, self.at, self.is_after = 0, at, is_after
+
+    def see(self, name: str, is_after: bool) -> None:
+        """Ends the application if it is time."""
+        if self.count == self.at and self.is_after == is_after:
+            self.names.add(f"{name} {'after' if is_after else 'before'}")
+            raise Killed
+
+    def around(self, name: str, real: Callable[..., Any]) -> Callable[..., Any]:
+        """A call that is an event."""
+        def found(*given: Any, **more: Any) -> Any:
+            self.count += 1
+            at = self.count
+            self.see(name, False)
+            answer = real(*given, **more)
+            if at == self.at and self.is_after:
+                self.names.add(f"{name} after")
+                raise Killed
+            return answer
+        return found
+
+    def around_block(self, real: Callable[..., Any]) -> Callable[..., Any]:
+        """A block that is one."""
+        @contextlib.contextmanager
+        def found(*given: Any, **more: Any) -> Iterator[Any]:
+            self.count += 1
+            at = self.count
+            self.see("moving", False)
+            with real(*given, **more) as it:
+                yield it
+            if at == self.at and self.is_after:
+                self.names.add("moving after")
+                raise Killed
+        return found
+
+    def sending(self, parts: Parts) -> None:
+        """Counts what is sent to the register, and ends the application around it."""
+        sender = parts.desk.sender
+        real = sender.send
+
+        def send(line: bytes) -> bytes:
+            self.sent.append(line)
+            return real(line)
+
+        setattr(sender, "send", self.around("send", send))
+
+
+BUTTONS = {
+    "closed": "ask", "asked": "confirm", "confirmed": "copy", "copied": "restore",
+    "restoring": "restore", "restored": "send_again", "sent again": "open",
+}
+
+
+def go_on(parts: Parts, number: int, ticked: tuple[int, ...]) -> None:
+    """Goes on with a restore from where it is, until it is open."""
+    restores = parts.restores
+    while not (found := restores.get(number)).is_ended:
+        name = BUTTONS[found.state]
+        if name == "ask":
+            restores.ask(HAL, number, found.version, ticked)
+        else:
+            getattr(restores, name)(JANE if name == "confirm" else HAL, number, found.version)
+
+
+def test_a_restore_goes_on_after_the_application_is_killed_anywhere(
+    small: Machine, monkeypatch: pytest.MonkeyPatch
+) -> None:
+    """Before and after each write, each request to the machine and each command: whoever looks next
+    goes on, nothing is sent twice, and the outcome is that of a restore that nothing stopped.
+    """
+    with small.office() as office:
+        office.parts.copies.make("a try", "hal")
+        sent(office, (JANE, NEW_NAME), (HAL, RAISED), (JANE, ADDED), (JANE, APPLIED))
+        ticked = tuple(it.number for it in office.parts.history.entries
+                       if it.what == "sends" and it.about["command"]["cmd"] != "raise_pan")
+        number = office.parts.restores.begin(HAL, 1)
+    kills = Kills(monkeypatch)
+    at, is_after, is_open = 1, False, False
+    known: set[tuple[object, ...]] = set()
+    while not is_open:
+        parts = Parts(small.config())
+        is_ended = parts.restores.get(number).is_ended
+        assert bool(parts.desk.closed()) != is_ended
+        known.add(state_of(parts, number))
+        kills.sending(parts)
+        kills.begin(at, is_after)
+        try:
+            go_on(parts, number, ticked)
+            is_open = True
+        except Killed:
+            at, is_after = next_of(at, is_after, state_of(parts, number) not in known)
+        parts.close()
+    kills.begin(0, False)
+    wanted = {f"{name} {when}" for when in ("before", "after") for name in (
+        "History.add", "Copies.asked", "Sending.change", "moving", "send")}
+    assert wanted <= kills.names
+    with small.office() as office:
+        model = Model()
+        assert all(model.do(it) for it in (NEW_NAME, ADDED, APPLIED))
+        model.see(office.parts.desk.now())
+        rows = office.parts.restores.sending.rows(office.parts.restores.get(number))
+        assert {it.entry for it in rows if it.state == "done"} == set(ticked)
+        assert [json.loads(it)["cmd"] for it in kills.sent] == ["amend", "add_child", "apply"]
+
+
+def state_of(parts: Parts, number: int) -> tuple[object, ...]:
+    """How far a restore is."""
+    found = parts.restores.get(number)
+    rows = parts.restores.sending.rows(found)
+    return found.version, *(it.state for it in rows)
+
+
+def next_of(at: int, is_after: bool, has_moved: bool) -> tuple[int, bool]:
+    """The next moment: after the same event, and before the one that follows it; the first one
+    where it has come further than ever.
+    """
+    if not is_after:
+        return at, True
+    return (1, False) if has_moved else (at + 1, False)
+
+
+def test_a_restore_is_given_up_before_the_register_is_touched(small: Machine) -> None:
+    """By one person, and also where the machine has not begun; not where it is done."""
+    with small.office() as office:
+        room = Room(office)
+        office.parts.copies.make("a try", "hal")
+        sent(office, (HAL, RAISED))
+        number = room.begin(1)
+        room.press(room.hal, number, "ask")
+        assert room.press(room.hal, number, "choose").status_code == 303
+        assert room.press(room.hal, number, "give-up").status_code == 303
+        assert not office.parts.desk.closed() and room.now().schools["OAK"].pan == 2
+        # the machine does not answer: what was asked is taken back, and the register is as it was
+        number = room.begin(1)
+        room.press(room.hal, number, "ask")
+        found, restores = version_of(office, number), office.parts.restores
+        restores.confirm(JANE, number, found)
+        restores.copy(HAL, number, version_of(office, number))
+        small.is_ended.set()
+        small.thread.join()
+        with pytest.MonkeyPatch.context() as patch:
+            patch.setattr(copies, "BEGIN_SECONDS", 0.2)
+            answer = room.press(room.hal, number, "restore")
+        assert answer.status_code == 409 and "The machine has not answered" in answer.text
+        assert room.state(number) == "restoring"
+        assert "Go on with the restore of copy 1" in room.hal.get(f"/restores/{number}").text
+        (small.state / "requests" / "restore").write_text("1\n")
+        assert room.press(room.hal, number, "give-up").status_code == 303
+        assert not (small.state / "requests" / "restore").exists()
+        assert room.state(number) == "given up" and room.now().schools["OAK"].pan == 2
+
+
+def test_a_restore_that_is_done_is_not_given_up(
+    small: Machine, monkeypatch: pytest.MonkeyPatch
+) -> None:
+    """Where the history could not be written after it: it goes on, and has the same outcome."""
+    with small.office() as office:
+        restores = office.parts.restores
+        office.parts.copies.make("a try", "hal")
+        sent(office, (HAL, RAISED))
+        number = restores.begin(HAL, 1)
+        restores.ask(HAL, number, version_of(office, number), ())
+        restores.confirm(JANE, number, version_of(office, number))
+        restores.copy(HAL, number, version_of(office, number))
+        real = History.add
+
+        def add(record: History, who: str, what: str, about: dict[str, Any]) -> Entry:
+            if what == RESTORED:
+                raise Refused("the disk is full")
+            return real(record, who, what, about)
+
+        with monkeypatch.context() as patch:
+            patch.setattr(History, "add", add)
+            with pytest.raises(Refused, match="the disk is full"):
+                restores.restore(HAL, number, version_of(office, number))
+        assert office.parts.desk.now().schools["OAK"].pan == 1
+        with pytest.raises(Refused, match="the register is not as it was any more"):
+            restores.give_up(HAL, number, version_of(office, number))
+        parts = office.parts
+        go_on(parts, number, ())
+        assert parts.restores.get(number).state == "opened"
+        Model().see(parts.desk.now())
+
+
+def version_of(office: Site, number: int) -> int:
+    """The version of a restore."""
+    return office.parts.restores.get(number).version
+
+
+def test_what_cannot_be_restored_is_said_before_the_register_is_closed(
+    small: Machine, monkeypatch: pytest.MonkeyPatch
+) -> None:
+    """A copy that is damaged or gone, a register that does not answer, a draw in progress, a disk
+    that is full; and the test of a copy finds the first two.
+    """
+    with small.office() as office:
+        room = Room(office)
+        office.parts.copies.make("a try", "hal")
+        path = office.parts.copies.path(1)
+        data = path.read_bytes()
+        assert room.hal.post("/copies/1/test").status_code == 200
+        page = text_of(room.hal.get("/copies/").text, "copies")
+        assert ": right" in page and "5 children, 5 applications, 0 places, 0 rounds" in page
+
+        path.write_bytes(b"SQLite format 3\0" + bytes(4000))
+        refused = room.hal.post("/copies/1/restore")
+        assert refused.status_code == 409 and "Nothing was closed" in refused.text
+        assert "is not right" in room.hal.post("/copies/1/test").text
+        page = text_of(room.hal.get("/copies/").text, "copies")
+        assert ": not right" in page and str(small.folder) not in page
+        path.unlink()
+        assert room.hal.post("/copies/1/restore").status_code == 409
+        assert "The file is gone" in room.hal.get("/copies/").text
+        path.write_bytes(data)
+
+        number = begun(office)
+        refused = room.hal.post("/copies/1/restore")
+        assert refused.status_code == 409 and "draw 1 is in progress" in refused.text
+        office.parts.draws.give_up(HAL, number, version(office, number))
+        with monkeypatch.context() as patch:
+            patch.setattr(History, "write", full)
+            refused = room.hal.post("/copies/1/restore")
+            assert refused.status_code == 409 and "history cannot be written" in refused.text
+            assert room.hal.post("/copies/", {"purpose": "x"}).status_code == 409
+        assert not office.parts.desk.closed()
+        small.stop()
+        refused = room.hal.post("/copies/1/restore")
+        assert refused.status_code == 409 and "does not answer now" in refused.text
+        small.start()
+        assert not office.parts.desk.closed() and not office.parts.restores.listed()
+        for it in ("sup", "rita"):
+            role = "supervisor" if it == "sup" else "reader"
+            assert office.browser(it, role).post("/copies/1/restore").status_code == 403
+
+
+def full(*_: object) -> None:
+    """A disk without room."""
+    raise OSError(28, "No space left on device")
+
+
+def test_a_pile_that_is_being_recorded_stops_and_keeps_its_rest(small: Machine) -> None:
+    """The register is closed between two of its answers: those after it wait."""
+    with small.office() as office:
+        office.parts.copies.make("a try", "hal")
+        desk, found = office.parts.desk, []
+
+        def begin() -> None:
+            found.append(office.parts.restores.begin(HAL, 1))
+
+        assert desk.send(JANE, NEW_NAME).is_done
+        begin()
+        result = desk.send(JANE, RAISED)
+        assert not result.is_done and "Closed for the restore" in result.said
+        rows = office.parts.restores.sending.rows(office.parts.restores.get(found[0]))
+        assert len(rows) == 1
+
+
+def test_a_draw_with_a_wrong_day_is_held_again_with_its_lots(small: Machine) -> None:
+    """From the draw's own screen: what came since is chosen without the draw, which is undone, and
+    begins again with the same lots, which nobody changes without a reason on record.
+    """
+    with small.office() as office:
+        room = Room(office)
+        number = begun(office)
+        brought(office, number, "opened")
+        lots = office.parts.lots.sheet(number)[1].lots()
+        had = {at: it.school for at, it in room.now().places.items()}
+        sent(office, (JANE, {"cmd": "accept", "child": 4, "school": had[4]}),
+             (JANE, {"cmd": "accept", "child": 3, "school": had[3]}), (JANE, ADDED))
+        other = office.parts.history.entries[-6].number
+        page = room.hal.get(f"/draws/{number}").text
+        assert f'href="/copies/1/restore?draw={number}"' in html.unescape(page)
+        restore = room.begin(1, draw=number)
+        rows = office.parts.restores.sending.rows(office.parts.restores.get(restore))
+        entries = {office.parts.history.entries[it.entry - 1].about["command"]["cmd"]: it
+                   for it in rows}
+        assert [it.is_chosen for it in rows] == [False, True, True, True]
+        assert room.press(room.hal, restore, "ask", (entries["round"].entry,)).status_code == 409
+        ticked = entries["accept"].entry, entries["add_child"].entry
+        room.press(room.hal, restore, "ask", ticked)
+        assert room.press(room.jane, restore, "confirm").status_code == 303
+        assert room.press(room.hal, restore, "open").status_code == 303
+        assert room.now().draws == [] and 6 in room.now().children
+        assert office.parts.draws.get(number).state == "restored"
+
+        page = room.hal.get(f"/draws/?again={number}").text
+        assert '<option value="round" selected>' in page and 'id="day" name="day" value=""' in page
+        held_again(room, lots)
+        # what was refused, since there was no offer yet, is sent now
+        page = room.hal.get(f"/restores/{restore}").text
+        assert f'name="again-{entries["accept"].entry}"' in page
+        assert f'name="again-{entries["add_child"].entry}"' not in page
+        sent(office, (JANE, {**child(4, name="Bo"), "cmd": "amend"}))
+        refused = room.press(room.hal, restore, "later", (other,))
+        assert refused.status_code == 409
+        assert "Child 4: jane has recorded something since" in refused.text
+        assert room.press(room.hal, restore, "later", ticked[:1]).status_code == 303
+        places = room.now().places
+        assert (places[3].kind, places[4].kind) == ("accepted", "offered")
+
+
+def held_again(room: Room, lots: dict[tuple[str, int], list[int]]) -> None:
+    """Begins the round again, sees that its lots stay, and has the register hold it."""
+    office = room.office
+    form = {"kind": "round", "day": "4 March 2025", "lots": "others", "reason": " "}
+    refused = room.hal.post("/draws/", form)
+    assert refused.status_code == 409 and "type the reason" in refused.text
+    assert 'value="4 March 2025"' in refused.text
+    made = room.hal.post("/draws/", {**form, "lots": "kept"})
+    number = int(made.headers["Location"].rsplit("/", 1)[1])
+    brought(office, number, "lots")
+    sheet = office.parts.lots.sheet(number)[1]
+    assert not sheet.wrong() and sheet.lots() == lots
+    pair = min(lots)
+    with pytest.raises(Refused, match="was sealed in the draw that this one repeats"):
+        office.parts.lots.save(SUP, number, {(pair, 0): Typed(str(lots[pair][0]), "424242")})
+    with pytest.raises(Refused, match="was sealed in the draw that this one repeats"):
+        office.parts.lots.take(SUP, number, 0, {pair: 424242})
+    assert office.parts.lots.sheet(number)[1].lots() == lots
+    given_up(office, number)
+    other = {**form, "reason": "two lots were typed wrong"}
+    made = room.hal.post("/draws/", other)
+    number = int(made.headers["Location"].rsplit("/", 1)[1])
+    page = html.unescape(room.jane.get(f"/draws/{number}").text)
+    assert "Other lots are drawn, because: <bdi>two lots were typed wrong" in page
+    assert office.parts.history.entries[-1].about["other lots"] == "two lots were typed wrong"
+    assert draws_again.kept(office.parts.draws, office.parts.draws.get(number)) == {}
+    given_up(office, number)
+    held = {"cmd": "round", "draw": 1, "day": "2025-03-04",
+            "lots": [lots[it][0] for it in sorted(lots)]}
+    assert office.parts.desk.send(HAL, held, None, True).is_done
+
+
+def test_the_lineage_of_a_register_follows_its_restores() -> None:
+    """Worked out by hand: a copy after entry 3; its restore is entry 6; a copy after 5 is restored
+    by entry 9, which takes the first restore back.
+    """
+    first, both = [(6, 3)], [(6, 3), (9, 5)]
+
+    def of(restores: list[tuple[int, int]], position: int) -> set[int]:
+        found = lineage.of(restores, position)
+        return {it for it in range(1, 12) if it in found}
+
+    assert of([], 4) == {1, 2, 3, 4}
+    assert of(first, 5) == {1, 2, 3, 4, 5}
+    assert of(first, 8) == {1, 2, 3, 7, 8}
+    assert of(both, 11) == {1, 2, 3, 4, 5, 10, 11}
+    assert [lineage.undone_by(first, it) for it in (3, 4, 5, 7)] == [None, 6, 6, None]
+    assert [lineage.undone_by(both, it) for it in (3, 7, 8, 10)] == [None, 9, 9, None]

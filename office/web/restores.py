@@ -1,0 +1,304 @@
+"""Restores of copies outside a draw, as a state machine in the store: from the close of the
+register until it is open for all again. Each step is on record before it is done, and a crash
+leaves a restore in the state before the step or after it.
+"""
+import contextlib
+import sqlite3
+from collections.abc import Iterable, Iterator
+
+from register_files import Refused
+
+from office import texts
+from office.model import Register
+
+from . import restores_draws, restores_rehearsal, restores_since
+from .copies import RESTORE, Copies, is_same
+from .desk import Desk
+from .draws import Draws
+from .draws_second import made_since
+from .history import Entry, History
+from .people import Person
+from .restores_again import Sending
+from .restores_since import Difference
+from .restores_terms import (
+    ASKED, CLOSED, CONFIRMED, COPIED, DONE, GIVEN_UP, OPENED, REFUSED, RESTORED, RESTORING, SENT,
+    UNTOUCHED, WAITS, Again, Restore, of_rows,
+)
+from .staging_rows import COMMITTED, OPEN
+from .step_store import StepStore, moment
+from .store import Store
+
+# the first entry of a restore in the history
+BEGAN = "began a restore"
+
+
+class Restores(StepStore[Restore]):
+    """The restores of one application. One is in progress at most, and no draw beside it."""
+
+    table = "restore"
+
+    def __init__(
+        self, store: Store, record: History, desk: Desk, copies: Copies, draws: Draws
+    ) -> None:
+        super().__init__(store, record)
+        self.desk, self.copies, self.draws = desk, copies, draws
+        # (so that no draw begins while a restore does)
+        self.lock = draws.lock
+        self.sending = Sending(store, record, desk)
+
+    def get(self, number: int) -> Restore:
+        """A restore."""
+        row = self.store.row("SELECT * FROM restore WHERE id=?", number)
+        if row is None:
+            raise Refused("there is no such restore")
+        return of_rows(row, self.steps_of(number))
+
+    def listed(self) -> list[Restore]:
+        """All restores, the last first."""
+        return [of_rows(it, self.steps_of(it["id"]))
+                for it in self.store.rows("SELECT * FROM restore ORDER BY id DESC")]
+
+    def present(self) -> Restore | None:
+        """The restore that is in progress, if there is one."""
+        row = self.store.row(
+            "SELECT * FROM restore WHERE state NOT IN (?, ?)", OPENED, GIVEN_UP)
+        return of_rows(row, self.steps_of(row["id"])) if row else None
+
+    def closed(self) -> str:
+        """Why nobody else may send now, or ""."""
+        found = self.present()
+        if found is None:
+            return ""
+        first = found.done[0]
+        return (f"Closed for the restore of copy {found.copy} by {first.who} since"
+                f" {moment(first.at)}.")
+
+    def record(self, who: Person, what: str, restore: Restore, **about: object) -> None:
+        """Adds a step to the history, with what there is to say of it."""
+        found = {name: it for name, it in about.items() if it}
+        self.history.add(who.name, what, {"copy": restore.copy, "restore": restore.number, **found})
+
+    @contextlib.contextmanager
+    def step(self, number: int, seen: int, *states: str) -> Iterator[Restore]:
+        """A restore in one of these states, whose step nothing that is sent comes between."""
+        try:
+            with self.turn(number, seen, *states) as found, self.desk.lock:
+                yield found
+        except sqlite3.Error as error:
+            raise Refused(f"the application cannot write its own file: {error}") from error
+        except OSError as error:
+            raise Refused(f"the machine does not let it: {error.strerror}") from error
+
+    # what is shown
+
+    def since(self, copy: int) -> list[Entry]:
+        """What came since a copy, in its order."""
+        return restores_since.since(self.history, self.copies.position(copy))
+
+    def lost(self, copy: int, register: Register) -> list[Difference]:
+        """What a register has otherwise than a copy."""
+        return restores_since.differences(register, self.copies.register(copy))
+
+    # the steps before the register is touched
+
+    def begin(self, who: Person, copy: int, draw: int | None = None) -> int:
+        """Closes the register for all others to restore a copy, which must be whole. What is in
+        flight is ended first. All that came since is chosen where a draw was wrong, but for draws.
+        """
+        with self.lock, self.desk.lock:
+            if other := self.present():
+                raise Refused(f"the restore of copy {other.copy} is in progress: it must end first")
+            if other_draw := self.draws.present():
+                raise Refused(f"{other_draw.terms.numbers} is in progress: it must end or be given"
+                              " up first")
+            self.copies.register(copy)
+            self.desk.settle()
+            self.desk.now()
+            found = self.since(copy)
+            self.history.add(who.name, BEGAN, {"copy": copy, **({"draw": draw} if draw else {})})
+            return self.added(who, copy, draw, found)
+
+    def added(self, who: Person, copy: int, draw: int | None, found: Iterable[Entry]) -> int:
+        """Adds a restore, and returns its number."""
+        with self.store.writing() as db:
+            number = db.execute(
+                "INSERT INTO restore (copy, state, version, draw) VALUES (?, ?, 0, ?)",
+                (copy, CLOSED, draw)).lastrowid or 0
+            db.executemany(
+                "INSERT INTO again (restore, entry, is_chosen, state) VALUES (?, ?, ?, ?)",
+                [(number, it.number, int(draw is not None and not restores_since.why_not(it)),
+                  WAITS) for it in found])
+            with self.moving(self.get(number), who, CLOSED):
+                pass
+        return number
+
+    def see_steady(self, who: Person) -> None:
+        """Refuses as one of two persons somebody whom the other one could have made up."""
+        if said := made_since(self.history, who.name, BEGAN, "this restore was begun"):
+            raise Refused(said)
+
+    def ask(self, who: Person, number: int, seen: int, chosen: Iterable[int]) -> None:
+        """Asks for the restore, with what is to be sent again of what came since."""
+        with self.step(number, seen, CLOSED) as found:
+            self.see_steady(who)
+            wanted = set(chosen)
+            rows = self.sending.rows(found)
+            if unknown := wanted - {it.entry for it in rows}:
+                raise Refused(f"{texts.count(len(unknown), 'entry', 'entries')} did not come since"
+                              " the copy")
+            entries = [self.sending.entry(it) for it in rows if it.entry in wanted]
+            if any(map(restores_since.why_not, entries)):
+                raise Refused("a draw is not sent again: it is held again on the screen of draws")
+            tried = restores_rehearsal.tried(self.copies.path(found.copy), entries)
+            self.record(who, "asked to restore", found, entries=sorted(wanted))
+            said = f"{len(wanted)} of {texts.count(len(rows), 'entry', 'entries')} again."
+            with self.moving(found, who, ASKED, said):
+                self.sending.choose(found, tried)
+
+    def choose_again(self, who: Person, number: int, seen: int) -> None:
+        """Takes back that the copy is to be restored: something else is to be chosen."""
+        with self.step(number, seen, ASKED) as found:
+            self.record(who, "took back the restore", found)
+            with self.moving(found, who, CLOSED, "Chosen once more."):
+                pass
+
+    def confirm(self, who: Person, number: int, seen: int) -> None:
+        """Confirms the restore, as a second person."""
+        with self.step(number, seen, ASKED) as found:
+            self.see_steady(who)
+            if who.name == found.came_to(ASKED).who:
+                raise Refused(f"{who.name} has asked for the restore: somebody else confirms it")
+            self.copies.register(found.copy)
+            self.record(who, "confirmed the restore", found)
+            with self.moving(found, who, CONFIRMED):
+                pass
+
+    def copy(self, who: Person, number: int, seen: int) -> None:
+        """Copies what is there, by which the restore can be taken back."""
+        with self.step(number, seen, CONFIRMED) as found:
+            self.record(who, "copied the register", found)
+            copy = self.copies.make(f"before copy {found.copy} was restored", who.name)
+            with self.moving(found, who, COPIED, f"Copy {copy}.", copy_before=copy):
+                pass
+
+    # the restore and what follows
+
+    def restore(self, who: Person, number: int, seen: int) -> None:
+        """Makes the register that of the copy. Where that was begun and not ended, it is done once
+        more: the outcome is the same.
+        """
+        with self.step(number, seen, COPIED, RESTORING) as found:
+            if found.state == COPIED:
+                self.copies.register(found.copy)
+                self.record(who, "restores", found)
+                with self.moving(found, who, RESTORING):
+                    pass
+                found = self.get(number)
+            self.copies.restore(found.copy, who.name)
+            register = self.copies.register(found.copy)
+            with self.moving(found, who, RESTORED, f"The register is that of copy {found.copy}."):
+                restores_draws.mark(self.draws, who, register, found.copy)
+
+    def send_again(self, who: Person, number: int, seen: int) -> None:
+        """Sends what was chosen, each once; the rest stays for the next request of a browser."""
+        with self.step(number, seen, RESTORED) as found:
+            if not self.sending.send(who, found, True):
+                return
+            done, all_of = self.counts(self.sending.rows(found))
+            self.record(who, "sent again", found, done=done, chosen=all_of)
+            with self.moving(found, who, SENT, f"{done} of {all_of} stored."):
+                pass
+
+    def counts(self, rows: Iterable[Again]) -> tuple[int, int]:
+        """How many of those that are chosen are done, and how many are chosen."""
+        chosen = [it for it in rows if it.is_chosen]
+        return sum(it.state == DONE for it in chosen), len(chosen)
+
+    def open(self, who: Person, number: int, seen: int) -> None:
+        """Opens the register for all. What was not sent may be sent later."""
+        with self.step(number, seen, RESTORED, SENT) as found:
+            self.sending.settle(found)
+            rows = self.sending.rows(found)
+            done, all_of = self.counts(rows)
+            self.record(who, "opened the register", found, done=done, chosen=all_of)
+            with self.moving(found, who, OPENED, f"{done} of {all_of} sent again.") as db:
+                mark_staged(db, rows)
+
+    def give_up(self, who: Person, number: int, seen: int) -> None:
+        """Ends a restore before the register was touched, and opens it."""
+        with self.step(number, seen, *UNTOUCHED, RESTORING) as found:
+            if found.state == RESTORING:
+                self.copies.end_request(RESTORE)
+                if not is_same(self.desk.now(), self.copies.register(found.before or 0)):
+                    raise Refused("the register is not as it was any more: go on with the restore")
+            self.record(who, "gave up", found)
+            with self.moving(found, who, GIVEN_UP, f"In the state '{found.state}'."):
+                pass
+
+    def send_later(self, who: Person, number: int, seen: int, chosen: Iterable[int]) -> None:
+        """Sends what was not stored, once the register is open: as answers to the offers of a draw
+        that was held anew. Nothing of a child for which somebody has recorded something since.
+        """
+        with self.step(number, seen, OPENED) as found:
+            wanted = set(chosen)
+            may = self.later(found)
+            for entry in sorted(wanted):
+                if said := may.get(entry, "this did not come since the copy"):
+                    raise Refused(said)
+            self.record(who, "sends again", found, entries=sorted(wanted))
+            with self.store.writing() as db:
+                db.execute("UPDATE again SET is_chosen=0 WHERE restore=? AND state=?",
+                           (number, WAITS))
+                db.executemany(
+                    "UPDATE again SET is_chosen=1, state=?, said='' WHERE restore=? AND entry=?",
+                    [(WAITS, number, it) for it in sorted(wanted)])
+            self.sending.send(who, found, False)
+            done, _ = self.counts(self.sending.rows(found))
+            with self.moving(found, who, OPENED, f"{done} sent again.") as db:
+                mark_staged(db, self.sending.rows(found))
+
+    def later(self, restore: Restore) -> dict[int, str]:
+        """What was not stored again, by its entry: why it cannot be sent now, or ""."""
+        rows = [it for it in self.sending.rows(restore) if it.state in (WAITS, REFUSED)]
+        there, end = self.history.lineage(), restored_at(self.history, restore)
+        since = {child_of(it): it for it in self.history.done()
+                 if it.number > end and "again" not in it.about}
+        found: dict[int, str] = {}
+        for row in rows:
+            entry = self.sending.entry(row)
+            other = since.get(child_of(entry)) if child_of(entry) is not None else None
+            found[row.entry] = restores_since.why_not(entry)
+            if row.entry in there:
+                found[row.entry] = "the register has it, since a later copy was restored"
+            elif other:
+                found[row.entry] = (f"child {child_of(other)}: {other.who} has recorded something"
+                                    f" since, at {moment(other.at)}. Record this by hand")
+        return found
+
+
+def restored_at(record: History, restore: Restore) -> int:
+    """The entry of the history with which a restore was done; 0 where it was not."""
+    number = 0
+    for at, _ in record.restores:
+        if record.entries[at - 1].about["copy"] == restore.copy:
+            number = at
+    return number
+
+
+def child_of(entry: Entry) -> int | None:
+    """The child of an entry's command, if it is about one."""
+    found: int | None = entry.about.get("command", {}).get("child")
+    return found
+
+
+def mark_staged(db: sqlite3.Connection, rows: Iterable[Again]) -> None:
+    """Gives back the applications that were stored by an import which a restore has undone, so that
+    they can be corrected and stored once more; those of one that was sent again are stored.
+    """
+    for it in rows:
+        if it.state == DONE:
+            db.execute("UPDATE staged_row SET entry=?, version=version+1 WHERE entry=?"
+                       " AND state=?", (it.sent, it.entry, COMMITTED))
+        else:
+            db.execute("UPDATE staged_row SET entry=NULL, state=?, version=version+1"
+                       " WHERE entry=? AND state=?", (OPEN, it.entry, COMMITTED))

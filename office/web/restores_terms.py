@@ -1,0 +1,97 @@
+"""What a restore of the office is: the states that it goes through, who did each step, and what
+came since its copy, which may be sent again.
+"""
+import dataclasses
+import sqlite3
+
+from .step_store import Done, steps_in
+
+CLOSED, ASKED, CONFIRMED, COPIED = "closed", "asked", "confirmed", "copied"
+RESTORING, RESTORED, SENT = "restoring", "restored", "sent again"
+OPENED, GIVEN_UP = "opened", "given up"
+# the states of a restore that is brought to its end, in their order
+IN_ORDER = (CLOSED, ASKED, CONFIRMED, COPIED, RESTORING, RESTORED, SENT, OPENED)
+ENDED = (OPENED, GIVEN_UP)
+# before the register is touched
+UNTOUCHED = IN_ORDER[:4]
+# what came since the copy: it was not sent yet, is being sent, is stored, or was refused
+WAITS, SENDING, DONE, REFUSED = "waits", "sending", "done", "refused"
+
+
+@dataclasses.dataclass(frozen=True)
+class Again:
+    """An entry of the history that came since the copy: whether it is to be sent again, what became
+    of that, and in words; how long the history was before it was sent; and the entry that sent it.
+    """
+
+    entry: int
+    is_chosen: bool
+    state: str
+    said: str
+    after: int
+    sent: int | None
+
+
+@dataclasses.dataclass(frozen=True)
+class Restore:
+    """A restore as it is in the store: the number of the copy, and that of the copy of what was
+    there before; and the draw of the store that was wrong, if that is why.
+    """
+
+    number: int
+    copy: int
+    state: str
+    version: int
+    before: int | None
+    draw: int | None
+    done: tuple[Done, ...]
+
+    def came_to(self, state: str) -> Done:
+        """Who brought it to a state last, and when; nobody where it has not been there."""
+        found = (it for it in reversed(self.done) if it.state == state)
+        return next(found, Done(state, "", "", ""))
+
+    @property
+    def is_ended(self) -> bool:
+        """Whether the register is open again."""
+        return self.state in ENDED
+
+
+def of_rows(row: sqlite3.Row, steps: list[sqlite3.Row]) -> Restore:
+    """A restore of the store."""
+    return Restore(row["id"], row["copy"], row["state"], row["version"], row["copy_before"],
+                   row["draw"], steps_in(steps))
+
+
+def again_of(row: sqlite3.Row) -> Again:
+    """What came since, of a row."""
+    return Again(row["entry"], bool(row["is_chosen"]), row["state"], row["said"], row["after"],
+                 row["sent"])
+
+
+@dataclasses.dataclass(frozen=True)
+class Step:
+    """A step: the state that it leads to, its title, and what it does."""
+
+    state: str
+    title: str
+    does: str
+
+
+STEPS = (
+    Step(CLOSED, "Closed for all others",
+         "Nobody can record anything until the register is opened. All can still read."),
+    Step(ASKED, "What is sent again is chosen",
+         "All that came since the copy is listed. What is not ticked is lost."),
+    Step(CONFIRMED, "Confirmed by a second person",
+         "Somebody else has read what is lost and what is sent again, and says that the copy may"
+         " be restored. The next steps follow at once."),
+    Step(COPIED, "Copy of what is there",
+         "The register is copied as it is. By that copy the restore can be taken back."),
+    Step(RESTORED, "Restored",
+         "The register becomes that of the copy, and is compared with it. For some seconds nobody"
+         " can read it."),
+    Step(SENT, "Sent again",
+         "What was ticked is sent in its first order. What the register refuses is shown."),
+    Step(OPENED, "Open for all", "Everybody can record again."),
+)

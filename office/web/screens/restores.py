@@ -1,0 +1,233 @@
+"""A restore: what came since the copy, what is lost, the steps with who did each, and the next one.
+"""
+import dataclasses
+import re
+import sqlite3
+from collections.abc import Callable, Sequence
+
+import flask
+from register_files import Refused
+from werkzeug.wrappers import Response
+
+from office.model import Register
+
+from .. import restores_since
+from ..draws_second import made_since
+from ..guard import needs, parts, person
+from ..people import CONFIRM, DRAW, READ
+from ..restores import BEGAN, Restores
+from ..restores_rehearsal import WOULD
+from ..restores_since import Difference
+from ..restores_terms import (
+    ASKED, CLOSED, CONFIRMED, COPIED, GIVEN_UP, OPENED, RESTORED, RESTORING, SENT, STEPS,
+    UNTOUCHED, Again, Restore,
+)
+from ..wording import sentence
+
+screen = flask.Blueprint("restores", __name__, url_prefix="/restores")
+Answer = str | Response | tuple[str, int]
+FIELD = re.compile("again-([1-9][0-9]{0,8})")
+# the request by which a restore goes on from a state, and the text of its button
+NEXT = {
+    CONFIRMED: ("copy", "Make the copy of what is there"),
+    COPIED: ("restore", "Restore copy {}"),
+    RESTORING: ("restore", "Go on with the restore of copy {}"),
+    RESTORED: ("send", "Go on: send again what was ticked"),
+    SENT: ("open", "Open for all"),
+}
+# what is shown of the present register until it is restored
+BEFORE = (*UNTOUCHED, RESTORING)
+
+
+@dataclasses.dataclass(frozen=True)
+class Row:
+    """What came since, as it is shown: when (UTC), by whom, in words; why it cannot be sent; and
+    what became of it.
+    """
+
+    entry: int
+    at: str
+    who: str
+    words: str
+    why_not: str
+    is_chosen: bool
+    came: str
+    is_done: bool
+
+
+def found_restore(number: int) -> Restore:
+    """A restore, or the answer that there is none."""
+    try:
+        return parts().restores.get(number)
+    except Refused:
+        flask.abort(404)
+
+
+def names_now() -> dict[int, str]:
+    """The names of the children, where the register answers."""
+    try:
+        return {it.number: it.name for it in parts().desk.register().children.values()}
+    except Refused:
+        return {}
+
+
+def rows_of(restore: Restore, chosen: set[int] | None) -> list[Row]:
+    """What came since the copy; ticked as it was chosen, or as a form has it."""
+    found, names = parts().restores, names_now()
+    later = found.later(restore) if restore.state == OPENED else {}
+    made = []
+    for it in found.sending.rows(restore):
+        entry = found.sending.entry(it)
+        first = entry.about.get("again") or {"who": entry.who, "at": entry.at}
+        is_chosen = it.is_chosen if chosen is None else it.entry in chosen
+        why = later.get(it.entry, "") if later else restores_since.why_not(entry)
+        made.append(Row(it.entry, first["at"], first["who"], restores_since.in_words(entry, names),
+                        why, is_chosen, came_in_words(it, restore), it.state == "done"))
+    return made
+
+
+def came_in_words(row: Again, restore: Restore) -> str:
+    """What became of an entry."""
+    words = {"done": "stored", "refused": row.said, "sending": "being sent"}
+    if row.state in words:
+        return words[row.state]
+    if restore.state in BEFORE:
+        return row.said
+    if row.said and row.after:
+        return f"not sent: {row.said}"
+    return "not sent" if restore.state in (SENT, OPENED) else ""
+
+
+def lost_in(restore: Restore) -> tuple[list[Difference], str]:
+    """What the present register has otherwise than the copy, or why that is not known."""
+    if restore.state not in BEFORE:
+        return [], ""
+    try:
+        register: Register = parts().desk.register()
+        return parts().restores.lost(restore.copy, register), ""
+    except Refused as error:
+        return [], sentence(f"what would be lost cannot be shown now: {error}")
+
+
+def page(
+    number: int, reason: str = "", status: int = 200, chosen: set[int] | None = None,
+    asks_none: bool = False,
+) -> Answer:
+    """A restore with its steps; `asks_none` where nothing was ticked, which is asked once more."""
+    restore = found_restore(number)
+    lost, trouble = lost_in(restore)
+    action, button = NEXT.get(restore.state, ("", ""))
+    rows = rows_of(restore, chosen)
+    draws = {it.number: it for it in parts().draws.listed()}
+    return flask.render_template(
+        "restore.html", restore=restore, copy=parts().copies.get(restore.copy), rows=rows,
+        lost=lost, lost_count=restores_since.count_lost(lost), steps=STEPS,
+        reason=reason or trouble, action=action, button=button.format(restore.copy),
+        why_not=why_not(restore), not_steady=not_steady(restore),
+        may_choose=restore.state == CLOSED, may_give_up=restore.state in BEFORE,
+        is_touched=restore.state == RESTORING, may_send_later=restore.state == OPENED,
+        may_open=restore.state == RESTORED, is_asked=restore.state == ASKED,
+        asker=restore.came_to(ASKED).who, draw=draws.get(restore.draw or 0),
+        has_outcome=restore.state not in (CLOSED, GIVEN_UP),
+        asks_none=asks_none, sends_none=bool(rows) and not any(it.is_chosen for it in rows),
+        would_fail=sum(it.is_chosen and it.came != WOULD for it in rows),
+    ), status
+
+
+def not_steady(restore: Restore) -> str:
+    """Why the person is none of the two, or ""."""
+    if restore.is_ended:
+        return ""
+    return sentence(made_since(
+        parts().history, person().name, BEGAN, "this restore was begun"))
+
+
+def why_not(restore: Restore) -> str:
+    """Why the person cannot do the next step, or ""."""
+    if restore.state == ASKED:
+        if person().name == restore.came_to(ASKED).who or not person().may(CONFIRM):
+            return f"Somebody other than {restore.came_to(ASKED).who} confirms it."
+        return not_steady(restore)
+    if not restore.is_ended and not person().may(DRAW):
+        return "Your role does not do this."
+    return not_steady(restore) if restore.state == CLOSED else ""
+
+
+@screen.get("/<int:number>")
+@needs(READ)
+def one(number: int) -> Answer:
+    """A restore."""
+    ticks = flask.request.args.get("tick", "")
+    if ticks in ("all", "none"):
+        rows = parts().restores.sending.rows(found_restore(number))
+        return page(number, chosen={it.entry for it in rows} if ticks == "all" else set())
+    return page(number)
+
+
+def chosen_now() -> set[int]:
+    """The entries that are ticked in the form."""
+    return {int(it[1]) for name in flask.request.form if (it := FIELD.fullmatch(name))}
+
+
+def is_bare(number: int) -> bool:
+    """Whether nothing is ticked in the form although something can be, and nobody has said yet that
+    nothing is to be sent again.
+    """
+    found = parts().restores
+    entries = map(found.sending.entry, found.sending.rows(found.get(number)))
+    is_said = flask.request.form.get("none") == "yes"
+    return not is_said and not chosen_now() and not all(map(restores_since.why_not, entries))
+
+
+Step = Callable[[Restores, int, int], None]
+OWN: dict[str, Step] = {
+    "ask": lambda it, number, seen: it.ask(person(), number, seen, chosen_now()),
+    "choose": lambda it, number, seen: it.choose_again(person(), number, seen),
+    "copy": lambda it, number, seen: it.copy(person(), number, seen),
+    "restore": lambda it, number, seen: it.restore(person(), number, seen),
+    "send": lambda it, number, seen: it.send_again(person(), number, seen),
+    "open": lambda it, number, seen: it.open(person(), number, seen),
+    "give-up": lambda it, number, seen: it.give_up(person(), number, seen),
+    "later": lambda it, number, seen: it.send_later(person(), number, seen, chosen_now()),
+}
+SECOND: dict[str, Step] = {
+    "confirm": lambda it, number, seen: it.confirm(person(), number, seen),
+}
+# what follows a step at once, as there is nothing to decide in between. Where it cannot be done,
+# the restore is in the state before it, and the page has its button
+FOLLOWING: dict[str, Sequence[str]] = {
+    "confirm": ("copy", "restore", "send"), "copy": ("restore", "send"), "restore": ("send",),
+}
+KEEPS_TICKS = ("ask", "later")
+
+
+def done(number: int, steps: dict[str, Step], name: str) -> Answer:
+    """Does a step with what follows it at once, and shows the restore."""
+    found_restore(number)
+    seen = flask.request.form.get("seen", "")
+    if name not in steps or not (seen.isascii() and seen.isdigit() and len(seen) < 9):
+        flask.abort(404 if name not in steps else 400)
+    if name == "ask" and is_bare(number):
+        return page(number, "", 409, set(), True)
+    try:
+        steps[name](parts().restores, number, int(seen))
+        for it in FOLLOWING.get(name, ()):
+            OWN[it](parts().restores, number, found_restore(number).version)
+    except (Refused, sqlite3.Error) as error:
+        chosen = chosen_now() if name in KEEPS_TICKS else None
+        return page(number, sentence(str(error)), 409, chosen)
+    return flask.redirect(flask.url_for("restores.one", number=number), 303)
+
+
+@screen.post("/<int:number>/<name>")
+@needs(DRAW)
+def step(number: int, name: str) -> Answer:
+    """A step of who may restore."""
+    return done(number, OWN, name)
+
+
+@screen.post("/<int:number>/second/<name>")
+@needs(CONFIRM)
+def second(number: int, name: str) -> Answer:
+    """A step of a second person."""
+    return done(number, SECOND, name)
