@@ -1,0 +1,128 @@
+"""Deletes a register whose day of deletion has come, as the office's
+application has asked.
+
+  office-delete NAME
+
+The request is the day of deletion as a number, as 20260131, in the file
+`requests/delete` in the application's folder. It must be the one in
+/etc/admissions/NAME/deletion-day (see office-deletion-day), and must have come
+by the clock of this machine; otherwise nothing is done. The desk, the backups
+and the drills of the register NAME are stopped and do not start again. All
+files in /var/lib/admissions/NAME and /var/backups/admissions/NAME are deleted:
+the register with its log, what was kept beside it, all copies, with the people
+and the history. The record stays in /etc/admissions/NAME/deleted. The answer is
+in `requests/delete.done`: how many files and bytes, and what remains to be
+deleted by hand at the second place; or an error. Where this command is killed,
+the request stays, and is done to its end.
+
+example:
+  office-delete secondary-2025
+
+exit status: 0 deleted; 1 not, and the line says why; 2 wrong arguments.
+"""
+import argparse
+import datetime
+import os
+import pathlib
+import shutil
+import stat
+
+from register_files import Refused
+
+from . import deletion, files, office_requests, second_copy
+from .office_requests import Result, Wrong
+from .programs import call, tool
+from .registers import SETTINGS, Register, known
+
+
+def arguments(reader: argparse.ArgumentParser) -> None:
+    reader.add_argument("name", metavar="NAME", help="the name of the register")
+
+
+def main(given: argparse.Namespace) -> int:
+    register = known(given.name)
+    return office_requests.handled(register, "delete", lambda number: deleted(register, number))
+
+
+def deleted(register: Register, number: int) -> Result:
+    """Deletes a register, and returns the record. One that was deleted for this day stays so."""
+    day, found = deletion.day_of(number), deletion.record_of(register)
+    kept = deletion.kept(register)
+    is_done = found.get("day") == day.isoformat() and "ended" in found
+    if kept is None and is_done and not register.file.exists():
+        return found
+    if kept != day:
+        raise Wrong("OtherDay", "the machine keeps another day of deletion, or none")
+    if deletion.today() < day:
+        raise Wrong("NotYet", f"the day of deletion is {day.isoformat()}: it has not come")
+    try:
+        return delete(register, day)
+    except (OSError, Refused) as error:
+        raise Wrong("NotDeleted", f"the register is not wholly deleted: {error}") from error
+
+
+def delete(register: Register, day: datetime.date) -> Result:
+    """Stops what uses the files, and deletes them. The record is there before the first is gone,
+    and is whole after the last; the day is forgotten then, so that no other register has it.
+    """
+    stop(register)
+    found = deletion.record_of(register)
+    if found.get("day") != day.isoformat() or "ended" in found:
+        files_, size = counted(register)
+        found = {"day": day.isoformat(), "began": now(), "files": str(files_), "bytes": str(size)}
+        deletion.record(register, found)
+    for folder in (register.folder, register.copies):
+        empty(folder)
+    found = {**found, "ended": now(), "remains": second_place(register)}
+    deletion.record(register, found)
+    deletion.place(register).unlink()
+    return found
+
+
+def now() -> str:
+    """This moment."""
+    return datetime.datetime.now().astimezone().isoformat(timespec="seconds")
+
+
+def stop(register: Register) -> None:
+    """Stops for good what uses the files of a register."""
+    name = register.name
+    timers = [f"admissions-{it}@{name}.timer" for it in ("backup", "drill")]
+    jobs = [f"admissions-{it}@{name}.service" for it in ("backup", "second-copy", "drill")]
+    call(tool("systemctl", "systemd"), "disable", "--now", office_requests.unit_of(register),
+         *timers)
+    call(tool("systemctl", "systemd"), "stop", *jobs)
+
+
+def counted(register: Register) -> tuple[int, int]:
+    """How many files there are, and their bytes."""
+    found = [path.lstat() for folder in (register.folder, register.copies)
+             for path in folder.rglob("*")]
+    there = [it for it in found if not stat.S_ISDIR(it.st_mode)]
+    return len(there), sum(it.st_size for it in there)
+
+
+def empty(folder: pathlib.Path) -> None:
+    """Deletes all that is in a folder, which stays. No link is followed."""
+    try:
+        fd = os.open(folder, os.O_RDONLY | os.O_DIRECTORY | files.AS_IT_IS)
+    except FileNotFoundError:
+        return
+    try:
+        for name in sorted(os.listdir(fd)):
+            if stat.S_ISDIR(os.stat(name, dir_fd=fd, follow_symlinks=False).st_mode):
+                shutil.rmtree(name, dir_fd=fd)
+            else:
+                os.unlink(name, dir_fd=fd)
+        os.fsync(fd)
+    finally:
+        os.close(fd)
+
+
+def second_place(register: Register) -> str:
+    """What remains at the second place, where nothing is deleted from here; or ""."""
+    try:
+        place = second_copy.place_of()
+    except Refused:
+        place = f"the place that {SETTINGS / 'second-copy'} names"
+    return f"{place}/{register.name}" if place else ""
