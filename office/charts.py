@@ -141,6 +141,15 @@ def homes_by_cell(homes: Sequence[Point], side: int, least: int) -> dict[Point, 
     return {corner: it for corner, it in found.items() if it >= least}
 
 
+def counted_squares(
+    schools: Sequence[tuple[str, int, int]], homes: Sequence[Point], least: int
+) -> tuple[int, dict[Point, int]]:
+    """The side of a square of the map, and how many homes are in each that is not blank."""
+    points = [*homes, *((east, north) for _, east, north in schools)]
+    side = cell_of(points, homes, least)
+    return side, homes_by_cell(homes, side, least)
+
+
 def school_map(
     name: str,
     title: str,
@@ -152,8 +161,8 @@ def school_map(
     """A map of schools as (code, east, north), with homes counted in squares. Returns the SVG and
     the side of a square."""
     points = [*homes, *((east, north) for _, east, north in schools)]
-    side, near = cell_of(points, homes, least), width_of(points) / 16
-    cells = homes_by_cell(homes, side, least)
+    side, cells = counted_squares(schools, homes, least)
+    near = width_of(points) / 16
     figure = new_figure(8, 6.5)
     axes = figure.add_subplot()
     top = max(cells.values(), default=least)

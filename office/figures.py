@@ -162,31 +162,40 @@ def chart_of_schools(found: Figures) -> tuple[str, str]:
                               "children", WITHHELD)
 
 
-def page(found: Figures, last: Figures | None, flags: dict[int, str]) -> str:
-    """The page, from the figures of this year and of last year. `flags` are the office's words for
-    flags.
+def tables(found: Figures, last: Figures | None, flags: dict[int, str]) -> Row:
+    """The tables of the page: the preferences with the cells of each year, the schools, and the
+    schools beside those of last year. `flags` are the office's words for flags.
     """
-    progress, keys = Progress("charts", 3), keys_of(found, last)
     years = [it for it in (found, last) if it]
-    met = [(name_of(key), [cell for it in years for cell in met_cells(it, key)]) for key in keys]
+    met = [(name_of(key), [cell for it in years for cell in met_cells(it, key)])
+           for key in keys_of(found, last)]
     rows = [school_row(found, it, flags) for it in found.schools.values()]
     then = {it.code: school_row(last, it, flags) for it in last.schools.values()} if last else {}
-    points = [(it.code, it.east, it.north) for it in found.schools.values()]
-    met_chart = chart_of_preferences(found, last, keys)
+    beside = [compared(it, then.get(it["code"])) for it in rows] if last else []
+    return {"met": met, "rows": rows, "compared": beside}
+
+
+def points_of(found: Figures) -> list[tuple[str, int, int]]:
+    """The schools of the map."""
+    return [(it.code, it.east, it.north) for it in found.schools.values()]
+
+
+def page(found: Figures, last: Figures | None, flags: dict[int, str]) -> str:
+    """The page, from the figures of this year and of last year."""
+    progress, made = Progress("charts", 3), tables(found, last, flags)
+    met_chart = chart_of_preferences(found, last, keys_of(found, last))
     progress.at(1)
     schools_title, schools_chart = chart_of_schools(found)
     progress.at(2)
-    map_chart, side = charts.school_map("map", "Schools and homes", MAP_TEXT, points, found.homes,
-                                        LEAST)
+    map_chart, side = charts.school_map("map", "Schools and homes", MAP_TEXT, points_of(found),
+                                        found.homes, LEAST)
     progress.at(3)
     progress.end()
     return pages.render("figures.html", {
-        "found": found, "last": last, "day": days.in_words(found.day), "met": met, "rows": rows,
+        **made, "found": found, "last": last, "day": days.in_words(found.day),
         "least": LEAST, "meaning": MEANING, "side": f"{side:,}",
         "kept": shown(found, ("kept",), found.kept),
-        "offers": shown(found, ("offers",), found.offers),
-        "compared": [compared(it, then.get(it["code"])) for it in rows] if last else [],
-        "schools_title": schools_title,
+        "offers": shown(found, ("offers",), found.offers), "schools_title": schools_title,
         "charts": {"met": met_chart, "schools": schools_chart, "map": map_chart},
     })
 

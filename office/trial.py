@@ -37,7 +37,7 @@ import dataclasses
 import datetime
 import os
 import tempfile
-from collections.abc import Iterable, Iterator, Sequence
+from collections.abc import Iterable, Iterator, Mapping, Sequence
 
 import register_files as files
 from register_files import Refused
@@ -48,6 +48,7 @@ from . import (
 )
 from .model import Pair, Register, School
 from .run import Progress
+from .trial_registers import Program
 
 Change = tuple[str, int | tuple[str, ...]]
 Cells = list[object]
@@ -97,9 +98,9 @@ class Trial:
     """A round as it was and as it would have been."""
 
     def __init__(self, before: Register, after: Register | None, schools: dict[str, School],
-                 flags: dict[int, str]) -> None:
+                 flags: Mapping[int, str], program: Program | None = None) -> None:
         self.flags = flags
-        program, progress = files.program(), Progress("rounds", 2)
+        program, progress = program or Program(files.program()), Progress("rounds", 2)
         self.number = len(before.draws) + 1
         self.day, given = round_of(before, after)
         with tempfile.TemporaryDirectory(prefix="admissions-trial-") as room:
@@ -172,7 +173,7 @@ class Trial:
     def child_rows(self) -> Iterator[Cells]:
         """A row for each child that would have another school."""
         for it in self.effects:
-            name = texts.for_spreadsheet(self.plain.children[it.child].name)
+            name = self.plain.children[it.child].name
             yield [it.child, name, "gains" if it.gains else "loses",
                    it.had, self.class_words(self.plain, it.had, it.had_class),
                    it.would, self.class_words(self.changed, it.would, it.would_class)]
@@ -283,7 +284,9 @@ def main(given: argparse.Namespace) -> int:
     if given.html:
         sheet.write_new(given.html, page(trial, words, after is None).encode())
     if given.csv:
-        rows = sheet.csv_bytes([CHILD_HEAD, *trial.child_rows()])
+        listed = ([child, texts.for_spreadsheet(str(name)), *others]
+                  for child, name, *others in trial.child_rows())
+        rows = sheet.csv_bytes([CHILD_HEAD, *listed])
         sheet.write_new(given.csv, b"\xef\xbb\xbf" + rows)
     for line in text_of(trial, words, after is None):
         print(line)

@@ -5,6 +5,8 @@ import datetime
 import hashlib
 import json
 import subprocess
+import threading
+import time
 from collections.abc import Iterable
 from typing import Any
 
@@ -17,24 +19,59 @@ SEED = "trial"
 Command = dict[str, Any]
 
 
-def ran(program: str, *words: object, given: bytes = b"") -> str:
-    """What the program prints."""
-    try:
-        done = subprocess.run([program, *map(str, words)], input=given, capture_output=True,
-                              check=False)
-    except OSError as error:
-        raise Refused(f"the program does not start: {error.strerror}") from error
-    if done.returncode:
-        text = " ".join((done.stderr or done.stdout).decode("utf-8", "replace").split())
-        raise Refused(f"the program does not make the trial's register ({words[0]}, status"
-                      f" {done.returncode}): {text}")
-    return done.stdout.decode("utf-8")
+class Program:
+    """The program, whose runs are ended at a deadline, or when somebody ends them."""
+
+    def __init__(self, path: str, seconds: int | None = None) -> None:
+        self.path, self.seconds = path, seconds
+        self.last = None if seconds is None else time.monotonic() + seconds
+        self.lock, self.is_ended = threading.Lock(), False
+        self.present: subprocess.Popen[bytes] | None = None
+
+    def end(self) -> None:
+        """Ends the present run, and lets no other begin."""
+        with self.lock:
+            self.is_ended = True
+            if self.present:
+                self.present.kill()
+
+    def begun(self, words: Iterable[object]) -> subprocess.Popen[bytes]:
+        """A run that has begun."""
+        with self.lock:
+            if self.is_ended:
+                raise Refused("it was ended before its result")
+            try:
+                self.present = subprocess.Popen(
+                    [self.path, *map(str, words)], stdin=subprocess.PIPE, stdout=subprocess.PIPE,
+                    stderr=subprocess.PIPE)
+            except OSError as error:
+                raise Refused(f"the program does not start: {error.strerror}") from error
+            return self.present
+
+    def run(self, *words: object, given: bytes = b"", fine: Iterable[int] = (0,)) -> str:
+        """What the program prints, if it ends with one of these statuses."""
+        with self.begun(words) as run:
+            try:
+                left = None if self.last is None else max(0.0, self.last - time.monotonic())
+                out, errors = run.communicate(given, left)
+            except subprocess.TimeoutExpired as error:
+                run.kill()
+                run.communicate()
+                raise Refused(f"it takes more than {self.seconds} seconds, and was ended: nothing"
+                              " was changed by it") from error
+        if self.is_ended:
+            raise Refused("it was ended before its result")
+        if run.returncode not in fine:
+            text = " ".join((errors or out).decode("utf-8", "replace").split())
+            raise Refused(f"the program does not make the trial's register ({words[0]}, status"
+                          f" {run.returncode}): {text}")
+        return out.decode("utf-8")
 
 
-def sent(program: str, path: str, commands: Iterable[Command]) -> None:
+def sent(program: Program, path: str, commands: Iterable[Command]) -> None:
     """Sends commands, each of which must be done."""
     lines = "".join(json.dumps(it, ensure_ascii=False) + "\n" for it in commands)
-    ran(program, "do", path, given=lines.encode())
+    program.run("do", path, given=lines.encode())
 
 
 def school(it: School) -> Command:
@@ -43,16 +80,16 @@ def school(it: School) -> Command:
             "north": it.north, "criteria": list(it.criteria)}
 
 
-def make_first(program: str, path: str, before: Register, schools: dict[str, School]) -> None:
+def make_first(program: Program, path: str, before: Register, schools: dict[str, School]) -> None:
     """A register with the data of one that had no round yet, and these schools."""
-    ran(program, "init", path, before.phase, before.year, *before.holidays)
+    program.run("init", path, before.phase, before.year, *before.holidays)
     sent(program, path, map(school, schools.values()))
     cells = [persons.cells_of(before.children[it], found)
              for it, found in before.applications.items()]
     rows = [[it[column] for column in fields.COLUMNS] for it in cells]
     with open(path + ".csv", "xb") as file:
         file.write(sheet.csv_bytes([fields.COLUMNS, *rows]))
-    ran(program, "import", path, path + ".csv")
+    program.run("import", path, path + ".csv")
     others = [persons.command_of("add_child", it) for it in before.children.values()
               if it.number not in before.applications]
     plans = [{"cmd": "name_plan", "child": child, "school": it.school}
@@ -60,7 +97,7 @@ def make_first(program: str, path: str, before: Register, schools: dict[str, Sch
     sent(program, path, others + plans)
 
 
-def make_later(program: str, path: str, before: Register, schools: dict[str, School]) -> None:
+def make_later(program: Program, path: str, before: Register, schools: dict[str, School]) -> None:
     """A copy of a register that had rounds. Of its schools the admission number can be raised, and
     nothing else changed.
     """
@@ -87,14 +124,14 @@ def drawn(pairs: Iterable[Pair]) -> dict[Pair, int]:
 
 
 def held_round(
-    program: str, path: str, before: Register, schools: dict[str, School], draw: datetime.date,
+    program: Program, path: str, before: Register, schools: dict[str, School], draw: datetime.date,
     lots: dict[Pair, int] | None,
 ) -> tuple[Register, dict[Pair, int]]:
     """Makes a register and holds the round in it: the register after it, and the lots. `lots` are
     None if they are to be drawn here.
     """
     (make_later if before.draws else make_first)(program, path, before, schools)
-    lines = (it.split(" ") for it in ran(program, "pairs", path).splitlines())
+    lines = (it.split(" ") for it in program.run("pairs", path).splitlines())
     pairs = [(code, int(child)) for code, child in lines]
     if lots is None:
         lots = drawn(pairs)

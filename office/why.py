@@ -311,13 +311,17 @@ def nowhere(found: Why) -> str:
     return f"The child got no place: {which} was filled by children who rank before it there."
 
 
-def opening(found: Why, before: Register, after: Register) -> Iterator[str]:
-    """The first sentences: what the child got."""
+def heading(found: Why, after: Register) -> Iterator[str]:
+    """The round, and the child."""
     number = found.child
     yield (f"Admission {after.year} {after.phase}, round {found.round} of"
            f" {days.in_words(found.day)}")
     yield f"Child {number} {after.children[number].name}"
-    yield ""
+
+
+def opening(found: Why, before: Register) -> Iterator[str]:
+    """The first sentences: what the child got."""
+    number = found.child
     if not found.takes_part:
         yield no_part(before, number)
         return
@@ -353,26 +357,47 @@ def no_part(before: Register, number: int) -> str:
             f" {days.in_words(before.days[0])}, and took no part in the first round.")
 
 
-def lines_of(found: Why, before: Register, after: Register, is_office: bool = False,
-             flags: dict[int, str] | None = None) -> Iterator[str]:
-    """The whole explanation, for the office or for the family. `flags` are the office's words for
-    flags.
+@dataclasses.dataclass(frozen=True)
+class Section:
+    """A part of an explanation: its sentences, the school that it is about, if it is about one, and
+    what is not right there.
     """
-    yield FOR_OFFICE if is_office else FOR_FAMILY
-    yield from opening(found, before, after)
+
+    sentences: list[str]
+    school: str = ""
+    faults: tuple[str, ...] = ()
+
+
+def sections_of(found: Why, before: Register, after: Register, is_office: bool = False,
+                flags: dict[int, str] | None = None) -> Iterator[Section]:
+    """The whole explanation, for the office or for the family: for whom and about whom it is, what
+    the child got, and each school. `flags` are the office's words for flags.
+    """
+    yield Section([FOR_OFFICE if is_office else FOR_FAMILY, *heading(found, after)])
+    first = list(opening(found, before))
     if found.is_amended:
-        yield ("The data of this child were changed after the round: those that the round saw are"
-               " used here.")
+        first.append("The data of this child were changed after the round: those that the round"
+                     " saw are used here.")
+    yield Section(first)
     is_withheld = False
     for it in found.schools:
-        view = View(it, before.schools[it.code], is_office, flags)
-        yield ""
-        yield from sentences_of(it, before.schools[it.code], view)
+        school = before.schools[it.code]
+        view = View(it, school, is_office, flags)
+        yield Section(list(sentences_of(it, school, view)), it.code, tuple(it.faults))
         is_withheld = is_withheld or view.has_withheld
+    if is_withheld:
+        yield Section([withheld.MEANING])
+
+
+def lines_of(found: Why, before: Register, after: Register, is_office: bool = False,
+             flags: dict[int, str] | None = None) -> Iterator[str]:
+    """The same as lines of a terminal."""
+    for at, it in enumerate(sections_of(found, before, after, is_office, flags)):
+        if at:
+            yield ""
+        yield from it.sentences
         for fault in it.faults:
             yield f"THIS IS NOT RIGHT: {fault}. Run admissions-audit."
-    if is_withheld:
-        yield from ("", withheld.MEANING)
 
 
 def arguments(reader: argparse.ArgumentParser) -> None:

@@ -1,0 +1,190 @@
+"""Trials of other admission numbers and criteria, each in a thread of its own over registers that
+are deleted at its end: one at a time, ended when it takes too long, and kept in memory alone.
+"""
+import dataclasses
+import threading
+from collections.abc import Iterator, Mapping
+
+import register_files as files
+from register_files import Refused
+
+from office import book, trial
+from office.book import Page, Value
+from office.model import Register, School
+from office.rules import LIMITS
+from office.trial import Trial
+from office.trial_registers import Program
+
+from . import schools as cells_of_schools
+from .history import now
+from .people import Person
+
+# wall-clock seconds: the programs that a trial has begun are ended then
+MOST_SECONDS = 600
+# so many are kept, and those before them are forgotten
+KEPT = 10
+WAIT = "wait for its end, or end it"
+BROKEN = "the trial did not come to its end: tell whoever maintains the system"
+SCHOOL_HEAD = ("school", "name", "admission number", "tried", "offers", "would be", "would gain",
+               "would lose", "last offered", "would be last")
+CRITERION_HEAD = ("school", "children", "would gain", "would lose")
+
+
+@dataclasses.dataclass(frozen=True)
+class Asked:
+    """A trial that is asked for: the registers from before and after the round, or none after it
+    where it is not held yet; the schools as they are tried, and that in words.
+    """
+
+    before: Register
+    after: Register | None
+    schools: dict[str, School]
+    words: list[str]
+    flags: Mapping[int, str]
+
+
+@dataclasses.dataclass(frozen=True)
+class Found:
+    """What a trial found: its first lines, its tables, and all of it as a page."""
+
+    summary: list[str]
+    schools: list[trial.Cells]
+    criteria: list[trial.Cells]
+    children: list[trial.Cells]
+    page: str
+
+
+@dataclasses.dataclass
+class Run:
+    """A trial: its number, who asked for what and when, and what came of it."""
+
+    number: int
+    who: str
+    at: str
+    words: list[str]
+    program: Program
+    is_over: threading.Event = dataclasses.field(default_factory=threading.Event)
+    found: Found | None = None
+    refused: str = ""
+
+
+class Trials:
+    """The trials of one application."""
+
+    def __init__(self) -> None:
+        self.lock = threading.Lock()
+        self.runs: dict[int, Run] = {}
+        self.last = 0
+
+    def begin(self, who: Person, asked: Asked) -> Run:
+        """Begins a trial, if none is under way."""
+        with self.lock:
+            if present := next((it for it in self.runs.values() if not it.is_over.is_set()), None):
+                raise Refused(f"a trial of {present.who} is under way: {WAIT}")
+            self.last += 1
+            run = Run(self.last, who.name, now(), asked.words,
+                      Program(files.program(), MOST_SECONDS))
+            self.runs[run.number] = run
+            for number in list(self.runs)[:-KEPT]:
+                del self.runs[number]
+        threading.Thread(target=work, args=(run, asked), daemon=True).start()
+        return run
+
+    def close(self) -> None:
+        """Ends the one that is under way, with its programs."""
+        for it in self.listed():
+            it.program.end()
+
+    def listed(self) -> list[Run]:
+        """Those that are kept, the last first."""
+        with self.lock:
+            return list(reversed(self.runs.values()))
+
+    def get(self, number: int) -> Run | None:
+        """A trial, if it is kept."""
+        with self.lock:
+            return self.runs.get(number)
+
+
+def work(run: Run, asked: Asked) -> None:
+    """Does a trial."""
+    try:
+        held = Trial(asked.before, asked.after, asked.schools, asked.flags, run.program)
+        is_drawn = asked.after is None
+        run.found = Found(
+            list(held.summary(asked.words, is_drawn)), list(held.school_rows()),
+            list(held.criterion_rows()), list(held.child_rows()),
+            trial.page(held, asked.words, is_drawn))
+    except Refused as error:
+        run.refused = str(error)
+    except Exception:
+        # (a thread that ends so would leave a trial that never ends)
+        run.refused = BROKEN
+        raise
+    finally:
+        run.is_over.set()
+
+
+@dataclasses.dataclass(frozen=True)
+class Line:
+    """A school in the form: what it has, what was typed, and what is wrong with that."""
+
+    school: School
+    pan: str
+    criteria: str
+    wrong: dict[str, str]
+
+
+def lines(register: Register, typed: Mapping[str, str], words: Mapping[int, str]) -> list[Line]:
+    """The schools of a form; what is not typed is as it is."""
+    found = []
+    for code, school in register.schools.items():
+        cells = {"pan": typed.get(f"pan-{code}", str(school.pan)),
+                 "criteria": typed.get(f"criteria-{code}", "; ".join(school.criteria))}
+        read = {name: cells_of_schools.READERS[name](text, words) for name, text in cells.items()}
+        wrong = {name: it.expected for name, it in read.items() if it.expected}
+        if read["criteria"].text.count(";") >= LIMITS["criteria"].most:
+            wrong["criteria"] = f"at most {LIMITS['criteria'].most} criteria"
+        found.append(Line(school, cells["pan"], cells["criteria"], wrong))
+    return found
+
+
+def changes(given: list[Line], words: Mapping[int, str]) -> Iterator[trial.Change]:
+    """What lines without errors change."""
+    for it in given:
+        pan = int(cells_of_schools.READERS["pan"](it.pan, words).text)
+        text = cells_of_schools.READERS["criteria"](it.criteria, words).text
+        criteria = tuple(text.split(";")) if text else ()
+        if pan != it.school.pan:
+            yield it.school.code, pan
+        if criteria != it.school.criteria:
+            yield it.school.code, criteria
+
+
+def asked_for(before: Register, after: Register | None, given: list[Line],
+              words: Mapping[int, str]) -> Asked:
+    """The trial of a form, or a refusal where it changes nothing."""
+    schools, said = trial.changed_schools(before, changes(given, words))
+    return Asked(before, after, schools, said, words)
+
+
+def workbook(run: Run, found: Found) -> bytes:
+    """A trial as a workbook."""
+    pages = [
+        Page("summary", "what was tried", [["summary"], *([it] for it in found.summary)]),
+        sheet("schools", "schools where anything would be different", SCHOOL_HEAD, found.schools),
+        sheet("criteria", "who would gain or lose, by criterion", CRITERION_HEAD, found.criteria),
+        sheet("children", "children who would have another school", trial.CHILD_HEAD,
+              found.children),
+    ]
+    return book.data(pages, f"Trial {run.number}")
+
+
+def sheet(name: str, purpose: str, head: tuple[str, ...], rows: list[trial.Cells]) -> Page:
+    """A sheet of a workbook."""
+    return Page(name, purpose, [list(head), *([value(it) for it in row] for row in rows)])
+
+
+def value(cell: object) -> Value:
+    """A cell of a table as a workbook has it."""
+    return cell if isinstance(cell, int) or cell is None else str(cell)

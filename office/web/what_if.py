@@ -1,0 +1,129 @@
+"""What a round that was held would have given a child by another list, or by an application of
+another day: what was typed, what is wrong with it, and the answer in words.
+"""
+import dataclasses
+import threading
+from collections.abc import Mapping, Sequence
+
+import register_files as files
+from register_files import Refused
+
+from office import texts, what_if
+from office.model import Draw, Register
+from office.trial_registers import Program
+from office.why import nth
+
+from . import explanations
+from .parts import Parts
+from .wording import day_of, weekday
+
+# wall-clock seconds; a day in time of a late application holds two rounds anew
+MOST_SECONDS = 120
+# so many are worked out at once
+AT_ONCE = threading.BoundedSemaphore(2)
+NOT_A_DAY = "a day as 17 March 2025 or 17/3/2025"
+
+
+class NotThere(Refused):
+    """A child that had no application yet."""
+
+
+@dataclasses.dataclass(frozen=True)
+class Setting:
+    """A round with the registers from before and after it, as a child saw it."""
+
+    draw: Draw
+    before: Register
+    after: Register
+    child: int
+
+    @property
+    def wanted(self) -> list[str]:
+        """The schools that the child wanted in the round, in the order of its list."""
+        return self.before.wanted.get(self.child, [])
+
+    def got(self, code: str | None) -> str:
+        """What it means to get a school, or none."""
+        own = self.before.own.get(self.child)
+        if code is None:
+            return "no place"
+        listed = self.before.applications[self.child].preferences
+        name = f"{self.before.schools[code].name} ({code}), its {nth(listed.index(code) + 1)}"
+        return f"its present place at {name}" if code == own else f"a place at {name}"
+
+
+def setting(parts: Parts, draw: Draw, child: int) -> Setting:
+    """A round as a child saw it, or a refusal where it cannot be told."""
+    before = explanations.before(parts, draw)
+    if child not in before.applications:
+        raise NotThere("the child had no application when the round was held")
+    return Setting(draw, before, parts.desk.register(), child)
+
+
+@dataclasses.dataclass(frozen=True)
+class Typed:
+    """Another list as it was typed, and what is wrong at which field."""
+
+    codes: list[str]
+    wrong: dict[str, str]
+
+    @property
+    def chosen(self) -> list[str]:
+        """The schools of the list, best first."""
+        return [it for it in self.codes if it]
+
+
+def typed(found: Setting, given: Mapping[str, str]) -> Typed:
+    """The list of a form with a menu for each preference."""
+    codes = [given.get(f"p{at}", code) for at, code in enumerate(found.wanted, 1)]
+    wrong: dict[str, str] = {}
+    for at, code in enumerate(codes, 1):
+        if code and code not in found.wanted:
+            wrong[f"p{at}"] = "one of the schools that the child wanted in the round"
+        elif code and code in codes[:at - 1]:
+            wrong[f"p{at}"] = f"each school once: {code} is above"
+    return Typed(codes, wrong)
+
+
+def by_list(found: Setting, codes: Sequence[str]) -> list[str]:
+    """The answer to another list, in sentences."""
+    with AT_ONCE:
+        program = Program(files.program(), MOST_SECONDS)
+        school = what_if.by_list(program, found.before, found.after, found.child, codes)
+    had = found.after.outcomes[found.draw.number][found.child]
+    listed = ", ".join(codes) or "no school of its list"
+    said = [f"By the list {listed}: {found.got(school)}.",
+            f"By its own list, {', '.join(found.wanted)}: {found.got(had)}."]
+    if school == had:
+        return [*said, "The other list would have changed nothing for this child."]
+    return [*said, "No list gives a child a school that it prefers to the one that it has by its"
+            " own list: that is proved."]
+
+
+def by_day(found: Setting, text: str) -> tuple[list[str], str]:
+    """The answer to an application of another day, in sentences; or what is wrong with the day."""
+    day = day_of(text)
+    if day is None:
+        return [], NOT_A_DAY
+    with AT_ONCE:
+        program = Program(files.program(), MOST_SECONDS)
+        span = what_if.by_day(program, found.before, found.after, found.child, day)
+    applied = found.before.applications[found.child].day
+    said = [f"By an application of {weekday(day)}: {found.got(span.best)}."]
+    if not found.before.is_in_time(day):
+        said[0] = f"By an application of {weekday(day)}: no part in the first round, as it is late."
+    elif found.before.is_in_time(applied):
+        said.append("The day of an application that is in time makes no difference.")
+    elif span.best != span.worst:
+        said[0] = (f"By an application of {weekday(day)}: between {found.got(span.best)}, and"
+                   f" {found.got(span.worst)}.")
+        said.append("That depends on lots, which were not drawn for a late application.")
+    else:
+        said.append("No lot that could have been drawn changes that.")
+    return said, ""
+
+
+def preference(at: int) -> str:
+    """The label of a menu."""
+    text = nth(at)
+    return texts.visible(text[:1].upper() + text[1:])
