@@ -11,11 +11,12 @@ from office.register_lists import Cell, Rows
 
 from .wording import day_of, draw_in_words, weekday
 
-# those that are screens of their own, or lines for a terminal
-ELSEWHERE = ("amend", "child", "find")
+# those that are lines for a terminal
+ELSEWHERE = ("amend",)
 TITLES = {
-    "children": "All children", "draws": "Rounds and fills",
-    "equal-at-limit": "Where only the lot decided", "interest": "What families want",
+    "child": "Schools of one child", "children": "All children", "draws": "Rounds and fills",
+    "equal-at-limit": "Where only the lot decided", "find": "Children by name",
+    "interest": "What families want",
     "lapse-due": "Offers that may be withdrawn", "last-offered": "Last offered",
     "list": "Waiting lists", "lots": "Lots of a draw", "moved": "Whom a draw moved",
     "no-answer": "Not answered", "preferences": "Preferences that were met",
@@ -26,7 +27,11 @@ TITLES = {
 NAMES = [it for it in worklists.WORKLISTS if it not in ELSEWHERE]
 # those that are a file of a terminal, or that another option includes
 NO_OPTIONS = {"moved": ("before", "round")}
-LABELS = {"day": "Day", "draw": "Draw", "round": "Round", "school": "School"}
+LABELS = {"day": "Day", "draw": "Draw", "round": "Round", "school": "School",
+          "child": "Number of the child", "text": "Name"}
+# the options that are typed, each with how it is
+TYPED = {"day": "as 17 March 2025 or 17/3/2025", "child": "", "text": "in any spelling of capitals"
+         " and accents"}
 # the columns whose cells lead to a child or to a school
 CHILD, SCHOOLS = "child", ("school", "from", "to", "allotted")
 
@@ -91,12 +96,24 @@ def options(
             day = day_of(text)
             values[it], words = day, weekday(day) if day else ""
             wrong = "" if day else "a day as 17 March 2025 or 17/3/2025"
+        elif it == "child" and text:
+            values[it], wrong = child_of(register, text)
+            words = register.children[values[it]].name if not wrong else ""
+        elif it == "text" and text:
+            values[it] = words = text
         elif text and not words:
             wrong = "one of the list"
         elif text:
             values[it] = text if it == "school" else int(text)
         found.append(Option(it, LABELS[it], can_be, text, words, wrong))
     return found, values
+
+
+def child_of(register: Register, text: str) -> tuple[int, str]:
+    """The number of a child that is typed, or what is wrong with it."""
+    is_number = text.isascii() and text.isdigit() and len(text) < 10
+    number = int(text) if is_number else 0
+    return number, "" if number in register.children else "the number of a child of the register"
 
 
 def is_whole(name: str, found: list[Option], values: Mapping[str, Any]) -> bool:

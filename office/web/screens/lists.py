@@ -1,20 +1,33 @@
-"""The lists of an office: each with its options, as a table, on paper and as a workbook."""
+"""The lists of an office: each with its options, what of it is to be seen, on paper, as a workbook
+and as CSV; and the views that a person has saved.
+"""
+import dataclasses
 import datetime
+import urllib.parse
+from typing import Any
 
 import flask
+from register_files import Refused
+from werkzeug.datastructures import MultiDict
 from werkzeug.wrappers import Response
 
-from office import book
+from office import book, query
 from office.book import Page
 from office.model import Register
+from office.register_lists import Cell, Rows
 
-from .. import worklists
-from ..guard import needs, parts
+from .. import guard, list_choice, worklists
+from ..guard import needs, parts, person
+from ..list_choice import Choice
+from ..list_views import Views
 from ..people import READ
+from ..wording import sentence
 from .schools import attachment, title_of
 
 screen = flask.Blueprint("lists", __name__, url_prefix="/lists")
 Answer = str | Response | tuple[str, int]
+Address = dict[str, str | list[str]]
+SAID = {"saved": "The view is saved.", "removed": "The view is removed."}
 
 
 def today() -> datetime.date:
@@ -22,46 +35,170 @@ def today() -> datetime.date:
     return datetime.date.today()
 
 
+def views() -> Views:
+    """The saved views."""
+    return Views(parts().store)
+
+
 @screen.get("/")
 @needs(READ)
 def show() -> Answer:
-    """The names of all lists."""
+    """The names of all lists, and the views that were saved."""
+    return index(SAID.get(flask.request.args.get("said", ""), ""))
+
+
+def index(said: str, is_bad: bool = False) -> str:
+    """The first page of the lists."""
     rows = [(it, worklists.title(it), worklists.purpose(it)) for it in worklists.NAMES]
-    return flask.render_template("lists.html", rows=rows)
+    saved = [(it, f"{flask.url_for('lists.one', name=it.name)}?{it.address}",
+              worklists.title(it.name))
+             for it in views().of(person().name) if it.name in worklists.NAMES]
+    return flask.render_template("lists.html", rows=rows, saved=saved, said=said, is_bad=is_bad)
 
 
-def see_name(name: str) -> None:
-    """Refuses what is no list."""
+@dataclasses.dataclass
+class Asked:
+    """A list that somebody asks for: its options, what of it was chosen, what is wrong with that,
+    and all its rows, or none where it is not whole yet; and the same in an address.
+    """
+
+    register: Register
+    name: str
+    options: list[worklists.Option]
+    choice: Choice
+    wrong: dict[str, str]
+    all_rows: Rows
+    address: Address
+
+    @property
+    def rows(self) -> Rows:
+        """The rows that were chosen, with the header."""
+        return list_choice.chosen(self.choice, self.all_rows, self.register)
+
+    @property
+    def is_wrong(self) -> bool:
+        """Whether something of what was asked for cannot be."""
+        return bool(self.wrong) or any(it.wrong for it in self.options)
+
+    @property
+    def words(self) -> list[str]:
+        """What it is of, and which rows."""
+        return [it.words for it in self.options if it.words] + self.choice.in_words()
+
+
+def asked(name: str, given: MultiDict[str, str]) -> Asked:
+    """The list of an address."""
     if name not in worklists.NAMES:
         flask.abort(404)
+    register: Register = parts().desk.register()
+    options, values = worklists.options(register, name, given, today())
+    choice, wrong, rows = list_choice.of_address(given), dict[str, str](), Rows()
+    if worklists.is_whole(name, options, values):
+        try:
+            rows = worklists.rows_of(register, name, values)
+            wrong = list_choice.wrong(choice, rows, register)
+        except Refused as error:
+            wrong["list"] = sentence(str(error))
+    # (a day that was not typed is the day of today, also when the address is used later)
+    address: Address = {it.name: it.given for it in options if given.get(it.name, "").strip()}
+    return Asked(register, name, options, choice, wrong, rows, address | choice.address())
 
 
 @screen.get("/<name>")
 @needs(READ)
 def one(name: str) -> Answer:
     """A list."""
-    see_name(name)
-    register: Register = parts().desk.register()
-    options, values = worklists.options(register, name, flask.request.args, today())
-    is_whole = worklists.is_whole(name, options, values)
-    header, *rows = worklists.rows_of(register, name, values) if is_whole else [[]]
-    given = {it.name: it.given for it in options if it.given}
-    is_wrong = any(it.wrong for it in options)
+    return page(asked(name, flask.request.args), flask.request.args.get("page", ""))
+
+
+def page(found: Asked, number: str, said: str = "", status: int = 200, typed: str = "") -> Answer:
+    """The page of a list."""
+    is_shown = bool(found.all_rows) and not found.wrong
+    rows: Rows = found.rows if is_shown else [[]]
+    shown, header = list_choice.paged(rows, number), rows[0]
+    columns = [str(it) for it in found.all_rows[0]] if found.all_rows else []
+    states = list_choice.states(found.all_rows) if found.all_rows else []
     return flask.render_template(
-        "list.html", name=name, title=worklists.title(name), purpose=worklists.purpose(name),
-        options=options, given=given, header=header, is_whole=is_whole,
-        rows=[worklists.shown(header, row, register) for row in rows]), 400 if is_wrong else 200
+        "list.html", name=found.name, title=worklists.title(found.name),
+        purpose=worklists.purpose(found.name), options=found.options, is_typed=worklists.TYPED,
+        choice=found.choice, wrong=found.wrong, address=found.address, columns=columns,
+        states=[(it, it) for it in states], orders=[(it, it.capitalize()) for it in columns],
+        has_children=bool(found.all_rows) and worklists.CHILD in found.all_rows[0],
+        has_schools=bool(found.all_rows) and list_choice.has_schools(found.all_rows),
+        schools=worklists.choices(found.register, "school"), heads=heads(found, header),
+        is_shown=is_shown, count_all=len(found.all_rows) - 1, count_found=len(rows) - 1,
+        page=shown, words=found.words, today=today(), said=said, typed=typed,
+        query=urllib.parse.urlencode(found.address, doseq=True),
+        rows=[worklists.shown(header, row, found.register) for row in shown.rows],
+    ), 400 if found.is_wrong and status == 200 else status
+
+
+def heads(found: Asked, header: list[Cell]) -> list[dict[str, Any]]:
+    """The columns that are shown: each with the address of the list in its order, and with the
+    order that it has.
+    """
+    made = []
+    for it in header:
+        is_order = found.choice.order == it
+        is_down = is_order and not found.choice.is_down
+        way = {"order": str(it), **({"down": "yes"} if is_down else {})}
+        others = {name: value for name, value in found.address.items()
+                  if name not in ("order", "down")}
+        sort = ("descending" if found.choice.is_down else "ascending") if is_order else ""
+        made.append({"name": str(it), "address": {**others, **way}, "sort": sort})
+    return made
+
+
+def whole(name: str) -> Asked:
+    """A list of an address that can be made, for a file."""
+    found = asked(name, flask.request.args)
+    if found.is_wrong or not found.all_rows:
+        flask.abort(400, "choose what the list is of first")
+    return found
 
 
 @screen.get("/<name>/workbook")
 @needs(READ)
 def workbook(name: str) -> Response:
     """The same as a workbook."""
-    see_name(name)
-    register: Register = parts().desk.register()
-    options, values = worklists.options(register, name, flask.request.args, today())
-    if not worklists.is_whole(name, options, values):
-        flask.abort(400, "choose what the list is of first")
-    rows = worklists.rows_of(register, name, values)
-    pages = [Page(name, worklists.purpose(name), rows)]
-    return attachment(book.data(pages, title_of(register, worklists.title(name))), name)
+    found = whole(name)
+    pages = [Page(name, worklists.purpose(name), found.rows)]
+    title = ", ".join([worklists.title(name), *found.words])
+    return attachment(book.data(pages, title_of(found.register, title)), name)
+
+
+@screen.get("/<name>/csv")
+@needs(READ)
+def csv(name: str) -> Response:
+    """The same as CSV for a spreadsheet."""
+    headers = {"Content-Disposition": f'attachment; filename="{name}.csv"'}
+    return flask.Response(query.csv_text(whole(name).rows, True), mimetype="text/csv",
+                          headers=headers)
+
+
+@screen.post("/<name>/save")
+@needs(READ)
+def save(name: str) -> Answer:
+    """Saves what was chosen of a list by a name."""
+    form = flask.request.form
+    given = MultiDict(urllib.parse.parse_qsl(form.get("query", "")))
+    found, title = asked(name, given), form.get("title", "").strip()
+    address = urllib.parse.urlencode(found.address, doseq=True)
+    try:
+        views().save(person().name, title, name, address)
+    except Refused as error:
+        return page(found, "", sentence(str(error)), 422, title)
+    guard.record("saved a view", view=title, list=name)
+    return flask.redirect(flask.url_for("lists.show", said="saved"), 303)
+
+
+@screen.post("/views/<int:number>/remove")
+@needs(READ)
+def remove(number: int) -> Answer:
+    """Removes a view."""
+    try:
+        title = views().remove(person().name, number)
+    except Refused as error:
+        return index(sentence(str(error)), True), 409
+    guard.record("removed a view", view=title)
+    return flask.redirect(flask.url_for("lists.show", said="removed"), 303)

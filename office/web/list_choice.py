@@ -1,0 +1,182 @@
+"""What of a list somebody wants to see: which rows, which columns, and in which order. All of it is
+in the address of the screen, so that it can be kept and passed on.
+"""
+import dataclasses
+import math
+import re
+from collections.abc import Iterator, Sequence
+
+from werkzeug.datastructures import MultiDict
+
+from office import texts
+from office.model import Register
+from office.register_lists import Cell, Rows
+
+from . import worklists
+
+# so many rows are on a page of the screen; on paper all of them are
+PAGE = 500
+# the columns that say in which state something is, and those that name schools one after another
+STATES, SEVERAL = ("place", "came", "held", "kind"), ("preferences", "waiting")
+NONE = "none"
+NUMBER = re.compile(r"[0-9]{1,15}(?:\.[0-9]{1,6})?")
+NO_COLUMN, NO_SCHOOL, NO_STATE = "a column of the list", "one of the list", "one of the list"
+
+
+@dataclasses.dataclass(frozen=True)
+class Choice:
+    """What was chosen: words that a row has, the code of a school and a state that it names, the
+    columns that are shown, the one that gives the order, and whether its greatest comes first.
+    """
+
+    words: str = ""
+    at: str = ""
+    state: str = ""
+    columns: tuple[str, ...] = ()
+    order: str = ""
+    is_down: bool = False
+
+    @property
+    def is_filtered(self) -> bool:
+        """Whether some rows are left out."""
+        return bool(self.words or self.at or self.state)
+
+    def address(self) -> dict[str, str | list[str]]:
+        """The same in an address."""
+        found: dict[str, str | list[str]] = {
+            "words": self.words, "at": self.at, "state": self.state, "column": list(self.columns),
+            "order": self.order, "down": "yes" if self.is_down else "",
+        }
+        return {name: value for name, value in found.items() if value}
+
+    def in_words(self) -> list[str]:
+        """Which rows these are."""
+        said = [f"with “{self.words}”"] if self.words else []
+        said += [f"at {self.at}"] if self.at else []
+        said += [f"state: {self.state}"] if self.state else []
+        down = ", from the greatest" if self.is_down else ""
+        return said + ([f"by {self.order}{down}"] if self.order else [])
+
+
+def of_address(given: MultiDict[str, str]) -> Choice:
+    """What an address chooses."""
+    words, at, state, order = (
+        given.get(it, "").strip() for it in ("words", "at", "state", "order"))
+    return Choice(words, at, state, tuple(dict.fromkeys(given.getlist("column"))), order,
+                  bool(given.get("down")))
+
+
+def states(rows: Rows) -> list[str]:
+    """The states that some row of a list names."""
+    header, *others = rows
+    found = [at for at, name in enumerate(header) if name in STATES]
+    return sorted({state_of(row[at]) for row in others for at in found})
+
+
+def state_of(cell: Cell) -> str:
+    """A state as it is chosen."""
+    return NONE if cell in (None, "") else str(cell)
+
+
+def has_schools(rows: Rows) -> bool:
+    """Whether the rows of a list name schools."""
+    header, *others = rows
+    return any(True for row in others for _ in schools_in(header, row))
+
+
+def schools_in(header: Sequence[Cell], row: Sequence[Cell]) -> Iterator[str]:
+    """The schools that a row names."""
+    for name, cell in zip(header, row):
+        if isinstance(cell, str) and name in worklists.SCHOOLS:
+            yield cell
+        elif isinstance(cell, str) and name in SEVERAL:
+            yield from cell.split(";")
+
+
+def wrong(choice: Choice, rows: Rows, register: Register) -> dict[str, str]:
+    """What of a choice the list does not have, by the names of its fields."""
+    header = rows[0]
+    found = {}
+    if choice.at and choice.at not in register.schools:
+        found["at"] = NO_SCHOOL
+    if choice.state and choice.state not in [*states(rows), NONE]:
+        found["state"] = NO_STATE
+    if choice.order and choice.order not in header:
+        found["order"] = NO_COLUMN
+    if any(it not in header for it in choice.columns):
+        found["column"] = NO_COLUMN
+    return found
+
+
+def chosen(choice: Choice, rows: Rows, register: Register) -> Rows:
+    """The rows of a list that were chosen, with their columns, in their order."""
+    header, *others = rows
+    found = [it for it in others if is_meant(choice, header, it, register)]
+    if choice.order:
+        found = in_order(found, header.index(choice.order), choice.is_down)
+    kept = [at for at, name in enumerate(header) if name in (choice.columns or header)]
+    return [[row[at] for at in kept] for row in [header, *found]]
+
+
+def is_meant(
+    choice: Choice, header: list[Cell], row: list[Cell], register: Register
+) -> bool:
+    """Whether a row is one of those that were chosen."""
+    if choice.at and choice.at not in schools_in(header, row):
+        return False
+    if choice.state and choice.state not in [
+            state_of(it) for name, it in zip(header, row) if name in STATES]:
+        return False
+    return not choice.words or has_words(choice.words, row, register)
+
+
+def has_words(words: str, row: list[Cell], register: Register) -> bool:
+    """Whether each word is in some cell, as it is stored or as it is shown, or in the name of a
+    school there, whatever capitals and accents. A number is only found whole.
+    """
+    there = [str(it) for it in row if it is not None]
+    there += [worklists.in_words(it) for it in row if isinstance(it, str)]
+    there += [register.schools[it].name for it in row
+              if isinstance(it, str) and it in register.schools]
+    # (once for all: a long list has many cells)
+    text = texts.folded(" ".join(there))
+    whole = set(text.split())
+    return all(it in whole if it.isdigit() else it in text
+               for it in texts.folded(words).split())
+
+
+def in_order(rows: Rows, at: int, is_down: bool) -> Rows:
+    """Rows by a column. What is empty there comes last, whichever comes first."""
+    filled = [it for it in rows if it[at] not in (None, "")]
+    empty = [it for it in rows if it[at] in (None, "")]
+    return sorted(filled, key=lambda it: key_of(it[at]), reverse=is_down) + empty
+
+
+def key_of(cell: Cell) -> tuple[float, str, str]:
+    """By numbers as such, and then by words."""
+    text = str(cell)
+    if isinstance(cell, int) or NUMBER.fullmatch(text):
+        return (float(text), "", text)
+    return (math.inf, texts.plain(text), text)
+
+
+@dataclasses.dataclass(frozen=True)
+class Paged:
+    """The rows of a page of a list, without the header; its number, and how many pages there are;
+    all is on one where number is 0.
+    """
+
+    rows: Rows
+    number: int
+    count: int
+
+
+def paged(rows: Rows, asked: str) -> Paged:
+    """A page of a list's rows, of which the first is the header; all of them where that is asked.
+    """
+    count = max(1, math.ceil((len(rows) - 1) / PAGE))
+    if asked == "all":
+        return Paged(rows[1:], 0, count)
+    number = int(asked) if asked.isascii() and asked.isdigit() and len(asked) < 7 else 1
+    number = min(max(number, 1), count)
+    return Paged(rows[1 + (number - 1) * PAGE:1 + number * PAGE], number, count)
