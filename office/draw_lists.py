@@ -4,14 +4,14 @@ Classes and distances are those of the children's data of today. A child whose a
 has ended since has none any more, so where it is needed to tell who was last, nobody is named.
 """
 import collections
-import dataclasses
 import math
-from collections.abc import Iterator
+from collections.abc import Iterable, Iterator, Mapping
+from typing import NamedTuple
 
 from register_files import Refused
 
 from . import model, texts
-from .model import Draw, Pair, Register
+from .model import Draw, Lots, Pair, Register
 from .register_lists import Cell, Rows
 from .run import Progress
 
@@ -23,8 +23,7 @@ REFUSED, UNKNOWN = "refused", "unknown"
 Held = dict[int, tuple[str, str]]
 
 
-@dataclasses.dataclass(frozen=True)
-class Entry:
+class Entry(NamedTuple):
     """A child with a lot at a school: the school that the draw allotted it, if any, and the class
     and the distance by which it ranks, or None where its application has ended.
     """
@@ -40,7 +39,7 @@ def came_of(school: str | None, is_fresh: bool) -> str:
     return NONE if school is None else OFFERED if is_fresh else KEPT
 
 
-def with_lots(register: Register) -> Iterator[tuple[Draw, dict[Pair, int]]]:
+def with_lots(register: Register) -> Iterator[tuple[Draw, Lots]]:
     """The draws with their lots, with progress while these are read."""
     progress = Progress("draws", len(register.draws))
     lots_of_all = register.lots_of([it.number for it in register.draws])
@@ -115,20 +114,24 @@ def preferences(register: Register) -> Rows:
 
 
 def by_school(
-    register: Register, offered: bool = False, school: str | None = None
-) -> Iterator[tuple[Draw, str, list[Entry]]]:
-    """Who had a lot in a draw, by draws and schools in their order; or only who was offered the
-    place there, or who had a lot at one school.
-    """
-    for draw, drawn in with_lots(register):
-        outcomes = register.outcomes[draw.number]
-        found: dict[str, list[Entry]] = {}
-        there = (it for it in drawn.items() if school in (None, it[0][0])
-                 and (not offered or outcomes.get(it[0][1]) == it[0][0]))
-        for (code, child), lot in sorted(there):
-            rank = register.rank(code, child) if child in register.applications else None
-            found.setdefault(code, []).append(Entry(child, lot, outcomes.get(child), rank))
-        yield from ((draw, code, there) for code, there in found.items())
+    register: Register, draw: Draw, drawn: Iterable[tuple[Pair, int]]
+) -> dict[str, list[Entry]]:
+    """Who had these lots of a draw, by schools in their order."""
+    outcomes, applications = register.outcomes[draw.number], register.applications
+    found: dict[str, list[Entry]] = {}
+    for (code, child), lot in sorted(drawn):
+        rank = applications[child].rank(code) if child in applications else None
+        found.setdefault(code, []).append(Entry(child, lot, outcomes.get(child), rank))
+    return found
+
+
+def offered_in(
+    register: Register, draw: Draw, drawn: Lots, school: str | None = None
+) -> dict[str, list[Entry]]:
+    """Who was offered the place for which it had a lot, by schools; or at one school alone."""
+    outcomes = register.outcomes[draw.number]
+    return by_school(register, draw, (it for it in drawn.items() if school in (None, it[0][0])
+                                      and outcomes.get(it[0][1]) == it[0][0]))
 
 
 def last_of(offered: list[Entry]) -> Entry | None:
@@ -142,11 +145,12 @@ def last_of(offered: list[Entry]) -> Entry | None:
 def last_offered(register: Register, school: str | None = None) -> Rows:
     """The last that was offered at each school, or at this one, in each draw, and how many were."""
     rows: Rows = []
-    for draw, code, offered in by_school(register, True, school):
-        last = last_of(offered)
-        rank = last.rank if last and last.rank else (None, None)
-        who: list[Cell] = [last.child, *rank, last.lot] if last else [None] * 4
-        rows.append([draw.number, draw.day.isoformat(), code, len(offered), *who])
+    for draw, drawn in with_lots(register):
+        for code, offered in offered_in(register, draw, drawn, school).items():
+            last = last_of(offered)
+            rank = last.rank if last and last.rank else (None, None)
+            who: list[Cell] = [last.child, *rank, last.lot] if last else [None] * 4
+            rows.append([draw.number, draw.day.isoformat(), code, len(offered), *who])
     header: list[Cell] = ["draw", "day", "school", "offers", "child", "class", "metres", "lot"]
     return [header, *rows]
 
@@ -154,28 +158,54 @@ def last_offered(register: Register, school: str | None = None) -> Rows:
 def equal_at_limit(register: Register) -> Rows:
     """Where only the lot decided, or may have: who was offered or refused a place there."""
     rows: Rows = []
-    for draw, code, there in by_school(register):
-        for it in sorted(decided(register, code, there), key=lambda it: it.lot):
-            rank: list[Cell] = [*(it.rank or (None, None))]
-            is_known = it.rank is not None
-            came = OFFERED if it.allotted == code else REFUSED if is_known else UNKNOWN
-            rows.append([draw.number, code, it.child, *rank, it.lot, came])
+    for draw, drawn in with_lots(register):
+        offered = offered_in(register, draw, drawn)
+        others = by_school(register, draw, near(register, draw, drawn, offered))
+        for code, there in offered.items():
+            found = decided(register, code, there, others.get(code, []))
+            for it in sorted(found, key=lambda it: it.lot):
+                rank: list[Cell] = [*(it.rank or (None, None))]
+                is_known = it.rank is not None
+                came = OFFERED if it.allotted == code else REFUSED if is_known else UNKNOWN
+                rows.append([draw.number, code, it.child, *rank, it.lot, came])
     return [["draw", "school", "child", "class", "metres", "lot", "came"], *rows]
 
 
-def decided(register: Register, code: str, there: list[Entry]) -> list[Entry]:
+def limit_of(offered: list[Entry]) -> tuple[int, int] | None:
+    """The class and the distance of the last one that a school was offered, where it has any."""
+    last = last_of(offered)
+    return last.rank if last else None
+
+
+def near(
+    register: Register, draw: Draw, drawn: Lots, offered: Mapping[str, list[Entry]]
+) -> Iterator[tuple[Pair, int]]:
+    """The lots of those that were not offered a school and that have the class and the distance of
+    its last one, or of whom that cannot be told. Few of all lots are so.
+    """
+    outcomes, applications = register.outcomes[draw.number], register.applications
+    limits = {code: limit_of(them) for code, them in offered.items()}
+    for (code, child), lot in drawn.items():
+        if code not in limits or outcomes.get(child) == code:
+            continue
+        limit = limits[code]
+        is_known = limit is not None and child in applications
+        if not is_known or applications[child].rank(code) == limit:
+            yield (code, child), lot
+
+
+def decided(
+    register: Register, code: str, offered: list[Entry], others: list[Entry]
+) -> list[Entry]:
     """Those with the class and the distance of the last one that a school was offered, if some of
     them were refused. One that had a place that it prefers was not refused. Whether one whose
     application has ended is of them cannot be told; where it was offered the place, nor can it be
     told of anybody else.
     """
-    offered = [it for it in there if it.allotted == code]
-    last = last_of(offered) if offered else None
-    limit = last.rank if last else None
-    refused = [it for it in there if it.allotted != code and (
-        it.rank is None or limit in (None, it.rank) and not has_better(register, it, code))]
-    if not offered or not refused:
+    refused = [it for it in others if it.rank is None or not has_better(register, it, code)]
+    if not refused:
         return []
+    limit = limit_of(offered)
     return [it for it in (*offered, *refused) if it.rank is None or it.rank == limit]
 
 

@@ -19,6 +19,7 @@ from typing import Any
 import pytest
 from applications import ORIGIN, Browser, Site
 from conftest import PROGRAM, ROOT, apply, child, do, make, school
+from register_files import Refused
 
 from office.model import Pair
 from office.web import app, people
@@ -27,7 +28,9 @@ from office.web.draws_drafts import Typed
 from office.web.parts import Config
 
 sys.path.append(str(ROOT / "deploy"))
-from machine import office_copy, office_requests, office_restore, registers  # noqa: E402
+from machine import (  # noqa: E402
+    office_copy, office_delete, office_deletion_day, office_requests, office_restore, registers,
+)
 
 NAME = "secondary-2025"
 HAL, JANE = people.Person("hal", "head"), people.Person("jane", "officer")
@@ -35,6 +38,9 @@ SUP = people.Person("sup", "supervisor")
 OFFER_DAY = "2025-03-03"
 RAISED = {"cmd": "raise_pan", "school": "OAK", "pan": 2}
 Command = dict[str, Any]
+# what the application asks of the machine, and who answers
+REQUESTS = (("copy", office_copy), ("restore", office_restore),
+            ("deletion-day", office_deletion_day), ("delete", office_delete))
 
 
 class Machine:
@@ -91,7 +97,7 @@ class Machine:
         """Answers requests, as the units of the machine do."""
         given = argparse.Namespace(name=NAME)
         while not self.is_ended.wait(0.01):
-            for name, command in (("copy", office_copy), ("restore", office_restore)):
+            for name, command in REQUESTS:
                 if os.path.lexists(self.state / "requests" / name):
                     command.main(given)
                     self.answered += 1
@@ -202,7 +208,7 @@ class Person:
 
     def press(self, number: int, seen: str, name: str, **given: str) -> Any:
         """Presses a button of a page that was shown at a version."""
-        second = "second/" if name in ("confirm", "confirm-give-up", "restore") else ""
+        second = "" if name in ("close", "send") else "second/"
         return self.browser.post(f"/draws/{number}/{second}{name}", {"seen": seen, **given})
 
 
@@ -305,6 +311,37 @@ def after_round(machine: Machine, office: Site) -> None:
     brought(office, number, "opened")
     machine.do([{"cmd": "raise_pan", "school": "OAK", "pan": 4}])
     assert office.parts.desk.now().schools["OAK"].vacancies == 3
+
+
+class Crash(BaseException):
+    """The application ends here."""
+
+
+def crashing(target: Any, name: str, is_after: bool, patch: pytest.MonkeyPatch,
+             times: int = 1) -> None:
+    """Has a method end the application at one of its calls: before it does anything, or after."""
+    real, left = getattr(target, name), [times]
+
+    def called(*given: Any, **more: Any) -> Any:
+        left[0] -= 1
+        if left[0]:
+            return real(*given, **more)
+        if is_after:
+            real(*given, **more)
+        raise Crash
+
+    patch.setattr(target, name, called)
+
+
+def no_answer(*_: object) -> dict[str, Any]:
+    """What the machine says where it does not answer."""
+    raise Refused("no answer")
+
+
+def waiting(office: Site, number: int) -> None:
+    """Has a draw wait for a button, as where its next step could not be done."""
+    draws: Draws = office.parts.draws
+    draws.halted(HAL, draws.get(number), "no answer")
 
 
 def at_lots(office: Site, name: str = "sup") -> Browser:

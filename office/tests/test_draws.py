@@ -19,9 +19,9 @@ import pytest
 from applications import ORIGIN, Site
 from conftest import PROGRAM, apply, child, make, school
 from draw_site import (
-    HAL, JANE, NAME, OFFER_DAY, RAISED, SUP, Command, Fields, Machine, Person, after_round, begun,
-    brought, first_day, given_up, lot_of, machine_over, sealed, small_register, steps, typed,
-    version,
+    HAL, JANE, NAME, OFFER_DAY, RAISED, SUP, Command, Crash, Fields, Machine, Person, after_round,
+    begun, brought, crashing, first_day, given_up, lot_of, machine_over, no_answer, sealed,
+    small_register, steps, typed, version, waiting,
 )
 from register_files import Refused
 from served import do_over
@@ -207,8 +207,7 @@ def test_a_round_by_five_hands(machine: Machine, town: Town) -> None:
         assert sup.get("/lots/1/sealed.txt").text == text
         assert hal.browser.get("/draws/1/sealed.txt").text == text
         link = '<a href="/draws/1">Draw 1: a round</a> is in progress. Next: '
-        assert f"{link}rehearse." in jane.browser.get("/").text
-        assert hal.step(1, "rehearse").status_code == 303
+        # (the rehearsal follows)
         assert f"{link}confirm draw 1." in jane.browser.get("/").text
         wanted = town.allotted(lots)
         shown = hal.browser.get("/draws/1").text
@@ -219,10 +218,9 @@ def test_a_round_by_five_hands(machine: Machine, town: Town) -> None:
         assert hal.step(1, "confirm").status_code == 409
         assert jane.step(1, "confirm").status_code == 303
         assert office.parts.desk.now().draws == []
-        # (the audit follows)
+        # (the audit follows, and the opening)
         assert hal.step(1, "send").status_code == 303
-        assert f"{link}open for all." in jane.browser.get("/").text
-        assert hal.step(1, "open").status_code == 303
+        assert "the register is open for all again." in hal.browser.get("/draws/1").text
         assert "is in progress" not in jane.browser.get("/").text
         register = office.parts.desk.now()
         assert register.outcomes[1] == wanted
@@ -232,7 +230,7 @@ def test_a_round_by_five_hands(machine: Machine, town: Town) -> None:
         draw = office.parts.draws.get(1)
         assert [(it.state, it.who) for it in draw.done] == [
             ("begun", "hal"), ("closed", "hal"), ("copied", "hal"), ("lots", "hal"),
-            ("sealed", "sup"), ("rehearsed", "hal"), ("confirmed", "jane"), ("sending", "hal"),
+            ("sealed", "sup"), ("rehearsed", "sup"), ("confirmed", "jane"), ("sending", "hal"),
             ("audited", "hal"), ("opened", "hal")]
         whats = [it.what for it in office.parts.history.entries if it.about.get("id") == 1]
         assert whats == [
@@ -295,31 +293,33 @@ def test_a_second_round(machine: Machine, town: Town) -> None:
 def test_what_follows_a_step_and_cannot_be_done_has_a_button(
     small: Machine, monkeypatch: pytest.MonkeyPatch
 ) -> None:
-    """The step itself is done. Once the machine answers, the others follow one by one."""
+    """The step itself is done, and all who look see why the others are not. Once the machine
+    answers, one button goes on with all of them.
+    """
     with small.office() as office:
         number = begun(office)
-        hal = Person(office, "hal", "head")
-        for name, state, button, following in (
-            ("close", "closed", "Make the copy", ("copy", "give")),
-            ("send", "sending", "Audit draw 1", ("audit",)),
-        ):
+        hal, rita = Person(office, "hal", "head"), office.browser("rita", "reader")
+        for name, state, button in (("close", "closed", "Make the copy"),
+                                    ("send", "sending", "Audit draw 1")):
             with monkeypatch.context() as patch:
                 patch.setattr(office.parts.copies, "asked", no_answer)
                 found = hal.step(number, name)
             assert found.status_code == 409 and "There is no copy: no answer" in found.text
             assert office.parts.draws.get(number).state == state
             assert f">{button}</button>" in found.text
-            for it in following:
-                assert hal.step(number, it).status_code == 303, it
+            said = "not done: There is no copy: no answer."
+            for page in (hal.browser.get("/"), rita.get("/"), hal.browser.get(f"/draws/{number}")):
+                assert page.status_code == 200
+            assert said in page.text and said in rita.get(f"/draws/{number}").text
+            assert office.parts.draws.get(number).state == state
+            last = office.parts.history.entries[-1]
+            assert (last.who, last.what) == ("hal", "could not go on")
+            assert hal.step(number, "go-on").status_code == 303
+            assert said not in hal.browser.get(f"/draws/{number}").text
             if name == "close":
                 assert office.parts.draws.get(number).state == "lots"
                 brought(office, number, "confirmed")
-        assert office.parts.draws.get(number).state == "audited"
-
-
-def no_answer(*_: object) -> dict[str, Any]:
-    """What the machine says where it does not answer."""
-    raise Refused("no answer")
+        assert office.parts.draws.get(number).state == "opened"
 
 
 def test_a_draw_is_not_said_to_be_missing_while_the_register_is_away(small: Machine) -> None:
@@ -327,6 +327,7 @@ def test_a_draw_is_not_said_to_be_missing_while_the_register_is_away(small: Mach
     with small.office() as office:
         number = begun(office)
         brought(office, number, "sending")
+        waiting(office, number)
         hal = office.browser("hal", "head")
         page = hal.get(f"/draws/{number}").text
         assert "the register has 1 of 1 draw" in page
@@ -389,6 +390,7 @@ def test_nobody_else_records_while_it_is_closed(small: Machine) -> None:
         for state in ("closed", "copied", "lots", "sealed", "rehearsed", "confirmed", "sending",
                       "audited"):
             brought(office, number, state)
+            waiting(office, number)
             found = jane.command(command)
             assert found.status_code == 503
             assert re.fullmatch(r"Closed for draw 1 by hal since \d\d:\d\d\.", found.json["reason"])
@@ -421,12 +423,10 @@ def test_a_round_cannot_be_sent_as_a_command(small: Machine) -> None:
 RIGHTS = [
     ("GET /draws/", "head officer reader"), ("GET /draws/1", "head officer reader"),
     ("GET /draws/1/sealed.txt", "head officer reader"), ("POST /draws/", "head"),
-    *((f"POST /draws/1/{it}", "head") for it in (
-        "close", "copy", "give", "rehearse", "send", "audit", "open", "give-up", "ask-give-up",
-        "go-on", "ask-restore", "keep")),
-    ("POST /draws/1/second/confirm-give-up", "head officer"),
-    ("POST /draws/1/second/confirm", "head officer"),
-    ("POST /draws/1/second/restore", "head officer"),
+    *((f"POST /draws/1/{it}", "head") for it in ("close", "send")),
+    *((f"POST /draws/1/second/{it}", "head officer") for it in (
+        "confirm", "go-on", "give-up", "ask-give-up", "keep-on", "confirm-give-up",
+        "give-up-alone", "ask-restore", "keep", "restore", "restore-alone")),
     *((f"GET /lots/{it}", "supervisor") for it in (
         "", "1", "1/seal", "1/sealed.txt", "1/sheet.csv", "1/sheet.xlsx")),
     *((f"POST /lots/{it}", "supervisor") for it in ("1", "1/seed", "1/sheet", "1/seal")),
@@ -501,12 +501,16 @@ def behind(office: Site, machine: Machine, number: int, state: str, command: Com
 LEFT = {"cmd": "name_plan", "child": 5, "school": "ELM"}
 
 
-def unnamed(found: Any, said: str) -> None:
-    """A page says why something was not done, and names no path and no address for it."""
+def unnamed(office: Site, found: Any, said: str) -> None:
+    """A page says why something was not done, now and later, and names no path and no address for
+    it.
+    """
     reason = re.search(r'id="answer"[^>]*>([^<]*)<', found.text)
     assert found.status_code == 409 and reason and said in reason[1], found.text
+    draw = office.parts.draws.present()
+    assert draw and said[1:] in draw.trouble
     for it in ("://", "127.0.0.1", "/tmp", ".db", "/office"):
-        assert it not in reason[1], reason[1]
+        assert it not in reason[1] + draw.trouble, reason[1] + draw.trouble
 
 
 BROKEN = """#!{python}
@@ -528,7 +532,8 @@ def test_what_is_wrong_is_said_without_a_path(
         with monkeypatch.context() as patch:
             patch.setattr(office.parts.desk.sender, "ask", lambda method, path, *more: (
                 (500, b"") if path == "/pairs" else ask(method, path, *more)))
-            unnamed(hal.step(number, "give"), "The register cannot be read: the server answered")
+            unnamed(office, hal.step(number, "go-on"),
+                    "The register cannot be read: the server answered")
         stand_in = small.folder / "broken"
         for what, said in (
             ("do", "The draw cannot be rehearsed: no good: the copy"),
@@ -539,13 +544,13 @@ def test_what_is_wrong_is_said_without_a_path(
             stand_in.chmod(0o755)
             with monkeypatch.context() as patch:
                 patch.setenv("ADMISSIONS", str(stand_in))
-                unnamed(hal.step(number, "give"), said)
+                unnamed(office, hal.step(number, "go-on"), said)
         brought(office, number, "sealed")
         copy = office.parts.copies.path(1)
         copy.write_bytes(b"SQLite format 3\0" + b"damaged" * 999)
-        unnamed(hal.step(number, "rehearse"), "The copy is no register, or it is damaged:")
+        unnamed(office, hal.step(number, "go-on"), "The copy is no register, or it is damaged:")
         copy.unlink()
-        unnamed(hal.step(number, "rehearse"), "There is no copy 1")
+        unnamed(office, hal.step(number, "go-on"), "There is no copy 1")
 
 
 def test_a_register_that_changed_behind_is_refused(small: Machine) -> None:
@@ -614,26 +619,6 @@ def test_a_draw_with_other_lots_is_not_taken_for_this_one(
                 step(HAL, number, version(office, number))
 
 
-class Crash(BaseException):
-    """The application ends here."""
-
-
-def crashing(target: Any, name: str, is_after: bool, patch: pytest.MonkeyPatch,
-             times: int = 1) -> None:
-    """Has a method end the application at one of its calls: before it does anything, or after."""
-    real, left = getattr(target, name), [times]
-
-    def called(*given: Any, **more: Any) -> Any:
-        left[0] -= 1
-        if left[0]:
-            return real(*given, **more)
-        if is_after:
-            real(*given, **more)
-        raise Crash
-
-    patch.setattr(target, name, called)
-
-
 STATES = ("closed", "copied", "lots", "sealed", "rehearsed", "confirmed", "sending", "audited",
           "opened")
 
@@ -692,12 +677,15 @@ def test_a_crash_between_fills(
         held = {"before the second": 1}.get(when, 2)
         assert draw.state == "sending" and len(office.parts.desk.now().draws) == 1 + held
         assert "Closed for draws 2 to 4" in office.parts.desk.closed()
-        page = Person(office, "hal", "head").browser.get(f"/draws/{number}").text
-        assert f"the register has {held} of 3 draws" in page and "Go on, and hold the" in page
+        page = office.browser("rita", "reader").get(f"/draws/{number}").text
+        assert f"the register has {held} of 3 draws" in page and "go on, and hold the" in page
         with pytest.raises(Refused, match="not all is held yet"):
             office.parts.draws.audit(HAL, number, version(office, number))
-        office.parts.draws.send(HAL, number, version(office, number))
-        brought(office, number, "opened")
+        assert office.parts.draws.get(number).state == "sending"
+        # (who may confirm a draw has it go on by looking)
+        page = Person(office, "jane", "officer").browser.get(f"/draws/{number}").text
+        assert "the register is open for all again." in page
+        assert office.parts.draws.get(number).state == "opened"
         assert [it.number for it in office.parts.desk.now().draws] == [1, 2, 3, 4]
         sends = [it for it in office.parts.history.entries if it.what == "sends"]
         assert [it.about["command"]["draw"] for it in sends] == [1, 2, 3, 4]
@@ -738,7 +726,7 @@ def test_a_difference_of_the_audit_stops_it(
         hal = Person(office, "hal", "head")
         page = hal.browser.get(f"/draws/{number}").text
         assert "the draw cannot go on" in page and "not best: child 1" in page
-        found = hal.step(number, "rehearse")
+        found = hal.step(number, "go-on")
         assert found.status_code == 409 and "The rehearsal has found a difference." in found.text
         for name in ("confirm", "send"):
             assert hal.step(number, name).status_code == 409
@@ -801,16 +789,16 @@ def test_an_audit_that_differs_after_the_draw_leads_to_a_restore(
         with monkeypatch.context() as patch:
             patch.setattr("office.web.rehearsal.audit.audit",
                           lambda *_: (["not best: child 1"], False))
-            assert hal.step(number, "audit").status_code == 303
+            assert hal.step(number, "go-on").status_code == 303
         draw = office.parts.draws.get(number)
         assert (draw.state, draw.audit["wrong"]) == ("sending", ["not best: child 1"])
         assert "Inform no family" in jane.browser.get(f"/draws/{number}").text
-        assert hal.step(number, "open").status_code == 409
+        assert office.parts.desk.closed()
         seen = str(version(office, number))
         assert jane.press(number, seen, "restore").status_code == 409
         assert hal.step(number, "ask-restore").status_code == 303
         assert hal.step(number, "restore").status_code == 409
-        assert hal.step(number, "audit").status_code == 409
+        assert hal.step(number, "go-on").status_code == 409
         assert jane.step(number, "restore").status_code == 303
         assert copies.is_same(office.parts.desk.now(), before)
         draw = office.parts.draws.get(number)
@@ -909,7 +897,7 @@ def test_two_give_up_a_draw_whose_lots_are_sealed(small: Machine) -> None:
         found = jane.step(number, "confirm")
         assert found.status_code == 409 and "Hal has asked to give up the draw" in found.text
         # (it is taken back, and asked for once more)
-        assert hal.step(number, "go-on").status_code == 303
+        assert hal.step(number, "keep-on").status_code == 303
         assert ">Confirm draw 1<" in jane.browser.get(f"/draws/{number}").text
         assert hal.step(number, "ask-give-up").status_code == 303
         assert office.parts.desk.closed()

@@ -13,12 +13,12 @@ from register_files import Refused
 from office import lot_sheets, next_draw, texts
 from office.model import Pair, Register
 
-from . import draws_checks, effects
+from . import draws_again, draws_checks, effects
 from .copies import Copies, is_same
 from .desk import Desk
 from .draws_checks import Check
 from .draws_lots import sheet_of, ties_in
-from .draws_second import made_since
+from .draws_second import alone_since, made_since
 from .draws_store import DrawStore
 from .draws_terms import (
     AUDITED, BEGUN, CLOSED, CONFIRMED, COPIED, GIVEN_UP, IN_ORDER, LOTS, MOST_FILLS, OPENED,
@@ -31,6 +31,10 @@ from .store import Store
 
 GIVE_UP = "The draw must be given up, and begun again."
 RESTORE = "The draw cannot go on: the copy from before it must be restored."
+
+
+class Differs(Refused):
+    """The lots, the outcome or the register are not those of the rehearsal."""
 
 
 class Draws(DrawStore):
@@ -55,12 +59,16 @@ class Draws(DrawStore):
 
     # the steps before the lots
 
-    def begin(self, who: Person, school: str | None, fills: int, day: datetime.date) -> int:
-        """Begins a draw: a round, or so many fills at a school."""
+    def begin(
+        self, who: Person, school: str | None, fills: int, day: datetime.date, other_lots: str = "",
+    ) -> int:
+        """Begins a draw: a round, or so many fills at a school. One that repeats a draw which was
+        undone has its lots, unless it is said why others are drawn.
+        """
         register = self.desk.now()
         terms = Terms(len(register.draws) + 1, school, fills, day)
         see_terms(register, terms)
-        return self.added(who, terms, BEGUN)
+        return self.added(who, terms, BEGUN, draws_again.repeated(self.listed(), terms), other_lots)
 
     def checks(self, draw: Draw) -> list[Check]:
         """What is to be read before it closes the register."""
@@ -89,7 +97,7 @@ class Draws(DrawStore):
         """Makes the copy from before the draw."""
         with self.turn(number, seen, CLOSED) as draw:
             self.record(who, "copied the register", draw)
-            copy = self.copies.make(f"before {draw.terms.numbers}")
+            copy = self.copies.make(f"before {draw.terms.numbers}", who.name)
             with self.moving(draw, who, COPIED, f"Copy {copy}.", copy_before=copy):
                 pass
 
@@ -103,13 +111,14 @@ class Draws(DrawStore):
             fills = draw.terms.fills
             see_accepted(self.copies.path(draw.before or 0), draw.terms,
                          {it: [at] * fills for at, it in enumerate(pairs, 1)})
-            ties = ties_in(register, pairs)
+            ties, kept = ties_in(register, pairs), draws_again.kept(self, draw)
             self.record(who, "gave the pairs to the supervisor", draw, pairs=len(pairs))
             said = f"{texts.count(len(pairs), 'pair')}."
             with self.moving(draw, who, LOTS, said) as db:
                 db.executemany(
-                    "INSERT INTO lot VALUES (?, ?, ?, ?, '', NULL, ?)",
-                    [(draw.number, *it, at, ties[it]) for it in pairs for at in range(fills)])
+                    "INSERT INTO lot VALUES (?, ?, ?, ?, ?, ?, ?)",
+                    [(draw.number, *it, at, *kept.get((it, at), ("", None)), ties[it])
+                     for it in pairs for at in range(fills)])
 
     def pairs(self, draw: Draw) -> list[Pair]:
         """The pairs of the next draw, as the register says them now."""
@@ -148,20 +157,18 @@ class Draws(DrawStore):
         """
         sheet = sheet_of(self.store, draw.number, draw.terms)
         if sheet.digest() != draw.digest:
-            raise Refused("the lots are not those that were sealed")
+            raise Differs("the lots are not those that were sealed")
         path = self.copies.path(draw.before or 0)
         with Rehearsal(path, draw.terms, sheet.lots()) as found:
             found.hold(is_audited)
             if draw.rehearsal and not found.has_outcome(draw.rehearsal):
-                raise Refused("the outcome is not that of the rehearsal")
+                raise Differs("the outcome is not that of the rehearsal")
             yield found
 
     def rehearse(self, who: Person, number: int, seen: int) -> None:
         """Holds the draw on scratch copies. A difference that the audit finds stops it."""
         with self.turn(number, seen, SEALED) as draw:
             see_goes_on(draw)
-            if draw.rehearsal.get("wrong"):
-                raise Refused(f"the rehearsal has found a difference. {GIVE_UP}")
             self.see_fits(draw)
             with self.rehearsed(draw, True) as found:
                 kept = found.kept()
@@ -196,7 +203,7 @@ class Draws(DrawStore):
             all(effects.is_done(register, it) for it in found.commands[:count]))
         if not is_rehearsed:
             said = GIVE_UP if draw.state in UNSENT else RESTORE
-            raise Refused(f"the register is not as it was rehearsed. {said}")
+            raise Differs(f"the register is not as it was rehearsed. {said}")
         return count
 
     def send(self, who: Person, number: int, seen: int) -> None:
@@ -228,7 +235,7 @@ class Draws(DrawStore):
                 if self.held(draw, found) < draw.terms.fills:
                     raise Refused("not all is held yet")
                 self.record(who, "copied the register", draw)
-                copy = self.copies.make(f"after {draw.terms.numbers}")
+                copy = self.copies.make(f"after {draw.terms.numbers}", who.name)
                 result = found.compared(self.copies.path(copy))
             self.record(who, "audited", draw, copy=copy, wrong=result.wrong)
             value = json.dumps({"audits": result.lines, "wrong": result.wrong})
@@ -253,6 +260,13 @@ class Draws(DrawStore):
         """Refuses as one of two persons somebody whom the other one could have made up."""
         if said := made_since(self.history, who.name):
             raise Refused(said)
+
+    def see_alone(self, who: Person) -> str:
+        """Why nobody else can be the second of two persons; a refusal where somebody can."""
+        said = alone_since(self.store, self.history, who.name)
+        if not said:
+            raise Refused("somebody else can confirm it: ask for it, and another person confirms")
+        return said
 
     def give_up(self, who: Person, number: int, seen: int) -> None:
         """Ends a draw whose lots are not sealed yet."""
@@ -292,6 +306,17 @@ class Draws(DrawStore):
             with self.moving(draw, who, GIVEN_UP, said):
                 pass
 
+    def give_up_alone(self, who: Person, number: int, seen: int) -> None:
+        """Ends the same alone, where nobody else can confirm it: else no draw could ever follow.
+        It is shown with each draw that does.
+        """
+        with self.turn(number, seen, *UNSENT_SEALED) as draw:
+            why = self.see_alone(who)
+            self.record(who, "gave up alone", draw, lots=draw.digest, why=why)
+            said = f"Alone, in the state '{draw.state}': {why}. Digest of the lots {draw.digest}."
+            with self.moving(draw, who, GIVEN_UP, said, give_up_by=who.name):
+                pass
+
     def ask_restore(self, who: Person, number: int, seen: int) -> None:
         """Says that the copy from before the draw is to be restored, which another confirms."""
         with self.turn(number, seen, *SENT) as draw:
@@ -321,9 +346,30 @@ class Draws(DrawStore):
             if who.name == draw.restore_by:
                 raise Refused(f"{who.name} has asked for the restore: somebody else confirms it")
             self.record(who, "restored the copy from before it", draw, copy=draw.before)
-            self.copies.restore(draw.before or 0)
+            self.copies.restore(draw.before or 0, who.name)
             with self.moving(draw, who, RESTORED, f"Copy {draw.before}."):
                 pass
+
+    def restore_alone(self, who: Person, number: int, seen: int) -> None:
+        """Restores it alone, where nobody else can confirm it and the draw cannot go on."""
+        with self.turn(number, seen, *SENT) as draw:
+            why = self.see_alone(who)
+            if not draw.wrong and self.is_as_rehearsed(draw):
+                raise Refused("the register is as it was rehearsed: the draw goes on")
+            self.record(who, "restored the copy from before it alone", draw, copy=draw.before,
+                        why=why)
+            self.copies.restore(draw.before or 0, who.name)
+            with self.moving(draw, who, RESTORED, f"Alone: {why}. Copy {draw.before}."):
+                pass
+
+    def is_as_rehearsed(self, draw: Draw) -> bool:
+        """Whether the draw can go on: lots, outcome and register are those of the rehearsal."""
+        try:
+            with self.rehearsed(draw) as found:
+                self.held(draw, found)
+        except Differs:
+            return False
+        return True
 
 
 def held_in(register: Register, draw: Draw) -> int:
@@ -339,11 +385,13 @@ def see_goes_on(draw: Draw) -> None:
     if draw.restore_by:
         raise Refused(f"{draw.restore_by} has asked to restore the copy from before the draw: that"
                       " is to be confirmed or taken back first")
+    if draw.state == SEALED and draw.wrong:
+        raise Refused(f"the rehearsal has found a difference. {GIVE_UP}")
 
 
 def next_state(draw: Draw) -> str:
     """The state to which the next step leads, or "" where there is none."""
-    if draw.is_ended or draw.state == SEALED and draw.rehearsal.get("wrong"):
+    if draw.is_ended or draw.state == SEALED and draw.wrong:
         return ""
     return IN_ORDER[IN_ORDER.index(draw.state) + 1]
 

@@ -9,6 +9,7 @@ from register_files import Refused
 from office import texts
 from office.model import Pair
 
+from . import draws_again
 from .draws import Draws
 from .draws_lots import (
     MISSING, MOST_SEED, Cell, Sheet, by_seed, sheet_of, typed_lot,
@@ -72,6 +73,10 @@ class Drafts:
         """Stores lots."""
         if not cells:
             return
+        if stays := set(cells) & set(draws_again.kept(self.draws, draw)):
+            (code, child), _ = min(stays)
+            raise Refused(f"the lot of child {child} at {code} was sealed in the draw that this one"
+                          " repeats, and stays as it is")
         self.draws.record(who, "saved lots", draw, **about)
         with self.store.writing() as db:
             if not db.execute("SELECT 1 FROM draw WHERE id=? AND state=?",
@@ -117,6 +122,7 @@ class Drafts:
         with self.draws.turn(number, seen, LOTS) as draw:
             if who.name == draw.who(BEGUN):
                 raise Refused(f"{who.name} began this draw: somebody else seals the lots")
+            self.draws.see_steady(who)
             sheet = sheet_of(self.store, number, draw.terms)
             if wrong := sheet.wrong():
                 missing = sum(it == MISSING for it in wrong.values())

@@ -2,7 +2,7 @@
 without one, by school and by child.
 """
 import dataclasses
-from collections.abc import Sequence
+from collections.abc import Collection, Sequence
 
 from office.model import Register
 
@@ -13,13 +13,16 @@ OFFER, MOVE, KEPT, NONE = "a new place", "moves", "keeps its place", "no place"
 
 @dataclasses.dataclass(frozen=True)
 class OfChild:
-    """What a draw did for a child: the schools that it had and has, or "", and that in words."""
+    """What a draw did for a child: the schools that it had and has, or "", and that in words; and
+    whether the family had accepted the place that ends.
+    """
 
     draw: int
     child: int
     had: str
     has: str
     what: str
+    had_accepted: bool = False
 
 
 @dataclasses.dataclass(frozen=True)
@@ -35,17 +38,20 @@ class OfSchool:
     gone: int
 
 
-def of_child(found: Outcome) -> OfChild:
-    """An outcome in words."""
+def of_child(found: Outcome, accepted_ended: Collection[list[int]] = ()) -> OfChild:
+    """An outcome in words. Of those that give up a place which was accepted, the draw and the child
+    are given.
+    """
     draw, child, had, has, is_fresh = found
     what = NONE if has is None else KEPT if not is_fresh else MOVE if had else OFFER
-    return OfChild(draw, child, had or "", has or "", what)
+    return OfChild(draw, child, had or "", has or "", what, [draw, child] in accepted_ended)
 
 
-def by_child(found: Sequence[Outcome]) -> list[OfChild]:
+def by_child(found: Sequence[Outcome], accepted_ended: Collection[list[int]] = ()) -> list[OfChild]:
     """The outcomes of all children, those first whose place is new."""
     order = (OFFER, MOVE, NONE, KEPT)
-    return sorted(map(of_child, found), key=lambda it: (it.draw, order.index(it.what), it.child))
+    return sorted((of_child(it, accepted_ended) for it in found),
+                  key=lambda it: (it.draw, order.index(it.what), it.child))
 
 
 def by_school(register: Register, found: Sequence[Outcome]) -> list[OfSchool]:

@@ -2,35 +2,34 @@
 state to the next.
 """
 import contextlib
-import datetime
 import sqlite3
-import threading
-from collections.abc import Iterator
+from collections.abc import Callable, Iterator
 
 from register_files import Refused
 
-from .draws_terms import CLOSED, CLOSING, ENDED, Draw, Terms, of_rows
+from office import model
+
+from .draws_terms import (
+    AUDITED, CLOSED, CLOSING, ENDED, GIVEN_UP, OPENED, Draw, Terms, of_rows,
+)
 from .history import History, now
 from .people import Person
+from .step_store import StepStore, moment
 from .store import Store
 
 # the first entry of a draw in the history
 BEGAN = "began a draw"
 
 
-def moment(at: str) -> str:
-    """The time of a moment (UTC) by the clock of this machine; with the day if it is not today."""
-    found = datetime.datetime.fromisoformat(at).astimezone()
-    is_today = found.date() == datetime.date.today()
-    return f"{found:%H:%M}" if is_today else f"{found.day} {found:%B}, {found:%H:%M}"
-
-
-class DrawStore:
+class DrawStore(StepStore[Draw]):
     """The draws of one application. One is in progress at most."""
 
+    table = "draw"
+
     def __init__(self, store: Store, record: History) -> None:
-        self.store, self.history = store, record
-        self.lock = threading.RLock()
+        super().__init__(store, record)
+        # why no draw can begin, or ""
+        self.closed_by_another: Callable[[], str] = str
 
     def get(self, number: int) -> Draw:
         """A draw."""
@@ -38,10 +37,6 @@ class DrawStore:
         if row is None:
             raise Refused("there is no such draw")
         return of_rows(row, self.steps_of(number))
-
-    def steps_of(self, number: int) -> list[sqlite3.Row]:
-        """The steps of a draw that were done."""
-        return self.store.rows("SELECT * FROM draw_step WHERE draw=? ORDER BY version", number)
 
     def listed(self) -> list[Draw]:
         """All draws, the last first."""
@@ -53,6 +48,23 @@ class DrawStore:
         row = self.store.row("SELECT * FROM draw WHERE state NOT IN (?, ?, ?)", *ENDED)
         return of_rows(row, self.steps_of(row["id"])) if row else None
 
+    def given_up_before(self, draw: Draw) -> list[Draw]:
+        """The draws of the same number that were given up before it, after their lots were sealed:
+        their outcome could be known.
+        """
+        return [it for it in self.listed() if it.number < draw.number and it.digest
+                and it.state == GIVEN_UP and it.terms.first == draw.terms.first]
+
+    def copy_before(self, draw: model.Draw) -> int | None:
+        """The number of the copy from before a draw of the register, if it was held here, and was
+        audited.
+        """
+        row = self.store.row(
+            "SELECT copy_before FROM draw WHERE first<=? AND ?<first+fills AND school IS ?"
+            " AND day=? AND state IN (?, ?) ORDER BY id DESC", draw.number, draw.number,
+            draw.school, draw.day.isoformat(), AUDITED, OPENED)
+        return row["copy_before"] if row else None
+
     def closed(self) -> str:
         """Why nobody else may send now, or ""."""
         draw = self.present()
@@ -62,55 +74,50 @@ class DrawStore:
         return f"Closed for {draw.terms.numbers} by {done.who} since {moment(done.at)}."
 
     @contextlib.contextmanager
-    def turn(self, number: int, seen: int, *states: str) -> Iterator[Draw]:
-        """A draw in one of these states, if it is as it was when the person decided. Nobody else
-        changes it meanwhile.
-        """
-        with self.lock:
-            draw = self.get(number)
-            if draw.version != seen:
-                last = draw.done[-1]
-                raise Refused(f"the draw has changed since this page was shown: {last.who} brought"
-                              f" it to the state '{last.state}' at {moment(last.at)}. Nothing was"
-                              " done")
-            if draw.state not in states:
-                raise Refused(f"the draw is in the state '{draw.state}', in which this cannot be"
-                              " done")
-            yield draw
-
-    @contextlib.contextmanager
     def moving(
-        self, draw: Draw, who: Person, state: str, said: str = "", **columns: object
+        self, found: Draw, who: Person, state: str, said: str = "", **columns: object
     ) -> Iterator[sqlite3.Connection]:
-        """Brings a draw to a state, with what else is stored at once."""
-        names = "".join(f", {it}=?" for it in columns)
-        with self.store.writing() as db:
-            query = f"UPDATE draw SET state=?, version=?{names} WHERE id=? AND version=?"
-            version = draw.version + 1
-            if not db.execute(query, (state, version, *columns.values(), draw.number,
-                                      draw.version)).rowcount:
-                raise Refused("the draw has changed meanwhile. Nothing was done")
-            db.execute("INSERT INTO draw_step VALUES (?, ?, ?, ?, ?, ?)",
-                       (draw.number, version, now(), who.name, state, said))
+        """The same. What hindered the step before does not hinder the next one."""
+        with super().moving(found, who, state, said, trouble=None, **columns) as db:
             yield db
+
+    def halted(self, who: Person, draw: Draw, why: str) -> None:
+        """Keeps why what follows by itself was not done, for all who look at the draw."""
+        with contextlib.suppress(Refused):
+            self.record(who, "could not go on", draw, why=why)
+        with self.store.writing() as db:
+            db.execute("UPDATE draw SET trouble=? WHERE id=? AND version=?",
+                       (why, draw.number, draw.version))
 
     def record(self, who: Person, what: str, draw: Draw, **about: object) -> None:
         """Adds a step to the history, with what there is to say of it."""
         found = {name: it for name, it in about.items() if it}
         self.history.add(who.name, what, {"for": draw.terms.in_words, "id": draw.number, **found})
 
-    def added(self, who: Person, terms: Terms, state: str) -> int:
+    def added(
+        self, who: Person, terms: Terms, state: str, repeats: Draw | None, other_lots: str,
+    ) -> int:
         """Adds a draw, where none is in progress, and returns its number."""
+        if other_lots and not repeats:
+            raise Refused("no draw of this kind was undone: its lots are drawn anyway")
         with self.lock:
             if other := self.present():
                 raise Refused(f"{other.terms.numbers} is in progress: it must end first")
+            if said := self.closed_by_another():
+                raise Refused(said.rstrip("."))
             day = terms.day.isoformat()
-            self.history.add(who.name, BEGAN, {"for": terms.in_words, "day": day})
+            about = {"for": terms.in_words, "day": day}
+            if repeats:
+                about["repeats"] = repeats.terms.in_words
+            if other_lots:
+                about["other lots"] = other_lots
+            self.history.add(who.name, BEGAN, about)
             with self.store.writing() as db:
                 number = db.execute(
-                    "INSERT INTO draw (first, school, fills, day, state, version)"
-                    " VALUES (?, ?, ?, ?, ?, 1)",
-                    (terms.first, terms.school, terms.fills, day, state)).lastrowid or 0
+                    "INSERT INTO draw (first, school, fills, day, state, version, repeats,"
+                    " other_lots) VALUES (?, ?, ?, ?, ?, 1, ?, ?)",
+                    (terms.first, terms.school, terms.fills, day, state,
+                     repeats.number if repeats else None, other_lots)).lastrowid or 0
                 db.execute("INSERT INTO draw_step VALUES (?, 1, ?, ?, ?, '')",
                            (number, now(), who.name, state))
             return number

@@ -11,6 +11,8 @@ from typing import Any
 from office import texts
 from office.model import Pair, Register
 
+from .step_store import Done, steps_in
+
 Command = dict[str, Any]
 BEGUN, CLOSED, COPIED, LOTS, SEALED = "begun", "closed", "copied", "lots", "sealed"
 REHEARSED, CONFIRMED, SENDING, AUDITED = "rehearsed", "confirmed", "sending", "audited"
@@ -24,6 +26,8 @@ CLOSING = IN_ORDER[1:-1]
 SENT = (SENDING, AUDITED)
 UNSENT = IN_ORDER[:7]
 UNSEALED, UNSENT_SEALED = UNSENT[:4], UNSENT[4:]
+# from these the next step follows by itself: there is nothing to decide
+FOLLOWED = (CLOSED, COPIED, SEALED, SENDING, AUDITED)
 MOST_FILLS = 50
 
 
@@ -73,16 +77,6 @@ class Terms:
 
 
 @dataclasses.dataclass(frozen=True)
-class Done:
-    """A step that was done: to which state, by whom, at which moment (UTC), and what came of it."""
-
-    state: str
-    who: str
-    at: str
-    said: str
-
-
-@dataclasses.dataclass(frozen=True)
 class Draw:
     """A draw as it is in the store. Its version grows with each step: who decides names the one
     that they saw.
@@ -103,7 +97,12 @@ class Draw:
     # who has asked to restore the copy, or to give up the draw, or ""
     restore_by: str
     give_up_by: str
+    # why what follows by itself was not done, or ""
+    trouble: str
     done: tuple[Done, ...]
+    # the draw of the store that it repeats, which was undone; and why with other lots, or ""
+    repeats: int | None
+    other_lots: str
 
     def came_to(self, state: str) -> Done:
         """Who brought it to a state, and when; nobody where it has not been there."""
@@ -118,6 +117,18 @@ class Draw:
         """Whether nothing more is to be done."""
         return self.state in ENDED
 
+    @property
+    def wrong(self) -> list[str]:
+        """What the rehearsal found before the draw was sent, or the audit after it."""
+        found = self.audit if self.state in SENT else self.rehearsal
+        return list(found.get("wrong", []))
+
+    @property
+    def follows(self) -> bool:
+        """Whether the next step follows by itself, and nothing hinders it as far as is known."""
+        is_held = self.give_up_by or self.restore_by or self.trouble or self.wrong
+        return self.state in FOLLOWED and not is_held
+
 
 def of_rows(row: sqlite3.Row, steps: list[sqlite3.Row]) -> Draw:
     """A draw of the store."""
@@ -127,7 +138,7 @@ def of_rows(row: sqlite3.Row, steps: list[sqlite3.Row]) -> Draw:
         row["id"], terms, row["state"], row["version"], row["copy_before"],
         row["copy_after"], row["digest"] or "", json.loads(row["rehearsal"] or "{}"),
         json.loads(row["audit"] or "{}"), row["restore_by"] or "", row["give_up_by"] or "",
-        tuple(Done(it["state"], it["who"], it["at"], it["said"]) for it in steps))
+        row["trouble"] or "", steps_in(steps), row["repeats"], row["other_lots"])
 
 
 @dataclasses.dataclass(frozen=True)
@@ -144,7 +155,7 @@ STEPS = (
     Step(BEGUN, "What is drawn, and for which day", "Nothing is closed yet."),
     Step(CLOSED, "Closed for all others",
          "Nobody can record anything from then on until the draw is opened or given up. All can"
-         " still read, and what somebody has typed stays. The next two steps follow at once.",
+         " still read, and what somebody has typed stays. The next two steps follow by themselves.",
          "Close for all others"),
     Step(COPIED, "Copy of the register",
          "The register is copied, and the copy is compared with it. For some seconds nobody can"
@@ -154,7 +165,7 @@ STEPS = (
          " supervisor finds them on the screen of lots.", "Give the pairs to the supervisor"),
     Step(SEALED, "Lots of the supervisor",
          "The supervisor draws the lots, and seals them on the screen of lots. After that nobody"
-         " changes them."),
+         " changes them. The rehearsal follows by itself."),
     Step(REHEARSED, "Rehearsal on a scratch copy",
          "The draw is held on a scratch copy, and audited by a second program. Nothing is sent. The"
          " outcome is shown here.", "Rehearse"),
@@ -163,9 +174,10 @@ STEPS = (
          " may be held.", "Confirm"),
     Step(SENDING, "Held",
          "The lots are sent to the register, which allots the places. Only a restore of the copy"
-         " undoes it. The audit follows at once.", "Hold"),
+         " undoes it. The audit follows by itself.", "Hold"),
     Step(AUDITED, "Audit",
          "The register is copied once more. A second program works out the draw from the two"
-         " copies, and the outcome is compared with that of the rehearsal.", "Audit"),
+         " copies, and the outcome is compared with that of the rehearsal. Where"
+         " both agree the register is opened by itself.", "Audit"),
     Step(OPENED, "Open for all", "Everybody can record again.", "Open for all"),
 )

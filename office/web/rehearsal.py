@@ -16,6 +16,8 @@ from register_files import Refused
 from office import audit, audit_rows, commands, model, next_draw
 from office.model import Register
 
+from . import plain
+from .copies import COPY_NAME as COPY
 from .copies import is_same
 from .draws_lots import Lots
 from .draws_terms import Command, Terms
@@ -23,8 +25,6 @@ from .draws_terms import Command, Terms
 # an outcome as numbers: the draw, the child, the school that it had, the one that it has, and
 # whether that is new
 Outcome = list[Any]
-# how errors name a scratch copy, whose path says nothing to an officer
-COPY = "the copy"
 
 
 def outcomes(before: Register, after: Register, number: int) -> list[Outcome]:
@@ -32,6 +32,37 @@ def outcomes(before: Register, after: Register, number: int) -> list[Outcome]:
     had = {child: it.school for child, it in before.places.items()}
     has, fresh = after.outcomes[number], after.fresh[number]
     return [[number, child, had.get(child), has[child], fresh[child]] for child in sorted(has)]
+
+
+def accepted_ended(before: Register, after: Register, number: int) -> list[list[int]]:
+    """The children that a draw moves from a place which their families had accepted, each with the
+    draw.
+    """
+    return [[number, child] for child in sorted(after.outcomes[number])
+            if after.fresh[number][child] and child in before.places
+            and before.places[child].kind == model.ACCEPTED]
+
+
+def scratch_room() -> tempfile.TemporaryDirectory[str]:
+    """A folder for scratch copies."""
+    try:
+        return tempfile.TemporaryDirectory(prefix="admissions-")
+    except OSError as error:
+        raise Refused(f"nothing can be rehearsed: there is no place for a copy"
+                      f" ({plain.reason(error)})") from error
+
+
+def taken(path: pathlib.Path, found: str) -> str:
+    """The path of a scratch copy of a file, which is made there."""
+    try:
+        fd = os.open(path, os.O_RDONLY | os.O_NOFOLLOW | os.O_CLOEXEC)
+        try:
+            files.copy_to(fd, found)
+        finally:
+            os.close(fd)
+    except OSError as error:
+        raise Refused(f"the copy cannot be taken for a rehearsal: {error.strerror}") from error
+    return found
 
 
 def rows_of(path: str) -> audit_rows.Rows:
@@ -70,13 +101,13 @@ class Rehearsal:
     """
 
     def __init__(self, copy: pathlib.Path, terms: Terms, lots: Lots) -> None:
-        self.terms, self.lots, self.program = terms, lots, files.program()
+        self.terms, self.lots, self.program = terms, lots, plain.program()
         self.found = Audited()
         self.commands: list[Command] = []
         self.answers: list[dict[str, Any]] = []
         self.outcomes: list[Outcome] = []
-        # pylint: disable-next=consider-using-with
-        self.room = tempfile.TemporaryDirectory(prefix="admissions-")
+        self.accepted_ended: list[list[int]] = []
+        self.room = scratch_room()
         self.files = [self.taken(copy, "before.db")]
         self.registers = [self.read(self.files[0])]
 
@@ -91,16 +122,7 @@ class Rehearsal:
 
     def taken(self, path: pathlib.Path, name: str) -> str:
         """A scratch copy of a file."""
-        found = os.path.join(self.room.name, name)
-        try:
-            fd = os.open(path, os.O_RDONLY | os.O_NOFOLLOW | os.O_CLOEXEC)
-            try:
-                files.copy_to(fd, found)
-            finally:
-                os.close(fd)
-        except OSError as error:
-            raise Refused(f"the copy cannot be taken for a rehearsal: {error.strerror}") from error
-        return found
+        return taken(path, os.path.join(self.room.name, name))
 
     def read(self, path: str) -> Register:
         """The register of a scratch copy."""
@@ -137,7 +159,9 @@ class Rehearsal:
         self.registers.append(self.read(file))
         self.commands.append(command)
         self.answers.append(answer)
-        self.outcomes += outcomes(self.registers[-2], self.registers[-1], command["draw"])
+        step = self.registers[-2], self.registers[-1], command["draw"]
+        self.outcomes += outcomes(*step)
+        self.accepted_ended += accepted_ended(*step)
 
     def answer(self, file: str, command: Command) -> Any:
         """The answer of the program to a command, on a scratch copy."""
@@ -148,14 +172,14 @@ class Rehearsal:
         except OSError as error:
             raise Refused(f"the program does not start: {error.strerror}") from error
         if not ran.stdout.endswith(b"\n"):
-            said = model.printed(ran).replace(file, COPY)
+            said = plain.said(model.printed(ran).replace(file, COPY))
             raise Refused(f"the draw cannot be rehearsed: {said}")
         return commands.read(ran.stdout.rstrip(b"\n"))
 
     def kept(self) -> dict[str, Any]:
         """What is kept of it: numbers and codes alone."""
         return {"answers": self.answers, "audits": self.found.lines, "outcomes": self.outcomes,
-                "wrong": self.found.wrong}
+                "accepted_ended": self.accepted_ended, "wrong": self.found.wrong}
 
     def has_outcome(self, kept: dict[str, Any]) -> bool:
         """Whether its answers and outcomes are those that were kept of another one."""

@@ -1,6 +1,6 @@
 """The draw: what it is, the steps with what is done, and the next one as a button."""
 import datetime
-from collections.abc import Callable
+from collections.abc import Callable, Mapping, Sequence
 from typing import Any
 
 import flask
@@ -10,13 +10,13 @@ from werkzeug.wrappers import Response
 from office import days
 from office.model import Register
 
-from .. import draws_checks, draws_outcome
+from .. import draws_again, draws_checks, draws_outcome, explanations
 from ..draws import Draws, held_in, next_state
 from ..draws_lots import sheet_of
-from ..draws_second import made_since
+from ..draws_second import alone_since, made_since
 from ..draws_terms import (
-    AUDITED, BEGUN, CLOSED, CONFIRMED, COPIED, GIVEN_UP, LOTS, MOST_FILLS, OPENED, REHEARSED,
-    RESTORED, SEALED, SENDING, SENT, STEPS, UNSEALED, UNSENT_SEALED, Draw,
+    AUDITED, BEGUN, CLOSED, CONFIRMED, FOLLOWED, GIVEN_UP, MOST_FILLS, OPENED, RESTORED, SEALED,
+    SENDING, SENT, STEPS, UNSEALED, UNSENT_SEALED, Draw,
 )
 from ..guard import needs, parts, person
 from ..people import CONFIRM, DRAW, READ
@@ -24,9 +24,9 @@ from ..wording import day_of
 
 screen = flask.Blueprint("draws", __name__, url_prefix="/draws")
 Answer = str | Response | tuple[str, int]
-# the request by which a draw comes to a state
-ACTIONS = {CLOSED: "close", COPIED: "copy", LOTS: "give", REHEARSED: "rehearse",
-           CONFIRMED: "confirm", SENDING: "send", AUDITED: "audit", OPENED: "open"}
+# the request by which a draw comes to a state, where that does not follow by itself; and the one by
+# which what follows is tried again
+ACTIONS, AGAIN = {CLOSED: "close", CONFIRMED: "confirm", SENDING: "send"}, "go-on"
 # what a button says of the draws that it concerns
 NAMING = (CONFIRMED, SENDING, AUDITED)
 
@@ -44,12 +44,23 @@ def list_page(reason: str = "", status: int = 200) -> Answer:
     register, trouble = register_now()
     draws = parts().draws
     day = register.days[1] if register and not register.draws else datetime.date.today()
-    given = flask.request.form
+    listed = draws.listed()
+    given = flask.request.form or repeated(listed)
     return flask.render_template(
-        "draws.html", draws=draws.listed(), present=draws.present(), register=register,
+        "draws.html", draws=listed, present=draws.present(), register=register,
         reason=reason or trouble, kind=given.get("kind", "round"), given=given,
         day=given.get("day", days.in_words(day)), most=MOST_FILLS, schools=schools_of(register),
+        undone=draws_again.undone(listed), most_reason=draws_again.MOST_REASON,
     ), status
+
+
+def repeated(draws: Sequence[Draw]) -> dict[str, str]:
+    """The form for the draw of the address that is held again, but for its day."""
+    text = flask.request.args.get("again", "")
+    found = next((it.terms for it in draws if str(it.number) == text), None)
+    if found is None:
+        return {}
+    return {"kind": found.kind, "school": found.school or "", "fills": str(found.fills), "day": ""}
 
 
 def schools_of(register: Register | None) -> list[Any]:
@@ -79,10 +90,22 @@ def begin() -> Answer:
             raise Refused("choose the school of the fills")
         if school and not (count.isascii() and count.isdigit() and len(count) < 4):
             raise Refused(f"the number of fills is from 1 to {MOST_FILLS}")
-        number = parts().draws.begin(person(), school, int(count) if school else 1, day)
+        number = parts().draws.begin(
+            person(), school, int(count) if school else 1, day, reason_of(form))
     except Refused as error:
         return list_page(f"Nothing was begun: {error}.", 409)
     return flask.redirect(flask.url_for("draws.one", number=number), 303)
+
+
+def reason_of(form: Mapping[str, str]) -> str:
+    """Why other lots are drawn for a draw that is held again, or ""."""
+    if form.get("lots", "kept") == "kept":
+        return ""
+    found = form.get("reason", "").strip()
+    if not found or len(found) > draws_again.MOST_REASON or not found.isprintable():
+        raise Refused("type the reason for other lots in one line: it is on record, and who"
+                      " confirms the draw reads it")
+    return found
 
 
 def found_draw(number: int) -> Draw:
@@ -103,14 +126,35 @@ def draw_page(number: int, reason: str = "", status: int = 200) -> Answer:
     button = button_of(draw, state, standing)
     return flask.render_template(
         "draw.html", draw=draw, reason=reason or trouble, steps=STEPS, step=step,
-        action=ACTIONS.get(state, ""), button=button, standing=standing,
+        action=action_of(draw, state), second=SECOND, button=button, standing=standing,
         why_not=why_not(draw, state, register), register=register,
         checks=checks, outcome=outcome_of(draw, register), agreed=agreed,
         is_agreed=flask.request.form.get("agreed") == agreed, ends=(GIVEN_UP, RESTORED),
         may_give_up=draw.state in UNSEALED, needs_two=draw.state in UNSENT_SEALED,
-        may_restore=draw.state in SENT, not_second=not_second(draw),
-        waits_for_lots=draw.state == LOTS, is_sealed=bool(draw.digest),
+        may_restore=draw.state in SENT, not_second=not_second(draw), alone=alone(draw),
+        is_opened=draw.state == OPENED, halted="" if reason else draw.trouble,
+        before=parts().draws.given_up_before(draw), is_explained=is_explained(draw, register),
+        repeats=found_draw(draw.repeats) if draw.repeats else None,
+        may_undo=draw.state == OPENED and bool(draw.before),
     ), status
+
+
+def action_of(draw: Draw, state: str) -> str:
+    """The request of the next button, or ""."""
+    return AGAIN if state and draw.state in FOLLOWED else ACTIONS.get(state, "")
+
+
+def alone(draw: Draw) -> str:
+    """Why nobody else can be the second of two persons, where two are needed to end it; or ""."""
+    is_for_two = draw.state in (*UNSENT_SEALED, *SENT)
+    return alone_since(parts().store, parts().history, person().name) if is_for_two else ""
+
+
+def is_explained(draw: Draw, register: Register | None) -> bool:
+    """Whether each child of a draw can be explained: those of a round that was held."""
+    held = register.rounds if register else []
+    return draw.state in (AUDITED, OPENED) and draw.terms.school is None and any(
+        it.number == draw.terms.first and explanations.kept_before(parts(), it) for it in held)
 
 
 def standing_of(draw: Draw, register: Register | None) -> int:
@@ -160,7 +204,8 @@ def why_not(draw: Draw, state: str, register: Register | None) -> str:
         return "The supervisor does this, on the screen of lots."
     if state == CONFIRMED and who.name in (draw.who(BEGUN), draw.who(SEALED)):
         return f"Somebody other than {draw.who(BEGUN)} confirms it."
-    if state and not who.may(CONFIRM if state == CONFIRMED else DRAW):
+    action = action_of(draw, state)
+    if action and not who.may(CONFIRM if action in SECOND else DRAW):
         return "Your role does not do this."
     return not_second(draw) if state == CONFIRMED else ""
 
@@ -178,14 +223,18 @@ def outcome_of(draw: Draw, register: Register | None) -> dict[str, Any]:
     if not found or register is None:
         return {}
     names = {it.number: it.name for it in register.children.values()}
-    return {"counts": draws_outcome.counts(found), "children": draws_outcome.by_child(found),
+    # (a rehearsal of an earlier release did not keep these)
+    accepted_ended = draw.rehearsal.get("accepted_ended", [])
+    return {"counts": draws_outcome.counts(found), "accepted_ended": len(accepted_ended),
+            "children": draws_outcome.by_child(found, accepted_ended),
             "schools": draws_outcome.by_school(register, found), "names": names}
 
 
 @screen.get("/<int:number>")
 @needs(READ)
 def one(number: int) -> Answer:
-    """A draw."""
+    """A draw, which goes on where the application had ended in between."""
+    parts().following.look(person(), found_draw(number))
     return draw_page(number)
 
 
@@ -200,43 +249,39 @@ def sealed(number: int) -> flask.Response:
     return flask.Response(text, mimetype="text/plain")
 
 
-# the steps that need no second person, and those that only one may do
+# the steps of who may hold draws; and those of who may confirm one. The second are all that an
+# office needs to end a draw when the person who began it can do nothing more
 Step = Callable[[Draws, int, int], None]
 OWN: dict[str, Step] = {
     "close": lambda it, number, seen: it.close(
         person(), number, seen, True, flask.request.form.get("agreed", "")),
-    "copy": lambda it, number, seen: it.copy(person(), number, seen),
-    "give": lambda it, number, seen: it.give(person(), number, seen),
-    "rehearse": lambda it, number, seen: it.rehearse(person(), number, seen),
     "send": lambda it, number, seen: it.send(person(), number, seen),
-    "audit": lambda it, number, seen: it.audit(person(), number, seen),
-    "open": lambda it, number, seen: it.open(person(), number, seen),
-    "give-up": lambda it, number, seen: it.give_up(person(), number, seen),
-    "ask-give-up": lambda it, number, seen: it.ask_give_up(person(), number, seen),
-    "go-on": lambda it, number, seen: it.go_on(person(), number, seen),
-    "ask-restore": lambda it, number, seen: it.ask_restore(person(), number, seen),
-    "keep": lambda it, number, seen: it.keep(person(), number, seen),
 }
-# what follows a step at once, as there is nothing to decide in between. Where it cannot be done,
-# the draw is in the state before it, and the page has its button
-FOLLOWING = {"close": ("copy", "give"), "send": ("audit",)}
 SECOND: dict[str, Step] = {
     "confirm": lambda it, number, seen: it.confirm(person(), number, seen),
+    AGAIN: lambda _, number, seen: parts().following.again(person(), number, seen),
+    "give-up": lambda it, number, seen: it.give_up(person(), number, seen),
+    "ask-give-up": lambda it, number, seen: it.ask_give_up(person(), number, seen),
+    "keep-on": lambda it, number, seen: it.go_on(person(), number, seen),
     "confirm-give-up": lambda it, number, seen: it.confirm_give_up(person(), number, seen),
+    "give-up-alone": lambda it, number, seen: it.give_up_alone(person(), number, seen),
+    "ask-restore": lambda it, number, seen: it.ask_restore(person(), number, seen),
+    "keep": lambda it, number, seen: it.keep(person(), number, seen),
     "restore": lambda it, number, seen: it.restore(person(), number, seen),
+    "restore-alone": lambda it, number, seen: it.restore_alone(person(), number, seen),
 }
 
 
 def done(number: int, steps: dict[str, Step], name: str) -> Answer:
-    """Does a step with what follows it at once, and shows the draw."""
+    """Does a step with what follows it by itself, and shows the draw."""
     found_draw(number)
     seen = flask.request.form.get("seen", "")
     if name not in steps or not (seen.isascii() and seen.isdigit() and len(seen) < 9):
         flask.abort(404 if name not in steps else 400)
     try:
-        steps[name](parts().draws, number, int(seen))
-        for it in FOLLOWING.get(name, ()):
-            OWN[it](parts().draws, number, found_draw(number).version)
+        with parts().draws.lock:
+            steps[name](parts().draws, number, int(seen))
+            parts().following.after(person(), number)
     except Refused as error:
         said = str(error)
         end = "" if said.endswith(".") else "."
@@ -254,5 +299,5 @@ def step(number: int, name: str) -> Answer:
 @screen.post("/<int:number>/second/<name>")
 @needs(CONFIRM)
 def second(number: int, name: str) -> Answer:
-    """A step of a second person."""
+    """A step of who may confirm a draw."""
     return done(number, SECOND, name)

@@ -1,10 +1,11 @@
 """Lots, for the supervisor alone: a table to type them in, a sheet to upload, a seed for those that
 decide nothing, and the seal.
 """
+import contextlib
 import pathlib
 import re
 import tempfile
-from collections.abc import Sequence
+from collections.abc import Container, Sequence
 from typing import Any
 
 import flask
@@ -13,8 +14,9 @@ from werkzeug.wrappers import Response
 
 from office import lot_sheets, texts
 
-from .. import draws_sheet
+from .. import draws_again, draws_sheet
 from ..draws_drafts import Typed
+from ..draws_second import made_since
 from ..draws_lots import MISSING, MOST_SEED, MOST_TEXT, Cell, Sheet, errors_of_sheet
 from ..draws_terms import BEGUN, LOTS, Draw
 from ..guard import needs, parts, person
@@ -69,8 +71,17 @@ def whole_page(number: int, reason: str = "", status: int = 200, said: str = "")
         "lots_whole.html", draw=draw, sheet=sheet, reason=reason, said=said, wrong=wrong,
         digest="" if wrong else sheet.digest(), head=text.split("\n")[0],
         first=text.split("\n")[1:2], may_seal=draw.state == LOTS and not wrong,
-        is_own=draw.who(BEGUN) == person().name,
+        not_own=not_own(draw),
     ), status
+
+
+def not_own(draw: Draw) -> str:
+    """Why the person is none who seals the lots of a draw, or ""."""
+    if draw.who(BEGUN) == person().name:
+        return "You have begun this draw: somebody else seals the lots."
+    said = made_since(parts().history, person().name) if draw.state == LOTS else ""
+    return (f"{said}. Another supervisor seals the lots, or the office gives the draw up and begins"
+            " again.") if said else ""
 
 
 def sheet_page(
@@ -86,9 +97,11 @@ def sheet_page(
     pages = max(1, -(-len(sheet.rows) // per_page))
     at = max(1, min(pages, shown or page_asked()))
     rows = sheet.rows[per_page * (at - 1):per_page * at]
+    kept = draws_again.kept(parts().draws, draw).keys() & sheet.cells().keys()
     return flask.render_template(
         "lots_sheet.html", draw=draw, said=said, reason=reason, errors=errors,
-        rows=[row_of(it, wrong, typed) for it in rows], at=at, pages=pages, wrong=wrong,
+        rows=[row_of(it, wrong, typed, kept) for it in rows], kept=kept, at=at, pages=pages,
+        wrong=wrong,
         missing=sum(it == MISSING for it in wrong.values()), seeds=sheet.seeds(),
         ties=sum(it.tie > 0 for it in sheet.rows), count_all=len(sheet.rows),
         free=free_cells(sheet), most_lot=lot_sheets.MOST_LOT, most_text=MOST_TEXT,
@@ -110,7 +123,9 @@ def free_cells(sheet: Sheet) -> int:
     return sum(not text for row in sheet.rows if not row.tie for text in row.typed)
 
 
-def row_of(row: Any, wrong: dict[Cell, str], typed: dict[Cell, Typed]) -> dict[str, Any]:
+def row_of(
+    row: Any, wrong: dict[Cell, str], typed: dict[Cell, Typed], kept: Container[Cell],
+) -> dict[str, Any]:
     """A row as the page shows it: what was typed, also where it was not kept."""
     cells = []
     for at, stored in enumerate(row.typed):
@@ -118,7 +133,8 @@ def row_of(row: Any, wrong: dict[Cell, str], typed: dict[Cell, Typed]) -> dict[s
         given = typed.get(cell)
         is_other = given is not None and given.text.strip() not in (stored, given.was)
         cells.append({
-            "name": field_of(cell), "stored": stored, "seed": row.seeds[at],
+            "name": field_of(cell), "is_kept": cell in kept, "stored": stored,
+            "seed": row.seeds[at],
             "text": given.text if given and is_other else stored,
             "wrong": wrong.get(cell, "") if not is_other else "",
             "other": f"'{stored or 'nothing'}' is saved here" if is_other else "",
@@ -230,6 +246,9 @@ def seal(number: int) -> Answer:
     except Refused as error:
         said = str(error)
         return whole_page(number, f"{said[:1].upper()}{said[1:]}.", 409)
+    # (the lots are sealed whatever comes of the rehearsal, which is shown to the office alone)
+    with contextlib.suppress(Refused):
+        parts().following.after(person(), number)
     return flask.redirect(flask.url_for("lots.whole", number=number), 303)
 
 

@@ -1,4 +1,6 @@
 """Who may sign in: added, given a role, locked, and given a new password, each on record."""
+from collections.abc import Callable
+
 import flask
 from register_files import Refused
 from werkzeug.wrappers import Response
@@ -6,15 +8,22 @@ from werkzeug.wrappers import Response
 from .. import guard, people
 from ..guard import needs, parts, person
 from ..people import PEOPLE, PERSON, PROGRAM
+from ..wording import sentence
 
 screen = flask.Blueprint("people", __name__, url_prefix="/people")
 Answer = str | Response | tuple[str, int]
+ADD = "add"
 
 
 def page(
     said: str = "", secret: tuple[str, str, bool] | None = None, status: int = 200,
+    wrong: dict[str, str] | None = None,
 ) -> Answer:
-    """The list of all, with a secret that is shown once: whose it is, and whether it is a token."""
+    """The list of all, with a secret that is shown once: whose it is, and whether it is a token.
+    The form to add somebody has what was typed where that is wrong, and the focus after each.
+    """
+    form = flask.request.form
+    typed = {it: form.get(it, "") if wrong else "" for it in ("name", "role", "kind")}
     rows = parts().store.rows("SELECT * FROM person ORDER BY kind, name")
     schools: list[str] = []
     try:
@@ -23,7 +32,9 @@ def page(
         pass
     return flask.render_template(
         "people.html", rows=rows, said=said, is_bad=status != 200, secret=secret,
-        roles=people.ROLES, school_roles=[people.SCHOOL + it for it in schools]), status
+        roles=people.ROLES, school_roles=[people.SCHOOL + it for it in schools],
+        typed=typed, wrong={"name": "", "role": "", **(wrong or {})},
+        is_adding=form.get("what") == ADD), status
 
 
 @screen.get("/")
@@ -47,6 +58,28 @@ def see_another(name: str) -> None:
         raise Refused("nobody can do this for themselves: ask another person with this right")
 
 
+def wrong_in(name: str, role: str) -> dict[str, str]:
+    """What is wrong with somebody who is to be added, by its field."""
+    checks: dict[str, Callable[[], None]] = {
+        "name": lambda: parts().people.see_name(name), "role": lambda: people.see_role(role)}
+    found: dict[str, str] = {}
+    for field, check in checks.items():
+        try:
+            check()
+        except Refused as error:
+            found[field] = sentence(str(error))
+    return found
+
+
+def add(name: str, role: str, kind: str) -> Answer:
+    """Adds a person or a program."""
+    if wrong := wrong_in(name, role):
+        return page("Nobody was added: see what is wrong below.", status=409, wrong=wrong)
+    guard.record("added", person=name, role=role, kind=kind)
+    secret = parts().people.add(name, role, kind)
+    return page(f"{name} is added as {role}.", (name, secret, kind == PROGRAM))
+
+
 @screen.post("/")
 @needs(PEOPLE)
 def change() -> Answer:
@@ -55,12 +88,8 @@ def change() -> Answer:
     what, name, role = (form.get(it, "").strip() for it in ("what", "name", "role"))
     found = parts().people
     try:
-        if what == "add":
-            kind = PROGRAM if form.get("kind") == PROGRAM else PERSON
-            found.see_new(name, role)
-            guard.record("added", person=name, role=role, kind=kind)
-            secret = found.add(name, role, kind)
-            return page(f"{name} is added.", (name, secret, kind == PROGRAM))
+        if what == ADD:
+            return add(name, role, PROGRAM if form.get("kind") == PROGRAM else PERSON)
         before, kind = role_and_kind(name)
         see_another(name)
         if what == "role":

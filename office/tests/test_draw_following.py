@@ -1,0 +1,226 @@
+"""What follows a step of a draw by itself: the rehearsal after the seal, and the opening after an
+audit that agrees; also where the application ends in between, and where something cannot be done.
+"""
+import pathlib
+import threading
+from collections.abc import Iterator
+from typing import Any
+
+import pytest
+from applications import Browser
+from draw_site import (
+    HAL, Crash, Fields, Machine, Person, at_lots, begun, brought, first_day, lot_of, machine_over,
+    no_answer, small_register, typed, version,
+)
+
+from office.web.draws import Draws
+
+# what only the office may see of a draw: names, what came of it, and why it does not go on
+HIDDEN = ("Child 1", "new place", "keeps its place", "moves", "Audit of", "rehears", "no answer")
+
+
+@pytest.fixture(name="register", scope="module")
+def register_fixture(tmp_path_factory: pytest.TempPathFactory) -> pathlib.Path:
+    """The file of a small register."""
+    return small_register(tmp_path_factory)
+
+
+@pytest.fixture(name="small")
+def small_fixture(
+    tmp_path: pathlib.Path, register: pathlib.Path, monkeypatch: pytest.MonkeyPatch
+) -> Iterator[Machine]:
+    """A machine with a small register."""
+    with machine_over(tmp_path, register, monkeypatch) as found:
+        yield found
+
+
+def seals(sup: Browser, number: int) -> Any:
+    """The supervisor seals the lots on the screen."""
+    fields = Fields(sup.get(f"/lots/{number}/seal").text).values
+    return sup.post(f"/lots/{number}/seal", {it: fields[it] for it in ("seen", "digest")})
+
+
+def sees_nothing(sup: Browser, number: int) -> None:
+    """The supervisor sees that the lots are sealed, and nothing of what follows."""
+    for path in ("/lots/", f"/lots/{number}", f"/lots/{number}/seal"):
+        page = sup.get(path).text
+        assert "ealed by sup" in page, path
+        assert [it for it in HIDDEN if it in page] == [], path
+    for path in (f"/draws/{number}", "/draws/"):
+        assert sup.get(path).status_code == 403
+    assert sup.post(f"/draws/{number}/second/go-on", {"seen": "1"}).status_code == 403
+
+
+def test_the_rehearsal_follows_the_seal(small: Machine) -> None:
+    """Without another button: the officer who comes next reads the outcome, and confirms it."""
+    with small.office() as office:
+        number = begun(office)
+        brought(office, number, "lots")
+        typed(office, number, lot_of)
+        sup = at_lots(office)
+        assert seals(sup, number).status_code == 303
+        sees_nothing(sup, number)
+        draw = office.parts.draws.get(number)
+        assert draw.state == "rehearsed" and draw.trouble == ""
+        assert [(it.state, it.who) for it in draw.done[-2:]] == [
+            ("sealed", "sup"), ("rehearsed", "sup")]
+        whats = [(it.who, it.what) for it in office.parts.history.entries]
+        assert [it for it in whats if it[1] in ("sealed the lots", "rehearsed")] == [
+            ("sup", "sealed the lots"), ("sup", "rehearsed")]
+        jane = Person(office, "jane", "officer")
+        page = jane.browser.get(f"/draws/{number}").text
+        assert "Outcome of the rehearsal" in page and ">Confirm draw 1</button>" in page
+        assert jane.step(number, "confirm").status_code == 303
+
+
+def test_a_rehearsal_that_cannot_be_made_leaves_the_seal(
+    small: Machine, monkeypatch: pytest.MonkeyPatch
+) -> None:
+    """The office is shown why, and what to do; the supervisor is not. It is tried again by a
+    button, and not by looking.
+    """
+    with small.office() as office:
+        number = begun(office)
+        brought(office, number, "lots")
+        typed(office, number, lot_of)
+        digest = office.parts.lots.sheet(number)[1].digest()
+        sup, jane = at_lots(office), Person(office, "jane", "officer")
+        with monkeypatch.context() as patch:
+            patch.setattr(office.parts.copies, "path", no_answer)
+            assert seals(sup, number).status_code == 303
+        sees_nothing(sup, number)
+        draw = office.parts.draws.get(number)
+        assert (draw.state, draw.digest, draw.trouble) == ("sealed", digest, "no answer")
+        found = [it for it in office.parts.history.entries if it.what == "could not go on"]
+        assert [(it.who, it.about["why"]) for it in found] == [("sup", "no answer")]
+        page = jane.browser.get(f"/draws/{number}").text
+        assert "What follows by itself was not done: No answer." in page
+        assert ">Rehearse</button>" in page
+        assert office.parts.draws.get(number).state == "sealed"
+        assert jane.step(number, "go-on").status_code == 303
+        draw = office.parts.draws.get(number)
+        assert (draw.state, draw.done[-1].who, draw.trouble) == ("rehearsed", "jane", "")
+        assert "was not done" not in jane.browser.get(f"/draws/{number}").text
+
+
+ENTRIES = ("copied the register", "audited", "opened the register")
+
+
+@pytest.mark.parametrize("is_after", (False, True))
+@pytest.mark.parametrize("what", ENTRIES)
+def test_a_crash_after_the_draw(
+    small: Machine, monkeypatch: pytest.MonkeyPatch, what: str, is_after: bool
+) -> None:
+    """Before or after an entry of the history: who only reads has nothing done, and the officer who
+    looks next goes on until the register is open. The draw is held once.
+    """
+    with small.office() as office:
+        number = begun(office)
+        brought(office, number, "confirmed")
+        known = len(office.parts.history.entries)
+        with monkeypatch.context() as patch:
+            real = office.parts.history.add
+
+            def add(who: str, kind: str, about: dict[str, Any]) -> Any:
+                if kind != what:
+                    return real(who, kind, about)
+                if is_after:
+                    real(who, kind, about)
+                raise Crash
+
+            patch.setattr(office.parts.history, "add", add)
+            hal = Person(office, "hal", "head")
+            with pytest.raises(Crash):
+                hal.step(number, "send")
+    with small.office() as office:
+        first_day(office)
+        for path in ("/", "/draws/", f"/draws/{number}"):
+            assert office.browser("rita", "reader").get(path).status_code == 200
+        assert office.parts.draws.get(number).state in ("sending", "audited")
+        assert office.parts.desk.closed()
+        page = office.browser("jane", "officer").get("/").text
+        assert "is in progress" not in page and "Closed for" not in page
+        draw = office.parts.draws.get(number)
+        assert draw.state == "opened" and draw.done[-1].who == "jane"
+        entries = [it for it in office.parts.history.entries[known:] if it.what in ENTRIES]
+        last = {it.what: it.who for it in entries}
+        assert list(last) == list(ENTRIES) and last["opened the register"] == "jane"
+        assert sum(it.what == "sends" for it in office.parts.history.entries) == 1
+        assert len(office.parts.desk.now().draws) == 1
+
+
+def test_what_differs_stays_closed(small: Machine, monkeypatch: pytest.MonkeyPatch) -> None:
+    """Where the audit does not agree nothing opens, by no look of anybody, and the page offers the
+    restore.
+    """
+    with small.office() as office:
+        number = begun(office)
+        brought(office, number, "confirmed")
+        hal, jane = Person(office, "hal", "head"), Person(office, "jane", "officer")
+        with monkeypatch.context() as patch:
+            patch.setattr("office.web.rehearsal.audit.audit",
+                          lambda *_: (["not best: child 1"], False))
+            assert hal.step(number, "send").status_code == 303
+        draw = office.parts.draws.get(number)
+        assert (draw.state, draw.wrong) == ("sending", ["not best: child 1"])
+        for who in (hal, jane):
+            for path in ("/", f"/draws/{number}"):
+                page = who.browser.get(path).text
+                assert "Closed for draw 1 by hal" in page
+            assert "Ask to restore the copy from before draw 1</button>" in page
+            assert "Inform no family" in page and "open for all again" not in page
+        assert office.parts.draws.get(number) == draw
+        assert not any(it.what == "opened the register" for it in office.parts.history.entries)
+
+
+def test_a_look_goes_on_once(small: Machine, monkeypatch: pytest.MonkeyPatch) -> None:
+    """Not while somebody else is at it, and an error that nobody knows is met once: the page is
+    there, and has the button.
+    """
+    with small.office() as office:
+        number = begun(office)
+        brought(office, number, "audited")
+        jane = office.browser("jane", "officer")
+        calls: list[int] = []
+
+        def fails(*_: object) -> None:
+            calls.append(1)
+            raise ZeroDivisionError
+
+        with monkeypatch.context() as patch:
+            patch.setattr(Draws, "open", fails)
+            is_held, may_end = threading.Event(), threading.Event()
+
+            def holds() -> None:
+                with office.parts.draws.lock:
+                    is_held.set()
+                    may_end.wait(60)
+
+            other = threading.Thread(target=holds)
+            other.start()
+            assert is_held.wait(60)
+            assert jane.get(f"/draws/{number}").status_code == 200 and calls == []
+            may_end.set()
+            other.join()
+            assert jane.get(f"/draws/{number}").status_code == 500 and calls == [1]
+            page = jane.get(f"/draws/{number}")
+            assert page.status_code == 200 and ">Open for all</button>" in page.text
+            assert calls == [1]
+        seen = {"seen": str(version(office, number))}
+        assert jane.post(f"/draws/{number}/second/go-on", seen).status_code == 303
+        assert office.parts.draws.get(number).state == "opened"
+
+
+def test_a_stale_page_goes_on_with_nothing(small: Machine) -> None:
+    """The button of a page that was shown before the draw went on."""
+    with small.office() as office:
+        number = begun(office)
+        brought(office, number, "closed")
+        seen = version(office, number)
+        office.parts.following.after(HAL, number)
+        assert office.parts.draws.get(number).state == "lots"
+        jane = Person(office, "jane", "officer")
+        found = jane.press(number, str(seen), "go-on")
+        assert found.status_code == 409 and "has changed since this page was shown" in found.text
+        assert jane.step(number, "go-on").status_code == 409
+        assert office.parts.draws.get(number).state == "lots"

@@ -1,0 +1,67 @@
+"""What follows a step of a draw by itself, as there is nothing to decide in between: the copy and
+the pairs after the close, the rehearsal after the seal, the audit after the draw, and the opening
+after an audit that agrees. Each is on record of its own.
+"""
+import contextlib
+
+from register_files import Refused
+
+from .draws import Draws, held_in, see_goes_on
+from .draws_terms import AUDITED, CLOSED, COPIED, FOLLOWED, SEALED, SENDING, Draw
+from .people import CONFIRM, Person
+
+
+class Following:
+    """What follows by itself in the draws of one application."""
+
+    def __init__(self, draws: Draws) -> None:
+        self.draws = draws
+        # the draws, each in a version, at which this application has gone on for somebody who looks
+        self.tried: set[tuple[int, int]] = set()
+
+    def after(self, who: Person, number: int) -> None:
+        """Goes on after a step that a person has done, until somebody has to decide. What cannot be
+        done is refused, and shown to all who look: the step itself stays done.
+        """
+        with self.draws.lock:
+            while (draw := self.draws.get(number)).follows:
+                self.step(who, draw)
+
+    def again(self, who: Person, number: int, seen: int) -> None:
+        """Tries once more what could not be done, and goes on."""
+        with self.draws.turn(number, seen, *FOLLOWED) as draw:
+            see_goes_on(draw)
+            self.step(who, draw)
+            self.after(who, number)
+
+    def look(self, who: Person, draw: Draw) -> None:
+        """Goes on for somebody who looks at a draw, where the application ended in between: once,
+        and not while somebody else does it. Who only reads brings nothing about.
+        """
+        seen = draw.number, draw.version
+        if not (draw.follows and who.may(CONFIRM)) or seen in self.tried:
+            return
+        if self.draws.lock.acquire(blocking=False):
+            try:
+                self.tried.add(seen)
+                with contextlib.suppress(Refused):
+                    self.after(who, draw.number)
+            finally:
+                self.draws.lock.release()
+
+    def step(self, who: Person, draw: Draw) -> None:
+        """Does the next step, and keeps why it cannot be done."""
+        try:
+            self.next(who, draw)
+        except Refused as error:
+            self.draws.halted(who, draw, str(error))
+            raise
+
+    def next(self, who: Person, draw: Draw) -> None:
+        """Does the next step."""
+        steps = {CLOSED: self.draws.copy, COPIED: self.draws.give, SEALED: self.draws.rehearse,
+                 AUDITED: self.draws.open}
+        if draw.state == SENDING:
+            is_held = held_in(self.draws.desk.now(), draw) == draw.terms.fills
+            steps[SENDING] = self.draws.audit if is_held else self.draws.send
+        steps[draw.state](who, draw.number, draw.version)
