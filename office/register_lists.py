@@ -107,8 +107,8 @@ def unplaced(register: Register) -> Rows:
     for number, it in register.children.items():
         if number not in register.places:
             found = register.applications.get(number)
-            wishes = found.listed if found else {}
-            waiting = [code for code, it in wishes.items() if it.state == WAITS]
+            wishes = found.preferences if found else ()
+            waiting = [code for _, code, _ in found.in_state(WAITS)] if found else []
             rows.append([number, it.name, applied(register, number), ";".join(wishes) or None,
                          ";".join(waiting) or None])
     return [header, *rows]
@@ -183,8 +183,8 @@ def waiting(register: Register, school: str | None) -> Rows:
     header: list[Cell] = ["school", "position", "child", "name", "class", "metres", "preference"]
     there = sorted((code, it.position, child, at, it)
                    for child, application in register.applications.items()
-                   for at, (code, it) in enumerate(application.listed.items(), 1)
-                   if it.state == WAITS and it.position and school in (None, code))
+                   for at, code, it in application.in_state(WAITS)
+                   if it.position and school in (None, code))
     rows: Rows = [[code, position, child, register.children[child].name, it.number, it.metres, at]
                   for code, position, child, at, it in there]
     return [header, *rows]

@@ -75,7 +75,8 @@ class Browser:
         headers = {"Accept": "text/html", "Origin": ORIGIN, "X-Real-IP": self.address}
         data = {"form": self.secret, **(given or {})}
         found = self.client.post(path, base_url=ORIGIN, headers=headers, data=data, **more)
-        self.secret = Form(found.text).secret or self.secret
+        if found.mimetype == "text/html":
+            self.secret = Form(found.text).secret or self.secret
         return found
 
     def command(self, command: dict[str, Any], seen: str | None = None) -> Answer:
@@ -129,7 +130,7 @@ def site(folder: pathlib.Path, door: str) -> Iterator[Site]:
     """
     copied: list[str] = []
 
-    def made(_: Copies, purpose: str) -> int:
+    def made(_: Copies, purpose: str, _who: str) -> int:
         copied.append(purpose)
         return len(copied)
 

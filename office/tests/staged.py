@@ -8,6 +8,8 @@ from applications import Answer, Browser
 from conftest import HEADER
 
 COLUMNS = HEADER.split(",")
+# the form of the table
+TABLE = "table"
 VOID = ("input", "meta", "link", "br")
 Cells = dict[str, str]
 
@@ -74,29 +76,41 @@ class Seen(html.parser.HTMLParser):
                     if " ".join(self.texts[f"row-{it}"].split()).startswith(f"{where} "))
 
     def values(self, row: int) -> Cells:
-        """What the fields of a row have, also those that are not seen."""
-        return {name: it.get("value", "") for (form, name), it in self.fields.items()
-                if form == f"form-{row}"}
+        """What the fields of a row have."""
+        end = f"-{row}"
+        return {name.removesuffix(end): it.get("value", "")
+                for (form, name), it in self.fields.items() if form == TABLE and name.endswith(end)}
+
+    def sent(self, **typed: Cells) -> Cells:
+        """All that the form of the table sends, with what was typed into rows, by their names."""
+        found = {name: it.get("value", "") for (form, name), it in self.fields.items()
+                 if form == TABLE and name != "form"}
+        return {**found, **{f"{column}-{self.row(where)}": text for where, cells in typed.items()
+                            for column, text in cells.items()}}
 
     def said(self, row: int, column: str) -> str:
         """What is said beside a cell, which its field refers to."""
-        found = self.fields[f"form-{row}", column].get("aria-describedby", "")
+        found = self.fields[TABLE, f"{column}-{row}"].get("aria-describedby", "")
         return " ".join(self.texts.get(found, "").split())
+
+    def cells_with(self, attribute: str, value: str) -> list[tuple[int, str]]:
+        """The cells whose fields have an attribute."""
+        found = (name.rpartition("-") for (form, name), it in self.fields.items()
+                 if form == TABLE and it.get(attribute) == value)
+        return [(int(number), column) for column, _, number in found]
 
     def wrong(self) -> set[tuple[int, str]]:
         """The cells that are marked as wrong."""
-        return {(int(form.removeprefix("form-")), name) for (form, name), it in self.fields.items()
-                if it.get("aria-invalid") == "true"}
+        return set(self.cells_with("aria-invalid", "true"))
 
     def focused(self) -> list[tuple[int, str]]:
         """The cells that get the focus when the page is loaded."""
-        return [(int(form.removeprefix("form-")), name) for (form, name), it in self.fields.items()
-                if "autofocus" in it]
+        return self.cells_with("autofocus", "")
 
     def value(self, name: str) -> str:
         """A field that is of no row."""
         return next(it.get("value", "") for (form, at), it in self.fields.items()
-                    if at == name and not form.startswith("form-"))
+                    if at == name and form != TABLE)
 
 
 class Screens:
@@ -119,17 +133,26 @@ class Screens:
                                  content_type="multipart/form-data")
 
     def save(self, row: int, **cells: str) -> Answer:
-        """A row is saved with other cells."""
-        seen = self.see(f"?row={row}")
-        return self.browser.post(
-            seen.actions[f"form-{row}"], {**seen.values(row), **cells, "what": "save"})
+        """A cell or more of a row get another text, and the page is saved; or without one the row
+        is confirmed as it is.
+        """
+        typed = {f"{column}-{row}": text for column, text in cells.items()}
+        return self.send(row, {**typed, **({} if cells else {"confirm": str(row)})})
 
-    def do(self, row: int, what: str, page: str = "") -> Answer:
-        """A row is withdrawn, or brought back."""
-        version = self.see(f"{page}?row={row}").values(row)["version"] if not page else (
-            next(it["value"] for (form, name), it in self.see(page).fields.items()
-                 if name == "version"))
-        return self.browser.post(f"/applications/row/{row}", {"what": what, "version": version})
+    def send(self, row: int, given: Cells) -> Answer:
+        """The page with a row is sent, with what was typed and pressed."""
+        seen = self.see(f"?see={row}")
+        return self.browser.post(seen.actions[TABLE], {**seen.sent(), **given})
+
+    def withdraw(self, row: int) -> Answer:
+        """A row is withdrawn by its button."""
+        return self.send(row, {"withdraw": str(row)})
+
+    def bring_back(self, row: int) -> Answer:
+        """A row is brought back by its button."""
+        version = next(it["value"] for (_, name), it in self.see("withdrawn").fields.items()
+                       if name == "version")
+        return self.browser.post(f"/applications/row/{row}", {"version": version})
 
     def digest(self) -> str:
         """The digest of what would be stored now."""

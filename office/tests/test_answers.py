@@ -7,8 +7,9 @@ from typing import Any
 
 import openpyxl
 import pytest
-from applications import SCHOOLS, Browser, Site, child, office_over, site
+from applications import Site, office_over, site
 from conftest import make
+from offers import PAGE, enter, offered, pile, sent, shown
 from pages import Page, press
 from served import served
 
@@ -17,49 +18,12 @@ from office.web.desk import LOST, Result
 from office.web.people import Person
 from office.web.screens import answers as screen
 
-# 30 children, of whom each has an offer: those with an even number at B, the others at A
-NAMES = {11: "Ada Abel", 12: "Ben Bell", 13: "Cyd <b>Cole</b>", 14: "Dai O'Dare", 15: "Ada Abbot",
-         16: "=1+1"}
-PAGE = "/answers/"
-
-
-def offered() -> list[dict[str, Any]]:
-    """A register in which children 11 to 40 have an offer, and 41 has none and no application."""
-    schools = [{**it, "pan": 20} for it in SCHOOLS]
-    numbers = range(11, 41)
-    children = [child(it, NAMES.get(it, f"Child Number{it}"), it) for it in numbers]
-    applied = [{"cmd": "apply", "child": it, "day": "2024-10-31",
-                "preferences": ["A", "B"] if it % 2 else ["B", "A"]} for it in numbers]
-    lots = [*range(1, 31), *range(1, 31)]
-    return [*schools, *children, child(41, "Zoe Zander", 41), *applied,
-            {"cmd": "round", "draw": 1, "day": "2025-03-03", "lots": lots}]
-
 
 @pytest.fixture(name="office")
 def office_fixture(tmp_path: pathlib.Path) -> Iterator[Site]:
     """The application over that register."""
     with office_over(tmp_path, offered()) as found:
         yield found
-
-
-def enter(browser: Browser, *entries: str) -> Page:
-    """Entries that are typed, each with Enter; the page after them."""
-    browser.get(PAGE)
-    for it in entries:
-        found = browser.post(PAGE, {"entry": it})
-        assert found.status_code == 303, Page(found.text).said()
-    return shown(browser)
-
-
-def shown(browser: Browser) -> Page:
-    """The page of the pile."""
-    return Page(browser.get(PAGE).text)
-
-
-def pile(page: Page) -> list[list[str]]:
-    """The rows of the pile, without what changes them; the last entry is the first."""
-    name = next((it for it in page.tables if it.startswith("The pile:")), None)
-    return [row[:6] for row in page.tables[name][1:]] if name else []
 
 
 def recorded(page: Page) -> list[list[str]]:
@@ -70,11 +34,6 @@ def recorded(page: Page) -> list[list[str]]:
 def kinds(office: Site) -> dict[int, str]:
     """How each child has its place."""
     return {number: it.kind for number, it in office.parts.desk.now().places.items()}
-
-
-def sent(office: Site) -> list[dict[str, Any]]:
-    """The commands that were sent, in their order."""
-    return [it.about["command"] for it in office.parts.history.entries if it.what == "sends"]
 
 
 def of_keys(page: Page, field: str, button: str) -> int:
@@ -119,6 +78,19 @@ def test_an_entry_is_a_number_or_a_name(office: Site) -> None:
     assert ["ada", "15", "Ada Abbot", "accept", "A", ""] in pile(shown(jane))
     found = jane.post(PAGE, {"entry": "  "})
     assert found.status_code == 400 and Page(found.text).said() == "Enter a number or a name."
+
+
+def test_an_entry_that_is_not_added_stays_in_its_field(
+    office: Site, monkeypatch: pytest.MonkeyPatch
+) -> None:
+    """A pile that is full takes no more, and what was typed is there."""
+    jane = office.browser("jane")
+    jane.get(PAGE)
+    monkeypatch.setattr(piles, "MOST", 0)
+    found = jane.post(PAGE, {"entry": "11-"})
+    page = Page(found.text)
+    assert found.status_code == 409 and "at most 0 answers" in page.said()
+    assert page.fields["entry"]["value"] == "11-" and not pile(page)
 
 
 def test_declines_are_confirmed_by_name(office: Site) -> None:
@@ -350,10 +322,61 @@ SHEETS = [
     "accept;11;a;Ada ABEL\ndecline;12;B;Bell, Ben\n",
     "accept\t11\tA\tAda Abel\ndecline\t12\tB\t\n",
     "\ufeffchild,school,reply\n11,A,accept\n12,B,decline\n",
-    "11\n12-\n",
-    "11,Ada Abel\n12-,Ben Bell\n",
-    "\n  11 Ada Abel \n\n bell -\n",
+    "11 yes\n12-\n",
+    "11,Ada Abel,accepts\n12-,Ben Bell\n",
+    "\n  accepted 11 Ada Abel \n\n bell -\n",
+    "11\tAda Abel\tAlpha\tYES\nno;12;Ben Bell\n",
+    "School\tName\tAnswer\tNumber\tReceived\nAlpha\tAda Abel\taccept\t11\t3 March\n"
+    "b\tBen Bell\tDeclined\t12\t\n",
 ]
+
+
+def several(office: Site, text: str) -> dict[str, list[str]]:
+    """The pile of a person after a paste: what each row is taken for."""
+    jane = office.browser("jane")
+    pile_of = screen_piles(office) if "piles" in office.app.extensions else None
+    if pile_of:
+        pile_of.remove("jane", (it.number for it in pile_of.of("jane")))
+    jane.get(PAGE)
+    found = jane.post("/answers/several", {"pasted": text}, content_type="multipart/form-data")
+    assert found.status_code == 303, Page(found.text).said()
+    return {row[0]: [row[1], row[3], row[5]] for row in pile(shown(jane))}
+
+
+def test_no_row_is_an_accept_that_does_not_say_so_alone(office: Site) -> None:
+    """A decline is one wherever it stands; what is not understood is marked, and is no accept."""
+    assert several(office, "12\tBen Bell\tdecline\n14 Dai O'Dare decline\n16,decline\n"
+                   "18;declined\nDECLINE,11,A,Ada Abel\n13\tCyd Cole\n") == {
+        "12, Ben Bell, decline": ["12", "decline", ""],
+        "14 Dai O'Dare decline": ["14", "decline", ""], "16,decline": ["16", "decline", ""],
+        "18;declined": ["18", "decline", ""], "DECLINE,11,A,Ada Abel": ["11", "decline", ""],
+        "13, Cyd Cole": ["13", "none", "no answer in this row"]}
+    found = several(office, "11\tAda Abel\tmaybe\n12 Ben Bell later\n14\t?\n13,-\n15 16\n15,17\n"
+                    "19 Child Number19\n18\n")
+    assert {it for it, (_, kind, _) in found.items() if kind == "accept"} == {
+        "19 Child Number19", "18"}
+    assert all(found[it][2] for it in found if found[it][1] != "accept")
+    assert '"16" is not understood' in found["15 16"][2]
+    assert found["15,17"][2].startswith("this row has the numbers 15 and 17")
+    found = several(office, "11,accept,declined\n12,accept\n12 Ben Bell not accepted\n13,A,B,yes\n")
+    assert found["11, accept, declined"][2].startswith(
+        "this row has the answers accept and declined")
+    assert found["13, A, B, yes"][2].startswith("this row has the schools A and B")
+    assert 'the name given is "Ben Bell not"' in found["12 Ben Bell not accepted"][2]
+    found = several(office, "Number,Name,Answer\n11,Ada Abel,\n12,Ben Bell,perhaps\nx,,yes\n")
+    assert found["11, Ada Abel"][1:] == ["none", "no answer in this row"]
+    assert found["12, Ben Bell, perhaps"][2].startswith('"perhaps" is not an answer')
+    assert found["x, yes"][2].startswith('"x" is not the number of a child')
+    jane = office.browser("jane")
+    assert not any(it.startswith("Record ") for it in shown(jane).buttons())
+    page = enter(jane, "21 decline", "22 no idea", "23")
+    assert {row[0]: row[3] for row in pile(page)[:3]} == {
+        "21 decline": "decline", "22 no idea": "decline", "23": "accept"}
+    assert pile(page)[1][5] == 'the name given is "idea"'
+    question = Page(press(jane, PAGE, page, "Record 2 answers").text)
+    assert "accept: child 23, Child Number23, at A Alpha" in " ".join(
+        question.by_id["accepts"].split())
+    assert "child 21," in question.by_id["final"] and "child 21," not in question.by_id["accepts"]
 
 
 @pytest.mark.parametrize("text", SHEETS)
@@ -414,7 +437,7 @@ def test_a_name_that_is_another_stops_its_answer(office: Site) -> None:
 
 
 REFUSED = [
-    ("accept,11,A\naccept,x,B\n", "Correct it first: row 2, \"x\": expected"),
+    ("school,reply\nA,accept\n", "no column with the number or the name of a child"),
     ("child,school,lot\n11,A,5\n", "it is a sheet of lots."),
     ("child,school,offered,due\n11,A,2025-03-03,2025-03-17\n", "it is a worklist"),
     ("child,name,east,north,looked_after,flags,siblings,day,preferences\n1,A,1,1,no,,,x,A\n",
@@ -503,3 +526,70 @@ def test_a_pile_is_shown_while_the_register_is_away(tmp_path: pathlib.Path) -> N
 def test_a_wait_has_an_end() -> None:
     """A page that records a large pile comes back and shows how far it is."""
     assert 0 < screen.WAIT_SECONDS <= 30
+
+
+def test_a_pile_of_somebody_who_has_left_is_taken_over(office: Site) -> None:
+    """Shown whole, taken over by a button that names whose it is, on record; and then recorded."""
+    jane, hal = office.browser("jane"), office.browser("hal", "head")
+    enter(office.browser("bo"), "11", "12-", "Ada")
+    office.parts.people.lock("bo", True)
+    assert "bo, who is locked, has 3 answers that wait" in " ".join(shown(jane).text.split())
+    found = Page(jane.get("/answers/of/bo").text)
+    assert [it[:5] for it in found.tables["3 answers of bo"][1:]] == [
+        ["Ada", "", "not known", "accept", ""], ["12-", "12", "Ben Bell", "decline", "B"],
+        ["11", "11", "Ada Abel", "accept", "A"]]
+    stale = found.form("Take over 3 answers of bo").sent_by("Take over 3 answers of bo")
+    office.parts.people.lock("bo", False)
+    assert jane.get("/answers/of/bo").status_code == 403, "who is there records it"
+    enter(office.browser("bo"), "13")
+    office.parts.people.lock("bo", True)
+    late = jane.post("/answers/of/bo", stale)
+    assert late.status_code == 409 and "has changed since it was shown" in Page(late.text).said()
+    assert not pile(shown(jane)) and len(pile(shown(hal))) == 0
+    page = Page(jane.get("/answers/of/bo").text)
+    assert press(jane, "/answers/of/bo", page, "Take over 4 answers of bo").status_code == 303
+    assert [it[0] for it in pile(shown(jane))] == ["13", "Ada", "12-", "11"]
+    assert office.parts.history.entries[-1].about == {
+        "person": "bo", "answers": ["11", "12-", "Ada", "13"]}
+    assert "has no answers that wait" in jane.get("/answers/of/bo").text
+    assert hal.post("/people/", {"what": "remove", "name": "bo"}).status_code == 200
+    question = press(jane, PAGE, shown(jane), "Record 3 answers")
+    press(jane, PAGE, Page(question.text), "Record 3 answers, with that of Ben Bell")
+    assert sent(office) == [{"cmd": "accept", "child": 11, "school": "A"},
+                            {"cmd": "decline", "child": 12, "school": "B"},
+                            {"cmd": "accept", "child": 13, "school": "A"}]
+
+
+def test_who_may_take_over_a_pile(office: Site) -> None:
+    """An officer that of somebody who cannot record it; a head that of anybody; nobody else any."""
+    jane, hal, bo = office.browser("jane"), office.browser("hal", "head"), office.browser("bo")
+    enter(bo, "11")
+    assert "Piles of colleagues" not in jane.get(PAGE).text
+    assert "bo has 1 answer that waits" in " ".join(shown(hal).text.split())
+    for name, role in (("rea", "reader"), ("ad", "administrator"), ("sup", "supervisor")):
+        other = office.browser(name, role)
+        assert other.get("/answers/of/bo").status_code == 403, role
+        assert other.post("/answers/of/bo", {"digest": ""}).status_code == 403, role
+    assert jane.post("/answers/of/bo", {"digest": ""}).status_code == 403
+    assert bo.get("/answers/of/bo").status_code == 403 and not pile(shown(jane))
+    assert hal.get("/answers/of/B%3Cb%3E").status_code == 404
+    assert hal.post("/answers/of/bo", {"digest": ""}).status_code == 409
+    office.parts.people.set_role("bo", "reader")
+    assert "has the role reader" in jane.get("/answers/of/bo").text
+    # (an entry that is handed over is recorded once, by whom it is now)
+    entry = office.app.extensions["piles"].of("bo")[0]
+    office.app.extensions["piles"].hand_over("bo", "hal", [entry])
+    assert not office.app.extensions["piles"].begin(entry)
+    assert [it[0] for it in pile(shown(hal))] == ["11"]
+
+
+def test_without_a_history_no_pile_is_taken_over(office: Site) -> None:
+    """The pile stays where it is."""
+    hal = office.browser("hal", "head")
+    enter(office.browser("bo"), "11")
+    page = Page(hal.get("/answers/of/bo").text)
+    office.parts.history.fd, kept = -1, office.parts.history.fd
+    found = press(hal, "/answers/of/bo", page, "Take over 1 answer of bo")
+    office.parts.history.fd = kept
+    assert found.status_code == 409 and "Nothing was taken over" in Page(found.text).said()
+    assert [it.person for it in office.app.extensions["piles"].of("bo")] == ["bo"]

@@ -52,7 +52,8 @@ def test_a_child_is_shown_with_its_place_its_list_and_its_data(office: Site) -> 
     assert page.tables["list"][1:] == [
         ["1", "A Alpha", "waits, position 1 of 2", "ranked by distance alone", "300"],
         ["2", "B Beta", "offered", "ranked by distance alone", "300"]]
-    assert page.buttons() == ["Sign out"] and "/children/3/" not in page.text
+    assert page.buttons() == ["Sign out"]
+    assert not [it for it in page.stops if it.startswith("/children/3/") and "/w" not in it]
     page = Page(rita.get("/children/5").text)
     assert "medical need; flag 5" in page.text and "The child has no application." in page.text
     assert "&lt;i&gt;Eden" in page.text and "<i>Eden" not in page.text
@@ -116,6 +117,7 @@ def test_a_withdrawal_needs_a_reminder(office: Site) -> None:
         "The offer may be withdrawn from 31 March 2025 on, if it is not answered.")
     path = "/children/3/lapse?day=31 March 2025"
     page = Page(jane.get(path).text)
+    assert "<b>Cole" not in page.text and "&lt;b&gt;Cole" in page.text
     assert page.by_id["on"] == "Day: Monday, 31 March 2025"
     assert "The day is 14 days after today." in page.text
     found = press(jane, path, page, "Withdraw the offer of Beta from Cyd <b>Cole</b>")

@@ -256,7 +256,8 @@ def test_a_reader_that_ends_is_a_refusal(
     """As one that is killed for its memory or its time."""
     monkeypatch.setattr(sys, "executable", "/bin/false")
     found = upload(empty.browser("jane"), "/schools/new/sheet", "sheet", SHEET.encode())
-    assert found.status_code == 400 and "The file cannot be read" in Page(found.text).said()
+    assert found.status_code == 400
+    assert "Reading the file was not possible" in Page(found.text).said()
 
 
 def test_last_year_fills_the_draft(empty: Site, tmp_path: pathlib.Path) -> None:
@@ -545,8 +546,14 @@ def test_flags_have_words_on_each_screen(tmp_path: pathlib.Path) -> None:
         assert words in page.said() and page.fields["flag-3"]["value"] == "social need"
         assert flags.words_of(office.parts.store) == {3: words}
         page = Page(jane.get("/flags/").text)
-        long = press(jane, "/flags/", page, "Store the words", **{"flag-4": "x" * 101})
-        assert long.status_code == 400 and "at most 100" in Page(long.text).error("flag-4")
+        assert page.fields["flag-3"]["value"] == words, "a text, whatever signs it has"
+        long = press(jane, "/flags/", page, "Store the words",
+                     **{"flag-4": "x" * 101, "flag-5": "twins"})
+        again = Page(long.text)
+        assert long.status_code == 400 and "at most 100" in again.error("flag-4")
+        assert again.fields["flag-4"]["value"] == "x" * 101, "what was typed stays"
+        assert again.fields["flag-5"]["value"] == "twins"
+        assert flags.words_of(office.parts.store) == {3: words}
         shown = jane.get("/activity/?who=jane").text
         assert "named flags words 3 a &#34;medical&#34; &lt;need&gt; مدرسة before" in shown
         shown = jane.get("/schools/").text

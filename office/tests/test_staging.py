@@ -18,7 +18,7 @@ from register_files import Refused
 from served import served
 from staged import COLUMNS, Screens, Seen, csv_of, workbook
 
-from office import check, fields, sheet, sheet_apart
+from office import apart, check, fields, inputs, sheet, sheet_apart
 from office.model import Register
 from office.senders import Ended
 from office.web import staging_check, staging_commit, staging_form, store
@@ -134,12 +134,13 @@ def test_each_fault_is_found_and_corrected_at_its_cell(office: Site, screens: Sc
     for at, (place, _) in enumerate(FAULTS):
         found = screens.save(where[at], **{COLUMNS[place]: GOOD[at][place]})
         assert found.status_code == 303 and "#" not in found.location
-        seen = screens.see(f"?row={where[at]}")
+        seen = Seen(screens.browser.get(found.location).text)
         assert "nothing is wrong in it" in seen.texts["answer"]
         assert seen.focused() == [(where[it], places[it]) for it in range(at + 1, 11)][:1]
     assert not screens.see().wrong()
     page = screens.see("commit/")
     assert page.buttons.count("Store 12 applications") == 1
+    assert "until the closing day families may change theirs" in " ".join(page.text.split())
     assert screens.store().status_code == 303
     assert has(office.parts.desk.now()) == expected(GOOD)
     assert len(imports(office)) == 1 and states(office) == {COMMITTED: 12}
@@ -276,12 +277,12 @@ def test_a_file_that_seems_large_is_read(
 def test_a_sheet_that_takes_too_long_ends_alone(monkeypatch: pytest.MonkeyPatch) -> None:
     """The process that reads it is ended by its limits, and that is said."""
     for begin in ("import time; time.sleep(60)", "import os, signal; os.kill(os.getpid(), 24)"):
-        monkeypatch.setattr(sheet_apart, "BEGIN", begin)
-        monkeypatch.setattr(sheet_apart, "MOST_SECONDS", 1)
+        monkeypatch.setattr(apart, "BEGIN", begin)
+        monkeypatch.setattr(apart, "MOST_SECONDS", 1)
         with pytest.raises(Refused, match="reading a.csv takes more than 20 seconds"):
             sheet_apart.read("a.csv", csv_of(), None, "")
-    monkeypatch.setattr(sheet_apart, "BEGIN", "raise SystemExit(3)")
-    with pytest.raises(Refused, match="a.csv cannot be read: its reading ended with status 3"):
+    monkeypatch.setattr(apart, "BEGIN", "raise SystemExit(3)")
+    with pytest.raises(Refused, match="reading a.csv was not possible: it ended with status 3"):
         sheet_apart.read("a.csv", csv_of(), None, "")
 
 
@@ -320,9 +321,11 @@ def test_hostile_cells_are_text(office: Site, screens: Screens) -> None:
     seen = screens.see()
     where = {at: seen.row(f"row {at + 2} of <b>.csv") for at in range(len(HOSTILE))}
     assert {at: seen.values(it)["name"] for at, it in where.items()} == dict(enumerate(HOSTILE))
-    for path in ("", "commit/", "duplicates", f"?row={where[0]}"):
+    for path in ("", "commit/", "duplicates", f"?see={where[0]}"):
         tags = screens.see(path).tags
-        assert not {"script", "img", "b"} & set(tags), path
+        # (the table has two scripts of the site)
+        assert tags.count("script") == (2 if "/" not in path and path != "duplicates" else 0), path
+        assert not {"img", "b"} & set(tags), path
     for at, it in where.items():
         assert screens.save(it, north=str(5000 + at)).status_code == 303
     rows = [changed(it, 3, str(5000 + at)) for at, it in enumerate(rows)]
@@ -365,7 +368,7 @@ def test_a_row_of_another_form_is_kept_and_confirmed(office: Site, screens: Scre
     screens.save(rows[0])
     screens.save(rows[1], preferences="ELM")
     screens.save(rows[2])
-    screens.do(rows[3], "withdraw")
+    screens.withdraw(rows[3])
     screens.save(rows[4])
     assert not screens.see().wrong() and "Windows-1252" not in screens.see().said(rows[4], "name")
     screens.store()
@@ -408,7 +411,7 @@ def test_days_of_a_file_in_one_reading(screens: Screens) -> None:
     assert "say so in the list of files" in said
     assert screens.browser.post("/applications/file/1", {"what": "uk"}).status_code == 303
     assert screens.see().said(at, "day").startswith('read as "2024-04-03"')
-    screens.do(at, "withdraw")
+    screens.withdraw(at)
     screens.add(("b.csv", lines([changed(row, 0, "102")])), uk="yes")
     assert screens.see().said(screens.see().row("row 2 of b.csv"), "day").startswith(
         'read as "2024-04-03"')
@@ -430,10 +433,10 @@ def test_a_row_is_withdrawn_and_brought_back(office: Site, screens: Screens) -> 
     """One, all of a file, and all that were withdrawn."""
     screens.add(("a.csv", lines(GOOD[:3])))
     row = screens.see().row("row 3 of a.csv")
-    assert screens.do(row, "withdraw").status_code == 303
+    assert screens.withdraw(row).status_code == 303
     assert screens.see().rows() == [it for it in (1, 2, 3) if it != row]
     assert "Withdrawn 1 row" in " ".join(screens.see("commit/").texts["left-out"].split())
-    assert screens.do(row, "back", "withdrawn").status_code == 303
+    assert screens.bring_back(row).status_code == 303
     assert states(office) == {OPEN: 3}
     refused = screens.browser.post("/applications/file/1", {"what": "withdraw", "many": "2"})
     assert refused.status_code == 409 and states(office) == {OPEN: 3}
@@ -568,7 +571,7 @@ def test_a_copy_is_made_before_anything_is_stored(
     screens.add(("a.csv", lines(GOOD)))
     before, digest = states(office), screens.digest()
 
-    def fails(_: str) -> int:
+    def fails(*_: str) -> int:
         raise Refused("there is no copy: the machine has not answered")
 
     with monkeypatch.context() as patch:
@@ -587,8 +590,8 @@ def test_what_has_changed_is_not_stored(office: Site, screens: Screens) -> None:
     bo = office.browser("bo")
     changes: list[Callable[[], Any]] = [
         lambda: screens.save(rows[0], name="Ada Abbott"),
-        lambda: screens.do(rows[1], "withdraw"),
-        lambda: screens.do(rows[1], "back", "withdrawn"),
+        lambda: screens.withdraw(rows[1]),
+        lambda: screens.bring_back(rows[1]),
         lambda: screens.add(("b.csv", lines(GOOD[3:4]))),
         lambda: bo.command(child(9, name="New Face", east=77)),
         lambda: bo.command(school("ASH")),
@@ -752,36 +755,118 @@ def test_a_register_that_does_not_answer(tmp_path: pathlib.Path) -> None:
         assert screens.store("x").status_code == 409
 
 
-def test_what_was_typed_is_not_lost(office: Site, screens: Screens) -> None:
-    """Where a colleague changed the row, both are shown; where it is gone, what was typed is."""
-    screens.add(("a.csv", lines(GOOD[:1])))
-    row = screens.see().rows()[0]
-    old = screens.see().values(row)
-    Screens(office.browser("bo")).save(row, name="Ada Abbott", east="1")
-    late = screens.browser.post(f"/applications/row/{row}",
-                                {**old, "name": "Ada Abbot-Day", "what": "save"})
+def test_all_rows_of_a_page_are_saved_at_once(office: Site, screens: Screens) -> None:
+    """Those that were changed and no others; one that is wrong stays, with the error at its cell.
+    """
+    screens.add(("a.csv", lines(GOOD[:5])))
+    seen = screens.see()
+    rows = seen.rows()
+    typed = seen.sent(**{"row 2 of a.csv": {"name": "Ada Abbott", "east": "1001"},
+                         "row 4 of a.csv": {"preferences": "OAK;OAK"},
+                         "row 5 of a.csv": {"name": "D" * (inputs.MOST_TEXT + 1), "east": "5"}})
+    before = len(office.parts.history.entries)
+    found = screens.browser.post("/applications/", typed)
+    staging = office.app.extensions["staging"].staging
+    kept = {it: staging.row(it).cells for it in rows}
+    assert found.status_code == 409, "one of them was not saved"
+    assert (kept[rows[0]]["name"], kept[rows[0]]["east"]) == ("Ada Abbott", "1001")
+    assert kept[rows[2]]["preferences"] == "OAK;OAK", "what is wrong is kept in the table too"
+    assert (kept[rows[3]]["name"], kept[rows[3]]["east"]) == ("Dov Drake", "1300")
+    page = Seen(found.text)
+    assert "Not saved: a cell has at most 32,767 characters" in page.texts["answer"]
+    assert "Saved: 2 rows; 1 error left." in page.texts["answer"]
+    assert page.values(rows[3])["east"] == "5" and len(page.values(rows[3])["name"]) == 32_768
+    assert page.wrong() == {(rows[3], "name"), (rows[2], "preferences")}
+    assert page.rows()[:3] == [rows[3], rows[0], rows[2]], "those that it is about are first"
+    told = office.parts.history.entries[before:]
+    assert [(it.what, it.about["row"]) for it in told] == [
+        ("corrected an application", "row 2 of a.csv"),
+        ("corrected an application", "row 4 of a.csv")]
+    # the page that came back is sent again, with a shorter name
+    again = page.sent(**{"row 5 of a.csv": {"name": "Dov Drakes"}})
+    assert screens.browser.post("/applications/", again).status_code == 303
+    assert [staging.row(rows[3]).cells[it] for it in ("name", "east")] == ["Dov Drakes", "5"]
+    assert [staging.row(it).version for it in rows] == [2, 1, 2, 2, 1]
+    # Save where nothing was typed changes nothing, and says so
+    same = screens.browser.post("/applications/", screens.see().sent())
+    assert "No cell was changed" in screens.browser.get(same.location).text
+    assert [staging.row(it).version for it in rows] == [2, 1, 2, 2, 1]
+
+
+def test_a_row_is_withdrawn_and_the_others_keep_what_was_typed(
+    office: Site, screens: Screens
+) -> None:
+    """The button of one row saves the others too, and confirms none of them."""
+    screens.add(("a.csv", "\n".join([
+        ",".join(COLUMNS), ",".join(GOOD[0][:9]) + ",", ",".join(GOOD[1]),
+        "5,Abel, Ann,4150,3620,no,,,2024-10-20,OAK,"]).encode()))
+    seen = screens.see()
+    first, second, split = (seen.row(f"row {it} of a.csv") for it in (2, 3, 4))
+    given = seen.sent(**{"row 2 of a.csv": {"present": "PRIM9"}, "row 3 of a.csv": {"north": "7"}})
+    found = screens.browser.post("/applications/", {**given, "withdraw": str(second)})
+    assert found.status_code == 303
+    said = Seen(screens.browser.get(found.location).text).texts["answer"]
+    assert "Saved: row 2 of a.csv" in said and "Withdrawn: row 3 of a.csv" in said
+    staging = office.app.extensions["staging"].staging
+    assert staging.row(first).cells["present"] == "PRIM9"
+    gone = staging.row(second)
+    assert (gone.state, gone.cells["north"]) == (WITHDRAWN, "7")
+    assert staging.row(split).notes and screens.see().wrong() == {(split, "name")}
+    screens.save(split)
+    assert not staging.row(split).notes and not screens.see().wrong()
+
+
+def test_two_officers_keep_what_each_typed(office: Site, screens: Screens) -> None:
+    """In different rows both; in one row the second sees both values, and what the first changed
+    beside it; where the row is gone, what was typed is shown.
+    """
+    screens.add(("a.csv", lines(GOOD[:3])))
+    seen, bo = screens.see(), Screens(office.browser("bo"))
+    rows = seen.rows()
+    bo.browser.post("/applications/", bo.see().sent(**{
+        "row 2 of a.csv": {"name": "Ada Abbott", "east": "1"},
+        "row 3 of a.csv": {"name": "Ben Brooke"}}))
+    late = screens.browser.post("/applications/", seen.sent(**{
+        "row 2 of a.csv": {"name": "Ada Abbot-Day"},
+        "row 4 of a.csv": {"name": "Cleo Carver-Day"}}))
+    staging = office.app.extensions["staging"].staging
+    names = [staging.row(it).cells["name"] for it in rows]
+    assert names == ["Ada Abbott", "Ben Brooke", "Cleo Carver-Day"]
     assert late.status_code == 409
-    seen = Seen(late.text)
-    assert "was changed meanwhile, by bo" in seen.texts["answer"]
-    assert seen.values(row)["name"] == "Ada Abbot-Day"
-    assert seen.said(row, "name") == "now: Ada Abbott"
-    again = {**seen.values(row), "what": "save"}
-    assert screens.browser.post(f"/applications/row/{row}", again).status_code == 303
-    kept = office.app.extensions["staging"].staging.row(row).cells
-    assert (kept["name"], kept["east"]) == ("Ada Abbot-Day", "1000")
-    Screens(office.browser("bo")).do(row, "withdraw")
-    gone = screens.browser.post(f"/applications/row/{row}", {**again, "name": "Ada Third"})
+    page = Seen(late.text)
+    assert "row 2 of a.csv was changed meanwhile, by bo" in page.texts["answer"]
+    assert page.values(rows[0])["name"] == "Ada Abbot-Day"
+    assert page.said(rows[0], "name") == "now: Ada Abbott"
+    assert page.values(rows[0])["east"] == "1" and page.said(rows[0], "east") == "before: 1000"
+    assert screens.browser.post("/applications/", page.sent()).status_code == 303
+    kept = staging.row(rows[0]).cells
+    assert (kept["name"], kept["east"]) == ("Ada Abbot-Day", "1"), "bo's other change stays"
+    bo.withdraw(rows[0])
+    gone = screens.browser.post("/applications/", page.sent(**{
+        "row 2 of a.csv": {"name": "Ada Third"}}))
     assert gone.status_code == 409 and "Ada Third" in Seen(gone.text).text
+
+
+@pytest.mark.parametrize("seen", ["", "[", "[1]", "[[],{}]", '["x",{}]', "[" * 9000])
+def test_a_page_that_did_not_arrive_whole_changes_nothing(
+    office: Site, screens: Screens, seen: str
+) -> None:
+    """What was seen of a row is not as the page made it, or a field is missing."""
+    screens.add(("a.csv", lines(GOOD[:1])))
+    given = screens.see().sent(**{"row 2 of a.csv": {"name": "Else"}})
+    for bad in ({**given, "seen-1": seen}, {it: given[it] for it in given if it != "name-1"}):
+        found = screens.browser.post("/applications/", bad)
+        assert found.status_code == 409 and "did not arrive whole" in found.text
+    assert office.app.extensions["staging"].staging.row(1).cells["name"] == "Ada Abbot"
 
 
 def test_without_a_history_nothing_is_changed(office: Site, screens: Screens) -> None:
     """A full disk: what was typed is shown again."""
     screens.add(("a.csv", lines(GOOD[:1])))
     row = screens.see().rows()[0]
-    values = screens.see().values(row)
+    given = screens.see().sent(**{"row 2 of a.csv": {"name": "Ada Other"}})
     office.parts.history.fd, kept = -1, office.parts.history.fd
-    found = screens.browser.post(f"/applications/row/{row}",
-                                 {**values, "name": "Ada Other", "what": "save"})
+    found = screens.browser.post("/applications/", given)
     assert found.status_code == 409 and Seen(found.text).values(row)["name"] == "Ada Other"
     assert screens.browser.post("/applications/add/", {"name": "New Face"}).status_code == 409
     office.parts.history.fd = kept
@@ -825,8 +910,9 @@ def test_a_child_is_added_by_a_form(office: Site, screens: Screens) -> None:
     """In the order of the keyboard, with the next number that is free."""
     screens.add(("a.csv", lines(GOOD[:1])))
     seen = screens.see("add/")
-    assert seen.order == ["name", "east", "north", "looked_after", "flags", "siblings", "present",
-                          "day", *[f"preference-{it}" for it in range(1, 11)], "child"]
+    assert seen.order == [
+        "name", "property_number", "postcode", "east", "north", "looked_after", "flags",
+        "siblings", "present", "day", *[f"preference-{it}" for it in range(1, 11)], "child"]
     assert [name for (_, name), it in seen.fields.items() if "autofocus" in it] == ["name"]
     assert seen.value("child") == "102"
     given = {**FORM, "child": "102", "proposed": "102"}
@@ -835,7 +921,7 @@ def test_a_child_is_added_by_a_form(office: Site, screens: Screens) -> None:
     assert wrong.status_code == 409
     page = Seen(wrong.text)
     assert page.value("name") == "Mo Marsh" and page.value("preference-1") == "ASH"
-    day = page.fields["", "day"]
+    day = page.fields["child-form", "day"]
     assert (day["aria-invalid"], day["aria-describedby"]) == ("true", "about-day")
     assert "autofocus" in day and "is none of its schools" in page.texts["about-preferences"]
     assert states(office) == {OPEN: 1}
@@ -893,7 +979,7 @@ def test_each_role_sees_what_is_its_own(office: Site, screens: Screens) -> None:
         seen = Seen(reader.get(f"/applications/{path}").text)
         assert set(seen.buttons) <= {"Sign out", "Show"}, path
     assert "Ada Abbot" in reader.get("/applications/").text
-    posts = ("files", "row/1", "file/1", "withdrawn", "duplicates", "add/", "commit/",
+    posts = ("", "files", "row/1", "file/1", "withdrawn", "duplicates", "add/", "commit/",
              "commit/wrong")
     for path in posts:
         assert reader.post(f"/applications/{path}", {"what": "save"}).status_code == 403, path

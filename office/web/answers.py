@@ -1,38 +1,30 @@
-"""Answers of families as they are typed or uploaded: which child and school each means, and what
-speaks against it.
+"""Answers of families as they are kept in piles: which child and school each means, and what speaks
+against it.
 """
 import dataclasses
 import functools
-import re
-from collections.abc import Iterable, Mapping, Sequence
+from collections.abc import Iterable, Mapping
 from typing import Any
 
-from register_files import Refused
-
-from office import kinds, model, replies, texts
+from office import model, texts
 from office.model import Register
-from office.sheet import Row
 
 from . import wording
 from .desk import Desk, Seen
 
 Command = dict[str, Any]
-# a number, perhaps with a name to compare; or a name. A minus at the end means a decline
-ENTRY = re.compile(r"(?P<text>.*?)\s*(?P<minus>[-\u2212\u2013]?)", re.DOTALL)
-NUMBER = re.compile(r"(?P<number>[1-9][0-9]{0,6})(?:[\s,;]+(?P<name>\D.*))?")
 MOST_TYPED = 200
-MOST_WRONG = 3
 # so many children are named where a name is that of several
 MOST_NAMED = 8
 FINAL = ("decline", "leave_list", "name_plan")
 WORDS = {"accept": "accept", "decline": "decline", "leave_list": "leave the list",
-         "name_plan": "plan"}
+         "name_plan": "plan", "": "none"}
 
 
 @dataclasses.dataclass(frozen=True)
 class Meant:
-    """What an entry means: its text, what is to be recorded, the child and the school where they
-    are known, and the name that was given.
+    """What an entry means: its text, what is to be recorded, or "" where that is not known, the
+    child and the school where they are known, the name that was given, and what was not understood.
     """
 
     typed: str
@@ -40,6 +32,7 @@ class Meant:
     child: int | None = None
     school: str = ""
     name: str = ""
+    trouble: str = ""
 
 
 @dataclasses.dataclass(frozen=True)
@@ -58,9 +51,9 @@ class Entry:
 
     @property
     def command(self) -> Command | None:
-        """The command, where child and school are known."""
+        """The command, where all of it is understood and child and school are known."""
         it = self.meant
-        if it.child is None or not it.school:
+        if it.child is None or not it.school or not it.kind or it.trouble:
             return None
         return {"cmd": it.kind, "child": it.child, "school": it.school}
 
@@ -79,14 +72,13 @@ class Names:
     @functools.cached_property
     def words(self) -> dict[int, list[str]]:
         """The words of each name, to be compared."""
-        children = self.register.children.items()
-        return {number: texts.folded(it.name).split() for number, it in children}
+        return {number: words_of(it.name) for number, it in self.register.children.items()}
 
     def matches(self, text: str) -> list[int]:
         """The children that a name can mean: those whose name has each of its words, else those
         with words that begin so.
         """
-        words = texts.folded(text).split()
+        words = words_of(text)
         if not words:
             return []
         found = [number for number, name in self.words.items() if set(words) <= set(name)]
@@ -95,75 +87,11 @@ class Names:
             if all(any(part.startswith(word) for part in name) for word in words)]
 
 
-def read(names: Names, entry: str) -> Meant:
-    """What a typed entry means. The school is that of the child's place."""
-    typed = entry.strip()[:MOST_TYPED]
-    found = ENTRY.fullmatch(typed)
-    assert found
-    text, kind = found["text"], "decline" if found["minus"] else "accept"
-    child, name = None, ""
-    if number := NUMBER.fullmatch(text):
-        child, name = int(number["number"]), (number["name"] or "").strip()
-    elif len(children := names.matches(text)) == 1:
-        child = children[0]
-    return with_school(names.register, Meant(typed, kind, child, "", name))
-
-
 def with_school(register: Register, meant: Meant) -> Meant:
     """The same with the school of the child's place."""
     place = register.places.get(meant.child) if meant.child else None
     is_open = place is not None and place.kind != model.PLAN
     return dataclasses.replace(meant, school=place.school if place and is_open else "")
-
-
-def text_of(typed: str) -> str:
-    """What is typed of a child, without the minus."""
-    found = ENTRY.fullmatch(typed)
-    return found["text"] if found else ""
-
-
-def of_rows(names: Names, rows: Sequence[Row]) -> list[Meant]:
-    """What the rows of a sheet mean: replies as accept,23,ELM,Bo Bell; or typed entries, each with
-    a name beside it if there is one.
-    """
-    if not rows:
-        raise Refused("there is nothing in it")
-    if other := kinds.of_columns(rows[0].cells, None):
-        # (what is to be done with it is said for a terminal)
-        raise Refused(f"it is {other.partition(':')[0]}")
-    if is_replies(rows):
-        return of_replies(rows)
-    made = []
-    for row in rows:
-        first, *others = (it.strip() for it in row.cells)
-        meant = read(names, first)
-        name = next(filter(None, others), "")
-        made.append(dataclasses.replace(meant, name=meant.name or name))
-    return made
-
-
-def of_replies(rows: Sequence[Row]) -> list[Meant]:
-    """What the rows of a sheet of replies mean."""
-    try:
-        found = replies.read("it", rows, None, "")
-    except Refused as error:
-        raise Refused(str(error).removeprefix("nothing was sent: ")) from error
-    wrong = [it for one in found for it in one.wrong]
-    if wrong:
-        more = len(wrong) - MOST_WRONG
-        raise Refused(f"correct it first: {'; '.join(wrong[:MOST_WRONG])}"
-                      f"{f'; and {more:,} more' if more > 0 else ''}")
-    return [Meant(", ".join(filter(None, it.row.cells))[:MOST_TYPED], it.command["cmd"],
-                  it.command["child"], it.command["school"], it.name) for it in found]
-
-
-def is_replies(rows: Sequence[Row]) -> bool:
-    """Whether rows have a header of replies, or a reply in the first column of most."""
-    names = replies.names_in(rows[0].cells)
-    if {"child", "school"} <= set(names):
-        return True
-    count = sum(bool(it.cells) and it.cells[0].strip().lower() in replies.ANSWERS for it in rows)
-    return 2 * count > len(rows)
 
 
 def of_place(register: Register, meant: Meant) -> str:
@@ -182,7 +110,7 @@ def of_place(register: Register, meant: Meant) -> str:
 def of_list(register: Register, meant: Meant) -> str:
     """Why a child cannot leave a waiting list, or ""."""
     application = register.applications.get(meant.child or 0)
-    it = application.listed.get(meant.school) if application else None
+    it = application.at(meant.school) if application else None
     waits = it is not None and it.state == model.WAITS
     return "" if waits else f"the child does not wait at {meant.school}"
 
@@ -200,7 +128,19 @@ AGAINST = {"accept": of_place, "decline": of_place, "leave_list": of_list, "name
 
 def candidates(names: Names, meant: Meant) -> list[int]:
     """The children among whom a name does not decide."""
-    return names.matches(text_of(meant.typed)) if meant.child is None else []
+    return names.matches(meant.name) if meant.child is None else []
+
+
+def is_of(given: str, name: str) -> bool:
+    """Whether a name that was given is that of a child, and has no word beside it: that may say
+    something about the answer.
+    """
+    return texts.is_alike(given, name) and len(words_of(given)) <= len(words_of(name))
+
+
+def words_of(name: str) -> list[str]:
+    """The words of a name, to be compared."""
+    return texts.folded(name).split()
 
 
 def conflicts(desk: Desk, names: Names, entry: Entry, others: Iterable[Entry]) -> list[str]:
@@ -208,19 +148,19 @@ def conflicts(desk: Desk, names: Names, entry: Entry, others: Iterable[Entry]) -
     pile for the same child.
     """
     meant, register = entry.meant, names.register
+    found = [meant.trouble]
     if meant.child is None:
         count = len(candidates(names, meant))
         have = texts.count(count, "child has a name", "children have names")
-        return [f"{have} like it: enter the number"]
+        return [*filter(None, found), f"{have} like it: enter the number"]
     child = register.children.get(meant.child)
     if child is None:
-        return [f"the register has no child {meant.child}"]
-    found = []
-    if meant.name and not texts.is_alike(meant.name, child.name):
+        return [*filter(None, found), f"the register has no child {meant.child}"]
+    if meant.name and not is_of(meant.name, child.name):
         found.append(f"the name given is {texts.shown(meant.name)}")
     command = entry.command
     changed = desk.changed(register, command, Seen(entry.seen)) if command else ""
-    found.append(changed or AGAINST[meant.kind](register, meant))
+    found.append(changed or (AGAINST[meant.kind](register, meant) if meant.kind else ""))
     found.append(of_others(entry, others))
     return list(filter(None, found))
 

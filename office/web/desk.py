@@ -6,15 +6,16 @@ import dataclasses
 import datetime
 import gc
 import json
+import math
 import threading
 import time
-from collections.abc import Callable, Iterator
+from collections.abc import Callable, Iterator, Mapping
 from typing import Any
 
 from register_files import Refused
 
 from office import commands, days, model, senders
-from office.model import Register
+from office.model import Members, Register
 
 from . import effects
 from .history import ANSWER, SENDS, SETTLED, Entry, History
@@ -29,6 +30,9 @@ AGAIN_SECONDS = 1.0
 MOST_LINE = 1000
 # these are held on a screen of their own, with a second person
 DRAWS = ("round", "fill")
+# the child or the school that a request is about, by the name of its field; or any of them
+Subject = tuple[str, int | str]
+ANY: Subject = ("", "")
 DONE, REFUSED, DIFFERS, UNSENT, LOST = "done", "refused", "differs", "unsent", "not done"
 
 
@@ -56,57 +60,77 @@ class Seen:
     text: str
 
 
-def seen_of(register: Register, command: Command) -> Seen:
+def seen_of(register: Members, command: Command) -> Seen:
     """What a command rests on, of a register."""
     return Seen(json.dumps(RESTS_ON[command["cmd"]](register, command), sort_keys=True))
 
 
-def seen_by(register: Register, command: Command, row: dict[str, Any] | None) -> Seen:
-    """What a command rests on, of the child or the school of a register's document that somebody
+def seen_by(command: Command, row: dict[str, Any] | None) -> Seen:
+    """What a command rests on, of the child or the school of the register's document that somebody
     saw, or None where there was none.
     """
     rows = [] if row is None else [row]
     is_child = "child" in command
-    return seen_of(
-        model.with_rows(register, [] if is_child else rows, rows if is_child else []), command)
+    return seen_of(model.of_rows("the register", [] if is_child else rows,
+                                 rows if is_child else []), command)
 
 
-def place_in(register: Register, command: Command) -> Any:
+def place_in(register: Members, command: Command) -> Any:
     """The place of the command's child."""
     place = register.places.get(command["child"])
     return [place.school, place.kind, str(place.day), str(place.reminded)] if place else None
 
 
-def data_in(register: Register, command: Command) -> Any:
+def data_in(register: Members, command: Command) -> Any:
     """The data of the command's child."""
     child = register.children.get(command["child"])
     return child.data if child else None
 
 
-def wait_in(register: Register, command: Command) -> Any:
+def application_in(register: Members, command: Command) -> Any:
+    """The data, the place and the application of the command's child."""
+    found = register.applications.get(command["child"])
+    return [data_in(register, command), place_in(register, command),
+            [str(found.day), list(found.preferences)] if found else None]
+
+
+def wait_in(register: Members, command: Command) -> Any:
     """Whether the command's child waits at the school."""
     found = register.applications.get(command["child"])
-    state = found.listed.get(command["school"]) if found else None
+    state = found.at(command["school"]) if found else None
     return state.state if state else None
 
 
-def school_in(register: Register, command: Command) -> Any:
+def school_in(register: Members, command: Command) -> Any:
     """The admission number of the command's school."""
     school = register.schools.get(command["school"])
     return school.pan if school else None
 
 
-def draws_in(register: Register, _command: Command) -> Any:
+def draws_in(register: Members, _command: Command) -> Any:
     """How many draws there are."""
     return len(register.draws)
 
 
-RESTS_ON: dict[str, Callable[[Register, Command], Any]] = {
+RESTS_ON: dict[str, Callable[[Members, Command], Any]] = {
     "add_school": school_in, "raise_pan": school_in,
-    "add_child": data_in, "amend": data_in, "apply": data_in,
+    "add_child": data_in, "amend": data_in, "apply": application_in,
     "accept": place_in, "decline": place_in, "remind": place_in, "lapse": place_in,
     "name_plan": place_in, "leave_list": wait_in, "round": draws_in, "fill": draws_in,
 }
+
+
+def subject(about: dict[str, Any]) -> Subject:
+    """The child or the school that a request is about. What a command rests on is of its own child
+    or school, and no command about another changes it. A draw changes any; and so may an import,
+    and a line of which nothing is known here.
+    """
+    command: Command = about.get("command", {})
+    if command.get("cmd") not in DRAWS:
+        for name in ("child", "school"):
+            if name in command:
+                return name, command[name]
+    return ANY
 
 
 # what somebody recorded, in a sentence; accept and decline are as they are
@@ -116,6 +140,11 @@ NAMES = {
     "leave_list": "a departure from a list", "name_plan": "a plan", "round": "a round",
     "fill": "a fill",
 }
+
+
+def line_of(command: Command) -> bytes:
+    """A command as it is sent."""
+    return json.dumps(command, separators=(",", ":"), ensure_ascii=False).encode()
 
 
 def is_about(register: Register, entry: Entry, number: int) -> bool:
@@ -157,29 +186,50 @@ class Desk:
         self, sender: senders.Http, record: History, clock: Callable[[], float] = time.monotonic
     ) -> None:
         self.sender, self.history, self.clock = sender, record, clock
+        self.source = model.Server(sender)
         self.lock, self.reading = threading.RLock(), threading.Lock()
         self.copy: tuple[float, Register, bytes] | None = None
-        # when something was sent last, before which no copy is of the present
+        # when something was sent last, before which no copy is of the present; and when about each
+        # child and school, and about any
         self.sent = clock()
+        self.sent_about: dict[Subject, float] = {ANY: self.sent}
         # why nobody but a draw may send, or ""
         self.closed: Callable[[], str] = str
 
-    def read(self, is_now: bool = False) -> tuple[Register, bytes]:
+    def read(
+        self, is_now: bool = False, command: Command | None = None
+    ) -> tuple[Register, bytes]:
         """The register as it is, and its document; or as it was some seconds ago, if nothing was
-        sent since.
+        sent since, or nothing by which what a command rests on has changed.
         """
         asked = self.clock()
         with self.reading:
-            since = asked if is_now else max(self.sent, asked - FRESH_SECONDS)
+            sent = self.sent if command is None else self.sent_for(command)
+            since = asked if is_now else max(sent, asked - FRESH_SECONDS)
             if self.copy and self.copy[0] >= since:
                 return self.copy[1:]
             moment = self.clock()
             document = self.document()
-            with uncollected():
-                register = model.of_document(
-                    model.Server(self.sender), model.parsed(self.sender.named(), document))
-            self.copy = moment, register, document
-            return register, document
+            self.copy = moment, self.shown(document), document
+            return self.copy[1:]
+
+    def shown(self, document: bytes) -> Register:
+        """The register of a document, which is made out once."""
+        if self.copy and self.copy[2] == document:
+            return self.copy[1].shown_again()
+        with uncollected():
+            return model.of_document(self.source, model.parsed(self.source.name, document))
+
+    def sent_for(self, command: Command) -> float:
+        """When something was sent last by which what a command rests on may have changed."""
+        found = subject({"command": command})
+        if found == ANY:
+            return self.sent
+        return max(self.sent_about.get(it, -math.inf) for it in (found, ANY))
+
+    def mark(self, about: dict[str, Any]) -> None:
+        """Keeps the moment of a request, whatever came of it."""
+        self.sent = self.sent_about[subject(about)] = self.clock()
 
     def asked(self, path: str, question: bytes | None = None) -> tuple[int, bytes]:
         """The register's own answer to a path, or to a question that changes nothing."""
@@ -201,14 +251,23 @@ class Desk:
         """The register as it is, or as it was some seconds ago if nothing was sent since."""
         return self.read()[0]
 
+    def compared(self, command: Command) -> Register:
+        """The register as it is in what a command rests on. So in a row of commands about different
+        children not each one waits for all children to be read again.
+        """
+        return self.read(command=command)[0]
+
     def now(self) -> Register:
         """The register as it is."""
         return self.read(True)[0]
 
     def send(
-        self, who: Person, command: Command, seen: Seen | None = None, draw: bool = False
+        self, who: Person, command: Command, seen: Seen | None = None, draw: bool = False,
+        point: str = "",
     ) -> Result:
-        """Sends a command if what it rests on is as it was seen."""
+        """Sends a command if what it rests on is as it was seen. Where the point of a home came
+        from is in the history beside it.
+        """
         if command["cmd"] in DRAWS and not draw:
             return Result(UNSENT, "Nothing was sent: a round or a fill is held on the screen of"
                                   " draws, where a second person confirms it.")
@@ -217,8 +276,9 @@ class Desk:
                 return Result(UNSENT, reason)
             if seen is not None and (said := self.difference(command, seen)):
                 return Result(DIFFERS, said)
-            line = json.dumps(command, separators=(",", ":"), ensure_ascii=False).encode()
-            return self.exchange(who, {"command": command}, lambda: self.sender.send(line))
+            line = line_of(command)
+            about: dict[str, Any] = {"command": command, **({"point": point} if point else {})}
+            return self.exchange(who, about, lambda: self.sender.send(line))
 
     def pass_on(self, who: Person, line: bytes) -> Result:
         """Sends what is no command as far as is known here, for what the register says of it. It
@@ -230,13 +290,33 @@ class Desk:
             about = {"line": line.decode("utf-8", "replace")[:MOST_LINE]}
             return self.exchange(who, about, lambda: self.sender.send(line))
 
-    def send_import(self, who: Person, rows: bytes) -> Result:
-        """Sends the rows of an import, which are stored all or not at all."""
+    def send_import(
+        self, who: Person, rows: bytes, points: Mapping[str, str] | None = None
+    ) -> Result:
+        """Sends the rows of an import, which are stored all or not at all. Where the points of
+        their homes came from, by the children's numbers, is in the history beside them.
+        """
         with self.lock:
             if reason := self.reason(False):
                 return Result(UNSENT, reason)
-            return self.exchange(
-                who, {"import": rows.decode()}, lambda: self.sender.imported(rows))
+            about: dict[str, Any] = {
+                "import": rows.decode(), **({"points": dict(points)} if points else {})}
+            return self.exchange(who, about, lambda: self.sender.imported(rows))
+
+    def send_again(self, who: Person, entry: Entry, is_closed: bool) -> Result:
+        """Sends once more what an entry sent to a register that was restored since. Who recorded it
+        first, and when, stays with it.
+        """
+        first = entry.about.get("again") or {"of": entry.number, "who": entry.who, "at": entry.at}
+        about: dict[str, Any] = {**entry.about, "again": first}
+        with self.lock:
+            if reason := self.reason(is_closed):
+                return Result(UNSENT, reason)
+            if "import" in about:
+                rows: str = about["import"]
+                return self.exchange(who, about, lambda: self.sender.imported(rows.encode()))
+            line = line_of(about["command"])
+            return self.exchange(who, about, lambda: self.sender.send(line))
 
     def reason(self, draw: bool) -> str:
         """Why nothing can be sent now, or ""."""
@@ -251,7 +331,7 @@ class Desk:
     def difference(self, command: Command, seen: Seen) -> str:
         """What has changed since a command was decided, or ""."""
         try:
-            said = self.changed(self.register(), command, seen)
+            said = self.changed(self.compared(command), command, seen)
         except Refused as error:
             return f"Nothing was sent. {error}"
         return f"{said} Nothing was sent." if said else ""
@@ -281,7 +361,7 @@ class Desk:
         except senders.Ended as error:
             return self.lost(entry, error)
         finally:
-            self.sent = self.clock()
+            self.mark(about)
         value = commands.read(answer)
         if isinstance(value, dict) and value.get("failed"):
             # (stored wholly or not at all, and only a look at the register says which)

@@ -72,7 +72,7 @@ def waiting(register: Register, code: str, words: Mapping[int, str]) -> list[Wai
     """The waiting list of a school."""
     school, found = register.schools[code], []
     for child, application in register.applications.items():
-        it = application.listed.get(code)
+        it = application.at(code)
         if it and it.state == model.WAITS and it.position is not None:
             name, said = register.children[child].name, criteria.in_words(school, it.number, words)
             found.append(Waiting(it.position, child, name, it.number, said, it.metres))

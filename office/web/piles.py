@@ -23,13 +23,14 @@ from .store import Store
 WAITS, SENDING, DONE = "waits", "sending", "done"
 # a pile of a season, and more than a person types in a day
 MOST = 2000
-FIELDS = ("person", "typed", "kind", "child", "school", "name", "seen", "state", "said", "after")
+FIELDS = ("person", "typed", "kind", "child", "school", "name", "trouble", "seen", "state", "said",
+          "after")
 
 
 @dataclasses.dataclass(frozen=True)
 class Shown:
     """An entry as it is shown: the name of its child, what speaks against it, and what is said
-    beside it; and the children that its name can mean.
+    beside it; the children that its name can mean; and whether the name given is another.
     """
 
     entry: Entry
@@ -37,6 +38,7 @@ class Shown:
     conflicts: tuple[str, ...]
     note: str
     candidates: tuple[tuple[int, str], ...]
+    is_other_name: bool
 
     @property
     def is_ready(self) -> bool:
@@ -46,7 +48,8 @@ class Shown:
 
 def entry_of(row: sqlite3.Row) -> Entry:
     """The entry of a row."""
-    meant = Meant(row["typed"], row["kind"], row["child"], row["school"], row["name"])
+    meant = Meant(row["typed"], row["kind"], row["child"], row["school"], row["name"],
+                  row["trouble"])
     return Entry(row["number"], row["person"], meant, row["seen"], row["state"], row["said"],
                  row["after"])
 
@@ -55,6 +58,13 @@ def digest(entries: Iterable[Entry]) -> str:
     """What is to be recorded or removed, in short: only what was shown is."""
     text = json.dumps([[it.number, it.meant.typed, it.command, it.seen] for it in entries])
     return hashlib.sha256(text.encode()).hexdigest()
+
+
+def see_size(db: sqlite3.Connection, person: str) -> None:
+    """Refuses a pile that is too large."""
+    count = db.execute("SELECT count(*) FROM answer WHERE person=?", (person,)).fetchone()
+    if count[0] > MOST:
+        raise Refused(f"a pile has at most {MOST:,} answers: record those that are there")
 
 
 class Piles:
@@ -84,16 +94,15 @@ class Piles:
         marks = ", ".join("?" for _ in FIELDS)
         with self.store.writing() as db:
             db.executemany(f"INSERT INTO answer ({', '.join(FIELDS)}) VALUES ({marks})", rows)
-            count = db.execute("SELECT count(*) FROM answer WHERE person=?", (person,)).fetchone()
-            if count[0] > MOST:
-                raise Refused(f"a pile has at most {MOST:,} answers: record those that are there")
+            see_size(db, person)
         return len(rows)
 
     def values(self, person: str, register: Register, it: Meant) -> tuple[object, ...]:
         """The values of a new entry."""
         entry = Entry(0, person, it, "", WAITS, "", 0)
         seen = seen_of(register, entry.command).text if entry.command else ""
-        return (person, it.typed, it.kind, it.child, it.school, it.name, seen, WAITS, "", 0)
+        return (person, it.typed, it.kind, it.child, it.school, it.name, it.trouble, seen, WAITS,
+                "", 0)
 
     def remove(self, person: str, numbers: Iterable[int]) -> None:
         """Removes entries that are not being sent."""
@@ -105,18 +114,19 @@ class Piles:
         """Gives an entry that waits another meaning: a child that was chosen, or a name that is
         right.
         """
-        _, _, kind, child, school, name, seen, *_ = self.values(entry.person, register, meant)
+        _, _, kind, child, school, name, _, seen, *_ = self.values(entry.person, register, meant)
         with self.store.writing() as db:
             db.execute("UPDATE answer SET kind=?, child=?, school=?, name=?, seen=?, said=''"
                        " WHERE number=? AND person=? AND state=?",
                        (kind, child, school, name, seen, entry.number, entry.person, WAITS))
 
     def begin(self, entry: Entry) -> bool:
-        """Marks an entry as being sent, unless it was removed meanwhile."""
+        """Marks an entry as being sent, unless it was removed or handed over meanwhile."""
         after = len(self.desk.history.entries)
         with self.store.writing() as db:
             found = db.execute("UPDATE answer SET state=?, said='', after=? WHERE number=?"
-                               " AND state=?", (SENDING, after, entry.number, WAITS))
+                               " AND person=? AND state=?",
+                               (SENDING, after, entry.number, entry.person, WAITS))
             return bool(found.rowcount)
 
     def set_state(self, number: int, state: str, said: str) -> None:
@@ -144,7 +154,26 @@ class Piles:
         named = tuple((it, children[it].name)
                       for it in answers.candidates(names, entry.meant)[:answers.MOST_NAMED])
         note = answers.by_colleagues(entry, colleagues)
-        return Shown(entry, child.name if child else "", tuple(found), note, named)
+        given, name = entry.meant.name, child.name if child else ""
+        is_other = bool(given and name) and not answers.is_of(given, name)
+        return Shown(entry, name, tuple(found), note, named, is_other)
+
+    def waiting(self, person: str) -> dict[str, int]:
+        """How many answers wait in the piles of others, by whose they are."""
+        rows = self.store.rows("SELECT person, count(*) AS many FROM answer WHERE person<>?"
+                               " AND state<>? GROUP BY person ORDER BY person", person, DONE)
+        return {row["person"]: row["many"] for row in rows}
+
+    def hand_over(self, owner: str, to: str, entries: Iterable[Entry]) -> None:
+        """Gives all of these entries to another person: all or none."""
+        numbers = [it.number for it in entries]
+        with self.store.writing() as db:
+            moved = db.executemany(
+                "UPDATE answer SET person=? WHERE person=? AND number=? AND state=?",
+                [(to, owner, it, WAITS) for it in numbers]).rowcount
+            if moved != len(numbers):
+                raise Refused("the pile has changed since it was shown")
+            see_size(db, to)
 
     def is_running(self, person: str) -> bool:
         """Whether the pile of a person is being recorded."""

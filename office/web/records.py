@@ -2,15 +2,15 @@
 the draws in which the child took part.
 """
 import dataclasses
-from collections.abc import Callable, Iterable, Iterator, Mapping
+from collections.abc import Callable, Iterator, Mapping, Sequence
 from typing import Any
 
 from office import commands, days, rules, texts
 from office.model import Register
 
-from . import effects
-from .history import ANSWER, SENDS, SETTLED, Entry, History
-from .wording import draw_in_words, label, sentence
+from . import effects, lineage
+from .history import ANSWER, RESTORED, SENDS, SETTLED, Entry, History, says_done
+from .wording import draw_in_words, label, moment, sentence
 
 Command = Mapping[str, Any]
 DRAWS = ("round", "fill")
@@ -77,6 +77,8 @@ def came_of(entry: Entry, ends: Mapping[int, Entry]) -> tuple[str, bool]:
     end = ends.get(entry.number)
     if end is None:
         return "no answer yet", False
+    if end.what == RESTORED:
+        return f"done, and undone when copy {end.about['copy']} was restored", False
     if end.what != ANSWER:
         is_done = bool(end.about["done"])
         return ("done, as the register shows" if is_done else "not done"), is_done
@@ -94,9 +96,23 @@ def row_in(rows: str, number: int) -> dict[str, str] | None:
     return next((it for it in effects.rows_of(rows) if it.get("child") == text), None)
 
 
-def ends_of(entries: Iterable[Entry]) -> dict[int, Entry]:
-    """What came of the requests, by their numbers."""
-    return {it.about["of"]: it for it in entries if it.what in (ANSWER, SETTLED)}
+def ends_of(entries: Sequence[Entry]) -> dict[int, Entry]:
+    """What came of the requests, by their numbers: of those that are done and undone the restore.
+    """
+    found = {it.about["of"]: it for it in entries if it.what in (ANSWER, SETTLED)}
+    restores = [(it.number, it.about["position"]) for it in entries if it.what == RESTORED]
+    if restores:
+        there = lineage.of(restores, len(entries))
+        for number in [at for at, it in found.items() if at not in there and says_done(it)]:
+            by = lineage.undone_by(restores, number)
+            found[number] = entries[by - 1] if by else found[number]
+    return found
+
+
+def first_by(entry: Entry) -> str:
+    """Who recorded first what was sent again after a restore, or ""."""
+    first = entry.about.get("again")
+    return f", recorded first by {first['who']} on {moment(first['at'])}" if first else ""
 
 
 def of_child(history: History, register: Register, number: int) -> list[Record]:
@@ -113,11 +129,14 @@ def of_child(history: History, register: Register, number: int) -> list[Record]:
         if command.get("cmd") in DRAWS and is_done:
             draws[command["draw"]] = it
         elif command.get("child") == number:
-            found.append(Record(it.at, it.who, in_words(command, before), came, is_done))
+            words = in_words(command, before) + said_of_point(it.about.get("point")) + first_by(it)
+            found.append(Record(it.at, it.who, words, came, is_done))
             before = command if is_done and command["cmd"] in WHOLE else before
         elif "import" in it.about and (row := row_in(it.about["import"], number)):
             words = f"imported, with the application of {day_in(row)}: {row.get('preferences')}"
-            found.append(Record(it.at, it.who, words.replace(";", ", "), came, is_done))
+            words = words.replace(";", ", ") + said_of_point(points_in(it).get(str(number)))
+            words += first_by(it)
+            found.append(Record(it.at, it.who, words, came, is_done))
     found += [of_draw(register, at, number, draws.get(at)) for at, outcomes
               in register.outcomes.items() if number in outcomes]
     return sorted(found, key=lambda it: it.at, reverse=True)
@@ -135,6 +154,32 @@ def of_draw(register: Register, at: int, number: int, entry: Entry | None) -> Re
     who = entry.who if entry and is_this else ""
     words = f"{draw_in_words(draw)}, {days.in_words(draw.day)}"
     return Record(when, who, words, came, True)
+
+
+def said_of_point(source: str | None) -> str:
+    """What is said of where the point of a home came from."""
+    return f"; point {source}" if source else ""
+
+
+def points_in(entry: Entry) -> Mapping[str, str]:
+    """Where the points of an import came from, by the children's numbers."""
+    found: Mapping[str, str] = entry.about.get("points", {})
+    return found
+
+
+def point_of(history: History, number: int) -> str:
+    """Where the point of a child's home came from, as it was recorded last, or ""."""
+    found, at = "", (0, 0)
+    for it in reversed(list(history.done())):
+        command = it.about.get("command", {})
+        if source := points_in(it).get(str(number)):
+            row = row_in(it.about["import"], number) or {}
+            found, at = source, (int(row.get("east", 0)), int(row.get("north", 0)))
+        elif command.get("child") == number and command["cmd"] in WHOLE:
+            was, at = at, (command["east"], command["north"])
+            # (a correction that was made elsewhere may have moved the home, or not)
+            found = it.about.get("point") or (found if was == at else "")
+    return found
 
 
 def last_of(history: History, who: str, number: int) -> str:

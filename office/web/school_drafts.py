@@ -127,7 +127,7 @@ def store_all(desk: Desk, who: Person, draft: Draft, words: Words, shown: str) -
 def store_one(desk: Desk, who: Person, line: Line) -> Result:
     """Stores a school, unless the register has it."""
     assert line.command is not None
-    register = desk.register()
+    register = desk.compared(line.command)
     there = register.schools.get(line.command["school"])
     if there is None:
         result = desk.send(who, line.command, seen_of(register, line.command))

@@ -16,7 +16,9 @@ from register_files import Refused
 from office import fields
 from office.rules import LIMITS
 
+from . import points
 from .history import History, now
+from .points import Point
 from .staging_files import Given, Read
 from .staging_rows import (
     COMMITTED, OPEN, SENDING, WITHDRAWN, File, Staged, named, packed, packed_notes, places_of,
@@ -135,8 +137,11 @@ class Staging:
             made = f"{name} ({number})"
         return made
 
-    def add_form(self, who: str, cells: Mapping[str, str]) -> int:
-        """Adds a row that was typed into a form, and returns its id."""
+    def add_form(self, who: str, cells: Mapping[str, str], others: Mapping[str, str],
+                 point: Point) -> int:
+        """Adds a row that was typed into a form, with what it has beside an application and where
+        its point came from, and returns its id.
+        """
         see_lengths(cells)
         moment = now()
         with self.lock:
@@ -146,12 +151,14 @@ class Staging:
                                   file["id"] if file else 0)
             number = (last["last"] or 0) + 1 if last else 1
             self.history.add(who, "added an application", {
-                "form": number, **{it: told(text) for it, text in cells.items() if text}})
+                "form": number, **{it: told(text) for it, text in cells.items() if text},
+                "point": point.words})
             with self.writing() as db:
                 made = file["id"] if file else db.execute(
                     "INSERT INTO staged_file (name, digest, is_form, is_uk, changes, who, added)"
                     " VALUES (?, '', 1, 1, '[]', ?, ?)", (FORM, who, moment)).lastrowid
-                return insert(db, made or 0, Given(number, dict(cells), {}, ()), who, moment)
+                given = Given(number, dict(cells), dict(others), ())
+                return insert(db, made or 0, given, who, moment, point)
 
     def numbers(self) -> set[int]:
         """The numbers of children in the table, also of rows that were withdrawn or stored."""
@@ -180,9 +187,11 @@ class Staging:
                 self.history.add(who, f"{what} an application",
                                  {"row": found.where, **named(found), **changes})
                 with self.writing() as db:
-                    db.execute("UPDATE staged_row SET cells=?, notes='[]', version=version+1,"
-                               " changed_by=?, changed=? WHERE id=?",
-                               (packed({**found.cells, **cells}), who, now(), number))
+                    db.execute("UPDATE staged_row SET cells=?, notes='[]', point=?,"
+                               " version=version+1, changed_by=?, changed=? WHERE id=?",
+                               (packed({**found.cells, **cells}),
+                                points.after(found.point, found.cells, cells).packed(), who, now(),
+                                number))
             return self.row(number)
 
     def move(self, who: str, rows: Iterable[tuple[int, int]], state: str) -> list[Staged]:
@@ -214,14 +223,25 @@ class Staging:
             self.history.add(who, "merged applications", {
                 "into": kept.where, "withdrawn": given.where, **named(kept), **filled})
             notes = [it for it in kept.notes if it.column not in filled]
+            point = kept.point if points.has_any(kept.cells) else given.point
             with self.writing() as db:
-                db.execute("UPDATE staged_row SET cells=?, others=?, notes=?, version=version+1,"
-                           " changed_by=?, changed=? WHERE id=?",
-                           (packed(cells), packed(others), packed_notes(notes), who, now(),
-                            kept.id))
+                db.execute("UPDATE staged_row SET cells=?, others=?, notes=?, point=?,"
+                           " version=version+1, changed_by=?, changed=? WHERE id=?",
+                           (packed(cells), packed(others), packed_notes(notes), point.packed(),
+                            who, now(), kept.id))
                 db.execute("UPDATE staged_row SET state=?, version=version+1, changed_by=?,"
                            " changed=? WHERE id=?", (WITHDRAWN, who, now(), given.id))
             return self.row(kept.id)
+
+    def set_points(self, rows: Iterable[tuple[Staged, Mapping[str, str], Mapping[str, str], Point]],
+                   who: str) -> None:
+        """Gives rows other cells, other columns beside them, and where their points came from."""
+        with self.writing() as db:
+            db.executemany(
+                "UPDATE staged_row SET cells=?, others=?, point=?, version=version+1, changed_by=?,"
+                " changed=? WHERE id=?",
+                [(packed(cells), packed(others), point.packed(), who, now(), it.id)
+                 for it, cells, others, point in rows])
 
     def read_uk(self, who: str, file: int) -> None:
         """Says of a file that all its days are day, month and year."""
@@ -236,11 +256,12 @@ class Staging:
                            " (?, ?)", (file, OPEN, WITHDRAWN))
 
 
-def insert(db: sqlite3.Connection, file: int, it: Given, who: str, moment: str) -> int:
+def insert(db: sqlite3.Connection, file: int, it: Given, who: str, moment: str,
+           point: Point = Point()) -> int:
     """Stores a new row, and returns its id."""
     made = db.execute(
         "INSERT INTO staged_row (file, number, cells, others, notes, state, who, added, changed_by,"
-        " changed) VALUES (?, ?, ?, ?, ?, ?, ?, ?, ?, ?)",
+        " changed, point) VALUES (?, ?, ?, ?, ?, ?, ?, ?, ?, ?, ?)",
         (file, it.number, packed(it.cells), packed(it.others), packed_notes(it.notes), OPEN, who,
-         moment, who, moment)).lastrowid
+         moment, who, moment, point.packed())).lastrowid
     return made or 0

@@ -10,6 +10,7 @@ from office.check import ERROR, FIXED, LOOK, Context, Finding
 from office.model import PLAN, Register, School
 from office.rules import LIMITS
 
+from . import points
 from .staging_rows import Staged
 
 SAME_NUMBER, ALIKE = "the same number", "a similar name at the same home, or nearby"
@@ -80,6 +81,8 @@ def checked(it: Staged, register: Register | None) -> Checked:
     context = Context(register.schools if register else {}, it.is_uk)
     for column in fields.COLUMNS:
         check.read_field(row, column, it.cells[column], context, add, column in broken)
+    for said_of in points.findings(it.point, it.cells):
+        add(it.id, "east", it.cells["east"], said_of, LOOK)
     if register:
         check.see_days([row], register, add)
         check.see_homes([row], register, add)

@@ -61,6 +61,11 @@ class Commit:
         return sheet.csv_bytes([fields.COLUMNS, *(values_of(it.row) for it in self.rows)])
 
     @property
+    def points(self) -> dict[str, str]:
+        """Where the points of the children came from, by their numbers."""
+        return {it.row.fields["child"]: it.staged.point_words for it in self.rows}
+
+    @property
     def differing(self) -> list[tuple[Staged, Differences]]:
         """The rows whose child the register has with other values, and those values."""
         return [(self.table.rows[at].staged, found) for at, found in self.table.differing.items()]
@@ -137,7 +142,7 @@ class Committing:
 
     def __init__(
         self, staging: Staging, checker: Checker, desk: Desk, record: History,
-        copy: Callable[[str], object],
+        copy: Callable[[str, str], object],
     ) -> None:
         self.staging, self.checker, self.desk, self.history = staging, checker, desk, record
         self.copy = copy
@@ -162,11 +167,11 @@ class Committing:
             if not found.rows:
                 self.mark(found.equal, COMMITTED)
                 return Outcome(True, "", None, len(found.equal))
-            self.copy(PURPOSE)
+            self.copy(PURPOSE, who.name)
             # (an earlier entry may have sent the same rows, to a register that was restored since)
             sent = f"{len(self.history.entries)} {digest_of(found.csv)}"
             self.mark([it.staged for it in found.rows], SENDING, sent)
-            return self.came(found, sent, self.desk.send_import(who, found.csv))
+            return self.came(found, sent, self.desk.send_import(who, found.csv, found.points))
 
     def came(self, found: Commit, sent: str, result: Result) -> Outcome:
         """What the sending came to. Where nothing was stored the rows come back at the next look,

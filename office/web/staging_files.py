@@ -6,13 +6,17 @@ from collections.abc import Iterator
 
 from register_files import Refused
 
-from office import check, fields, sheet, sheet_apart, texts
+from office import check, fields, header, sheet, sheet_apart, texts
 from office.check import ERROR, FIXED, LOOK, Check, Finding
+
+from . import gazetteer_rows
 
 MOST_NAME = 80
 ADVICE = "write the name of the one that is meant into the field Sheet"
 NO_COLUMN = "no column of an application: it is kept beside the rows, and not stored"
 LEFT_OVER = "what is too much"
+# the columns of a home's point
+POINT = ("east", "north")
 
 
 @dataclasses.dataclass(frozen=True)
@@ -57,7 +61,28 @@ def read(name: str, data: bytes, wanted: str) -> Read:
     """The rows of a file that was sent, or a refusal."""
     if not data:
         raise Refused(f"{name} is empty")
-    return rows_of(name, sheet_apart.read(name, data, wanted.strip() or None, ADVICE))
+    found = sheet_apart.read(name, data, wanted.strip() or None, ADVICE)
+    return rows_of(name, with_points(found))
+
+
+def with_points(found: sheet.Sheet) -> sheet.Sheet:
+    """A sheet with empty columns for the points of homes, where it has none and has property
+    numbers or postcodes by which they are looked up. (They are the first, so that a row with a
+    wrong number of fields is as it was.)
+    """
+    at = header.place_of(found.rows)
+    names = [header.plain(it) for it in found.rows[at].cells] if at is not None else []
+    keys = {it for what in ("property", "postcode") for it in gazetteer_rows.NAMES[what]}
+    has_point = any(header.is_near(it, wanted) for it in names for wanted in POINT)
+    if has_point or not any(gazetteer_rows.plain(it) in keys for it in names):
+        return found
+    rows = [sheet.Row(it.number, [*(POINT if place == at else ("", "")), *it.cells])
+            for place, it in enumerate(found.rows)]
+    problems = [(row, place if place is None else place + len(POINT), text, is_error)
+                for row, place, text, is_error in found.problems]
+    said = "the columns east and north are added, and are empty: points are looked up"
+    return dataclasses.replace(found, rows=rows, problems=problems,
+                               changes=[*found.changes, said])
 
 
 def rows_of(name: str, found: sheet.Sheet) -> Read:

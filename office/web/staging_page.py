@@ -8,8 +8,10 @@ from collections.abc import Iterator, Mapping, Sequence
 from office import fields, texts
 from office.check import ERROR, FIXED, LOOK, Finding
 
+from . import staging_sent
 from .staging_check import Table, said
 from .staging_rows import Staged
+from .staging_sent import Refusal
 
 PAGE = 50
 MOST_CHANGES = 30
@@ -29,8 +31,8 @@ LISTS = ("flags", "siblings", "preferences")
 
 @dataclasses.dataclass(frozen=True)
 class Cell:
-    """A cell: its text in a field of one line, what is found there (each with its style), and what
-    it is now where somebody else changed it.
+    """A cell: its text in a field of one line, what is found there (each with its style); what is
+    stored where something else was typed, and what was seen where somebody else changed it.
     """
 
     column: str
@@ -40,15 +42,28 @@ class Cell:
     found: list[tuple[str, str]]
     is_wrong: bool = False
     now: str | None = None
+    before: str | None = None
+
+    @property
+    def is_told(self) -> bool:
+        """Whether anything is said beside it."""
+        return bool(self.found) or self.now is not None or self.before is not None
 
 
 @dataclasses.dataclass(frozen=True)
 class Line:
-    """A row on the page, and what is found in the whole of it."""
+    """A row on the page, what is found in the whole of it, and what its form says was seen."""
 
     row: Staged
     cells: list[Cell]
     found: list[tuple[str, str]]
+    seen: str
+
+    @property
+    def is_doubtful(self) -> bool:
+        """Whether a person can confirm the row as it is shown, without another text."""
+        return bool(self.row.notes) or any(
+            on_one_line(it, text) != text for it, text in self.row.cells.items())
 
 
 @dataclasses.dataclass(frozen=True)
@@ -98,32 +113,47 @@ def on_one_line(column: str, text: str) -> str:
     return texts.CONTROL.sub(" ", text)
 
 
-def sent(found: Staged, given: Mapping[str, str]) -> dict[str, str]:
-    """The cells of a row as they were sent from a page."""
-    return {it: given.get(it, text) for it, text in found.cells.items()}
+def shown_of(row: Staged) -> dict[str, str]:
+    """The cells of a row as its fields show them."""
+    return {it: on_one_line(it, text) for it, text in row.cells.items()}
 
 
 def cells_of(row: Staged, table: Table | None, shared: Mapping[tuple[object, ...], int],
-             typed: Mapping[str, str] | None = None) -> Iterator[Cell]:
-    """The cells of a row; where it was changed while somebody typed, with what was typed."""
+             refused: Refusal | None = None) -> Iterator[Cell]:
+    """The cells of a row; where it could not be saved, with what was typed and why."""
     findings = table.findings.get(row.id, []) if table else []
-    for column, text in row.cells.items():
+    for column, stored in shown_of(row).items():
         here = [it for it in findings if it.column == column and not (
             it.kind == FIXED and it.change in shared)]
-        shown, now = on_one_line(column, text), None
-        if typed is not None and typed.get(column, shown) != shown:
-            shown, now = typed[column], shown
-        yield Cell(column, title_of(column), size_of(column), shown,
-                   [(CLASSES[it.kind], said(it)) for it in here],
-                   any(it.kind == ERROR for it in here), now)
+        cell = Cell(column, title_of(column), size_of(column), stored,
+                    [(CLASSES[it.kind], said(it)) for it in here],
+                    any(it.kind == ERROR for it in here))
+        yield refused_cell(cell, refused) if refused else cell
+
+
+def refused_cell(cell: Cell, refused: Refusal) -> Cell:
+    """A cell of a row that could not be saved. What was typed stays in it, beside what is stored;
+    where nothing was typed it has what is stored, beside what was seen.
+    """
+    seen = refused.typed.seen.get(cell.column, cell.value)
+    typed = refused.typed.cells.get(cell.column, seen)
+    if said_of := refused.wrong.get(cell.column):
+        error = (CLASSES[ERROR], said_of)
+        return dataclasses.replace(cell, value=typed, found=[error, *cell.found], is_wrong=True)
+    if typed == seen:
+        return cell if seen == cell.value else dataclasses.replace(cell, before=seen)
+    return cell if typed == cell.value else dataclasses.replace(cell, value=typed, now=cell.value)
 
 
 def line_of(row: Staged, table: Table | None, shared: Mapping[tuple[object, ...], int],
-            typed: Mapping[str, str] | None = None) -> Line:
+            refused: Refusal | None = None) -> Line:
     """A row as it is shown."""
     findings = table.findings.get(row.id, []) if table else []
     whole = [(CLASSES[it.kind], said(it)) for it in findings if it.column not in row.cells]
-    return Line(row, list(cells_of(row, table, shared, typed)), whole)
+    if refused:
+        whole = [(CLASSES[ERROR], f"not saved: {refused.why}"), *whole]
+    return Line(row, list(cells_of(row, table, shared, refused)), whole,
+                staging_sent.packed(row.version, shown_of(row)))
 
 
 def is_meant(row: Staged, table: Table, which: str, find: str) -> bool:
@@ -138,10 +168,10 @@ def is_meant(row: Staged, table: Table, which: str, find: str) -> bool:
     return not wanted or wanted in texts.folded(row.cells["name"])
 
 
-def page_of(table: Table, which: str, find: str, number: int, first: int | None = None,
-            typed: Mapping[str, str] | None = None) -> Page:
-    """A page of the table: the rows with errors first. The row of an id that was just saved is
-    before all others, so that it is not looked for.
+def page_of(table: Table, which: str, find: str, number: int, first: Sequence[int] = (),
+            refused: Mapping[int, Refusal] | None = None) -> Page:
+    """A page of the table: the rows with errors first. Those that were just saved, or could not be,
+    are before all others, so that they are not looked for.
     """
     rows = [it.staged for it in table.rows.values()]
     meant = [it for it in rows if is_meant(it, table, which, find)]
@@ -149,19 +179,18 @@ def page_of(table: Table, which: str, find: str, number: int, first: int | None 
     last = max(1, -(-len(meant) // PAGE))
     number = min(max(number, 1), last)
     shown = meant[(number - 1) * PAGE:number * PAGE]
-    pinned = table.rows.get(first) if first is not None else None
-    if pinned:
-        shown = [pinned.staged, *(it for it in shown if it.id != first)]
+    pinned = [table.rows[it].staged for it in dict.fromkeys(first) if it in table.rows]
+    shown = [*pinned, *(it for it in shown if it.id not in first)]
     shared = table.shared()
-    lines = [line_of(it, table, shared, typed if it.id == first else None) for it in shown]
+    lines = [line_of(it, table, shared, (refused or {}).get(it.id)) for it in shown]
     return Page(lines, len(meant), number, last)
 
 
-def focus_of(page: Page, first: int | None) -> tuple[int, str] | None:
-    """The cell at which a person goes on who has saved a row: the first that is wrong in it, or in
-    those after it.
+def focus_of(page: Page, first: Sequence[int]) -> tuple[int, str] | None:
+    """The cell at which a person goes on who has saved rows: the first that is wrong in them, or in
+    those after them.
     """
-    if first is None:
+    if not first:
         return None
     return next(((line.row.id, cell.column) for line in page.lines for cell in line.cells
                  if cell.is_wrong or cell.now is not None), None)

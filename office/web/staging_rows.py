@@ -9,6 +9,8 @@ from register_files import Refused
 
 from office import fields, inputs, texts
 
+from . import points
+from .points import FILE, Point, unpacked
 from .staging_files import Note
 
 OPEN, WITHDRAWN, SENDING, COMMITTED = "open", "withdrawn", "sending", "committed"
@@ -38,11 +40,23 @@ class Staged:
     changed_by: str
     changed: str
     entry: int | None
+    point: Point = Point()
 
     @property
     def where(self) -> str:
         """How messages name it."""
         return f"form {self.number}" if self.is_form else f"row {self.number} of {self.file_name}"
+
+    @property
+    def point_words(self) -> str:
+        """Where its point came from."""
+        is_given = self.point.source == FILE and not self.is_form
+        return f"from {self.file_name}" if is_given else self.point.words
+
+    @property
+    def point_shown(self) -> str:
+        """The same, where the row has a point."""
+        return self.point_words if points.has_any(self.cells) else ""
 
 
 @dataclasses.dataclass(frozen=True)
@@ -68,7 +82,7 @@ def staged_of(row: sqlite3.Row) -> Staged:
         row["id"], row["file"], row["name"], bool(row["is_form"]), bool(row["is_uk"]),
         row["number"], whole(json.loads(row["cells"])), json.loads(row["others"]), notes,
         row["state"], row["version"], row["who"], row["added"], row["changed_by"], row["changed"],
-        row["entry"])
+        row["entry"], unpacked(row["point"]))
 
 
 def whole(cells: Mapping[str, str]) -> dict[str, str]:
@@ -86,10 +100,17 @@ def packed_notes(notes: Iterable[Note]) -> str:
     return packed([dataclasses.asdict(it) for it in notes])
 
 
+def too_long(text: str) -> str:
+    """Why no cell of a sheet can have a text, or ""."""
+    return f"a cell has at most {inputs.MOST_TEXT:,} characters" if (
+        len(text) > inputs.MOST_TEXT) else ""
+
+
 def see_lengths(cells: Mapping[str, str]) -> None:
     """Refuses what no cell of a sheet can have."""
-    if any(len(it) > inputs.MOST_TEXT for it in cells.values()):
-        raise Refused(f"a cell has at most {inputs.MOST_TEXT:,} characters")
+    for it in cells.values():
+        if said := too_long(it):
+            raise Refused(said)
 
 
 def named(found: Staged) -> dict[str, str]:

@@ -8,20 +8,24 @@ from register_files import Refused
 
 from office.model import Register
 
+from . import numbers
+from .gazetteer import Gazetteer
 from .guard import parts
 from .staging import Staging
 from .staging_check import Checker, Table
 from .staging_commit import Committing
+from .staging_points import Points
 from .staging_rows import OPEN
 
 
 @dataclasses.dataclass(frozen=True)
 class Tools:
-    """The table, its check, and what stores it."""
+    """The table, its check, what stores it, and the points of its homes."""
 
     staging: Staging
     checker: Checker
     committing: Committing
+    points: Points
 
 
 def begin(state: Any) -> None:
@@ -29,7 +33,9 @@ def begin(state: Any) -> None:
     found = state.app.extensions["office"]
     staging, checker = Staging(found.store, found.history), Checker()
     committing = Committing(staging, checker, found.desk, found.history, found.copies.make)
-    state.app.extensions["staging"] = Tools(staging, checker, committing)
+    gazetteer = Gazetteer(found.config.folder / "gazetteer", found.store, found.history)
+    points = Points(staging, gazetteer, found.history)
+    state.app.extensions["staging"] = Tools(staging, checker, committing, points)
 
 
 def tools() -> Tools:
@@ -55,5 +61,4 @@ def table_now() -> tuple[Table, str]:
 
 def number_in(given: Mapping[str, str], name: str, other: int = 0) -> int:
     """A number of a form or an address."""
-    text = given.get(name, "")
-    return int(text) if text.isascii() and text.isdigit() and len(text) < 10 else other
+    return numbers.read(given.get(name, ""), other)

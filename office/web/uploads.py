@@ -4,6 +4,7 @@ remains.
 import pathlib
 import tempfile
 
+import flask
 from register_files import Refused
 from werkzeug.datastructures import FileStorage
 
@@ -11,11 +12,29 @@ from office import inputs, kinds, model, sheet_apart
 from office.model import Register
 from office.sheet import Row
 
+from . import gazetteer_rows, plain
+
 # (what a browser says of its name is not needed, and may be anything)
 NAME = "the file"
 ADVICE = "leave one that is not empty"
 MOST_SHOWN = 5
 REGISTER = b"SQLite format 3\0"
+# the only address that takes more than all others: for a file, and what a form has beside it
+LARGE, MOST_LARGE = "/applications/gazetteer/file", gazetteer_rows.MOST_BYTES + (1 << 16)
+
+
+class Request(flask.Request):
+    """A request, whose body is bounded by where it is sent."""
+
+    @property
+    def max_content_length(self) -> int | None:
+        """How many bytes its body has at most."""
+        return MOST_LARGE if self.path == LARGE else super().max_content_length
+
+    @max_content_length.setter
+    def max_content_length(self, value: int | None) -> None:
+        """(Later versions of the library set it.)"""
+        raise AttributeError("the application sets it")
 
 
 def bytes_of(given: FileStorage | None) -> bytes:
@@ -41,18 +60,18 @@ def rows_of(given: FileStorage | None) -> list[Row]:
     return found.rows
 
 
-def register_of(given: FileStorage | None) -> Register:
+def register_of(given: FileStorage | None, called: str = NAME) -> Register:
     """The register of an uploaded copy, as it was when it was closed last. Nothing of the file
-    remains.
+    remains. Errors name it as it is called.
     """
     data = bytes_of(given)
     if not data.startswith(REGISTER):
         what = kinds.of_bytes(data) or "a text or another file"
-        raise Refused(f"{NAME} is no copy of a register: it is {what}")
+        raise Refused(f"{called} is no copy of a register: it is {what}")
     if len(data) > inputs.MOST_REGISTER_BYTES:
-        raise Refused(f"{NAME} is larger than any register")
+        raise Refused(f"{called} is larger than any register")
     with tempfile.TemporaryDirectory(prefix="admissions-") as room:
         path = pathlib.Path(room) / "copy.db"
         path.touch(0o600)
         path.write_bytes(data)
-        return model.read_stored(str(path), called=NAME)
+        return model.read_stored(str(path), plain.program(), called)

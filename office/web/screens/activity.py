@@ -6,9 +6,11 @@ import flask
 
 from office import texts
 
-from ..guard import needs, parts
-from ..history import ANSWER, SENDS, SETTLED, Entry
-from ..people import READ
+from ..guard import needs, parts, person
+from ..history import ANSWER, RESTORED, SENDS, SETTLED, Entry
+from ..notes import ON_RECORD
+from ..people import NOTES, READ
+from ..records import ends_of, first_by
 
 screen = flask.Blueprint("activity", __name__, url_prefix="/activity")
 SHOWN = 200
@@ -21,9 +23,15 @@ def day_of(it: Entry) -> str:
 
 def is_meant(it: Entry, who: str, day: str, child: str) -> bool:
     """Whether an entry is one of those that were asked for."""
-    number = str(it.about.get("command", {}).get("child", ""))
+    number = str(it.about.get("command", it.about).get("child", ""))
     return it.what not in (ANSWER, SETTLED) and (not who or it.who == who) and (
         not day or day_of(it) == day) and (not child or number == child)
+
+
+def seen() -> list[Entry]:
+    """The entries that the person may see: those on notes and files are for who may see these."""
+    is_all = person().may(NOTES)
+    return [it for it in parts().history.entries if is_all or it.what not in ON_RECORD]
 
 
 @screen.get("/")
@@ -31,8 +39,8 @@ def is_meant(it: Entry, who: str, day: str, child: str) -> bool:
 def show() -> str:
     """The entries, the last first."""
     who, day, child = (flask.request.args.get(it, "").strip() for it in ("who", "day", "child"))
-    entries = list(parts().history.entries)
-    came = {it.about["of"]: it for it in entries if it.what in (ANSWER, SETTLED)}
+    entries = seen()
+    came = ends_of(entries)
     found = [it for it in reversed(entries) if is_meant(it, who, day, child)]
     rows = [(it, in_words(it), outcome(came.get(it.number)) if it.what == SENDS else "")
             for it in found[:SHOWN]]
@@ -45,6 +53,11 @@ def in_words(it: Entry) -> str:
     """What an entry says."""
     if it.what != SENDS:
         return f"{it.what} {text_of(it.about)}"
+    return f"{request_in_words(it)}{first_by(it)}"
+
+
+def request_in_words(it: Entry) -> str:
+    """What was sent to the register."""
     if "import" in it.about:
         return "import of applications"
     if "line" in it.about:
@@ -64,6 +77,8 @@ def outcome(came: Entry | None) -> str:
     """What became of a request."""
     if came is None:
         return "no answer yet"
+    if came.what == RESTORED:
+        return f"undone when copy {came.about['copy']} was restored"
     if came.what == SETTLED:
         return "done" if came.about["done"] else "not done"
     answer = came.about["answer"]

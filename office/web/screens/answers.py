@@ -1,6 +1,7 @@
 """Answers of families: a pile that grows by a number or a name and Enter, by a sheet or a pasted
 column, and is recorded at once.
 """
+import dataclasses
 from typing import cast
 
 import flask
@@ -10,7 +11,8 @@ from werkzeug.wrappers import Response
 from office import sheet, texts
 from office.model import Register
 
-from .. import answers, guard, piles, uploads
+from .. import answer_rows, answers, guard, handovers, numbers, piles, uploads
+from ..answer_rows import Reader
 from ..answers import WORDS, Entry, Names
 from ..guard import needs, parts, person
 from ..people import RECORD
@@ -51,9 +53,11 @@ def page(said: str = "", status: int = 200, pasted: str = "", typed: str = "") -
             found.came[who][1], "answer is", "answers are"))
     return flask.render_template(
         "answers.html", shown=shown, ready=ready, digest=digest_of(ready), done=done,
-        names=names, words=WORDS, said=said, is_bad=status != 200 or bool(failed), pasted=pasted,
+        names=names, words=WORDS, read=answer_rows.READ, said=said,
+        is_bad=status != 200 or bool(failed), pasted=pasted,
         typed=typed, is_added="added" in flask.request.args, is_running=found.is_running(who),
-        is_away=register is None, waiting=found.of(who) if register is None else []), status
+        is_away=register is None, waiting=found.of(who) if register is None else [],
+        others=handovers.takeable(found, person())), status
 
 
 def digest_of(shown: list[Shown]) -> str:
@@ -82,7 +86,7 @@ def add() -> Answer:
         return page("Enter a number or a name.", 400)
     try:
         register = parts().desk.register()
-        meant = answers.read(Names(register), typed)
+        meant = Reader(Names(register)).typed(typed)
         all_piles().add(person().name, register, [meant])
     except Refused as error:
         return page(f"{typed[:answers.MOST_TYPED]} was not added: {sentence(str(error))}", 409,
@@ -105,7 +109,7 @@ def several() -> Answer:
         else:
             rows = uploads.rows_of(given)
         register = parts().desk.register()
-        all_piles().add(person().name, register, answers.of_rows(Names(register), rows))
+        all_piles().add(person().name, register, Reader(Names(register)).rows(rows))
     except Refused as error:
         return page(f"Nothing was added: {sentence(str(error))}", 400, pasted)
     # (by which the page knows that it need not keep the text any more)
@@ -157,13 +161,13 @@ def choose() -> Answer:
     register = parts().desk.now()
     if entry is not None:
         meant = entry.meant
-        if child.isdecimal() and int(child) in register.children:
-            meant = answers.with_school(
-                register, answers.Meant(meant.typed, meant.kind, int(child)))
+        if (number := numbers.read(child)) in register.children:
+            meant = dataclasses.replace(meant, child=number, name="")
+            if not meant.school:
+                meant = answers.with_school(register, meant)
             all_piles().replace(entry, register, meant)
         elif not child:
-            meant = answers.Meant(meant.typed, meant.kind, meant.child, meant.school)
-            all_piles().replace(entry, register, meant)
+            all_piles().replace(entry, register, dataclasses.replace(meant, name=""))
     return back()
 
 
@@ -194,9 +198,10 @@ def record() -> Answer:
 
 
 def ask(ready: list[Shown], final: list[Shown], register: Register) -> Answer:
-    """The question before what is final."""
+    """The question before what is final, with all that is recorded."""
     schools = {code: it.name for code, it in register.schools.items()}
     return flask.render_template(
-        "record_answers.html", ready=ready, final=final, digest=digest_of(ready),
+        "record_answers.html", ready=ready, final=final,
+        accepts=[it for it in ready if not it.entry.is_final], digest=digest_of(ready),
         schools=schools, words=WORDS,
         places={it.entry.number: register.places.get(it.entry.meant.child or 0) for it in final})

@@ -1,7 +1,7 @@
 """Applications before they are in the register: files are added, cells corrected, and rows
 withdrawn and merged.
 """
-from collections.abc import Mapping
+from collections.abc import Mapping, Sequence
 from typing import Any, BinaryIO, cast
 
 import flask
@@ -11,12 +11,13 @@ from werkzeug.wrappers import Response
 from office import inputs, persons, texts
 from office.check import ERROR
 
-from .. import staging_files, staging_page, staging_tools
+from .. import staging_files, staging_page, staging_points, staging_sent, staging_tools
 from ..guard import needs, person
 from ..people import READ, RECORD
 from ..staging import Meanwhile
 from ..staging_check import Table
 from ..staging_rows import OPEN, WITHDRAWN
+from ..staging_sent import Refusal
 from ..staging_tools import number_in, table_now, tools
 
 screen = flask.Blueprint("applications", __name__, url_prefix="/applications")
@@ -26,28 +27,46 @@ Answer = str | Response | tuple[str, int]
 KEPT = ("show", "find", "page")
 
 
-def page(text: str = "", is_bad: bool = False, first: int | None = None,
-         typed: Mapping[str, str] | None = None) -> Answer:
-    """The table. A row that was saved, or could not be, is the first."""
+def page(text: str = "", is_bad: bool = False, saved: Sequence[int] = (),
+         refused: Mapping[int, Refusal] | None = None) -> Answer:
+    """The table. Rows that were saved, or could not be, are the first; so is one that the address
+    names.
+    """
     table, reason = table_now()
-    if first is not None and not text:
-        text = saved(table, first)
     args = flask.request.args
+    refused = refused or {}
+    first = [*refused, *saved, *numbers_in("see")]
     which = args.get("show", staging_page.ALL)
     asked = {"show": which if which in staging_page.FILTERS else staging_page.ALL,
              "find": args.get("find", "")}
     shown = staging_page.page_of(
-        table, asked["show"], asked["find"], number_in(args, "page", 1), first, typed)
+        table, asked["show"], asked["find"], number_in(args, "page", 1), first, refused)
     changes, more = staging_page.changes(table)
-    lost = {} if typed is None or first in table.rows else {
-        title: typed[it] for it, title in staging_page.columns() if typed.get(it)}
+    text = f"{said_of_saved(table, saved)} {text}".strip()
     body = flask.render_template(
         "applications.html", said=text, is_bad=is_bad, reason=reason, page=shown, asked=asked,
         filters=staging_page.FILTERS, counts=staging_page.counts(table), changes=changes,
-        more_changes=more, files=tools().staging.files(), pairs=len(table.pairs), lost=lost,
-        columns=staging_page.columns(), uk=staging_page.uk_files(table),
-        withdrawn=tools().staging.count(WITHDRAWN), focus=staging_page.focus_of(shown, first))
+        more_changes=more, files=tools().staging.files(), pairs=len(table.pairs),
+        lost=lost_of(table, refused), columns=staging_page.columns(),
+        uk=staging_page.uk_files(table), withdrawn=tools().staging.count(WITHDRAWN),
+        to_see=sum(staging_points.needs_look(it.staged) for it in table.rows.values()),
+        focus=staging_page.focus_of(shown, first))
     return body, 409 if is_bad else 200
+
+
+def numbers_in(name: str) -> list[int]:
+    """The rows that the address names."""
+    return [int(it) for it in flask.request.args.getlist(name)
+            if it.isascii() and it.isdigit() and len(it) < 10]
+
+
+def lost_of(table: Table, refused: Mapping[int, Refusal]) -> list[tuple[str, dict[str, str]]]:
+    """What was typed into rows that are not in the table any more: how each was called, and its
+    cells.
+    """
+    return [(it.where, {title: it.typed.cells[column] for column, title in staging_page.columns()
+                        if it.typed.cells[column]})
+            for number, it in refused.items() if number not in table.rows]
 
 
 def to_table(**more: Any) -> Response:
@@ -69,24 +88,52 @@ def show() -> Answer:
         said = [f"Stored in the register: {many} (entry {entry} of the activity)."] if entry else []
         left = [f"{texts.count(out, 'row')} that the register had are out of the table."]
         return page(" ".join(said + left if out else said))
-    if number := number_in(args, "row"):
-        return page(first=number)
+    saved = numbers_in("row")
     if number := number_in(args, "withdrew"):
         return page(f"Withdrawn: {staging.row(number).where}. It can be brought back from the"
-                    " withdrawn rows.")
+                    " withdrawn rows.", saved=saved)
+    if saved or "same" in args:
+        return page("" if saved else "No cell was changed, and nothing had to be saved.",
+                    saved=saved)
     added = [it for it in staging.files() if str(it.id) in args.getlist("added")]
     return page(" ".join(f"{it.name} is added: {texts.count(sum(it.counts.values()), 'row')}."
                          for it in added))
 
 
-def saved(table: Table, number: int) -> str:
-    """What is said of a row that was saved."""
-    found = table.rows.get(number)
-    if found is None:
+def said_of_saved(table: Table, numbers: Sequence[int]) -> str:
+    """What is said of rows that were saved."""
+    found = [it for it in numbers if it in table.rows]
+    if not found:
         return ""
-    many = sum(it.kind == ERROR for it in table.findings[number])
-    left = f"{texts.count(many, 'error')} left" if many else "nothing is wrong in it"
-    return f"Saved: {found.staged.where}; {left}."
+    many = sum(finding.kind == ERROR for it in found for finding in table.findings[it])
+    where, them = (table.rows[found[0]].staged.where, "it") if len(found) == 1 else (
+        texts.count(len(found), "row"), "them")
+    left = f"{texts.count(many, 'error')} left" if many else f"nothing is wrong in {them}"
+    return f"Saved: {where}; {left}."
+
+
+@screen.post("/")
+@needs(RECORD)
+def save() -> Answer:
+    """All rows of a page that were changed; then, by its button, one of them is withdrawn or is
+    confirmed as it is.
+    """
+    form, staging, who = flask.request.form, tools().staging, person().name
+    withdrawn = number_in(form, "withdraw")
+    try:
+        rows = staging_sent.read(form)
+    except Refused as error:
+        return page(f"Nothing was changed: {error}.", True)
+    came = staging_sent.save(staging, who, rows, number_in(form, "confirm"))
+    for it in rows:
+        if it.number == withdrawn:
+            staging_sent.withdraw(staging, who, it, came)
+    if came.refused:
+        reasons = "; ".join(dict.fromkeys(it.why for it in came.refused.values()))
+        return page(f"Not saved: {reasons}. What you typed is kept below.", True,
+                    list(came.saved), came.refused)
+    return to_table(row=list(came.saved), withdrew=withdrawn or None,
+                    same=None if came.saved or withdrawn else "yes")
 
 
 @screen.post("/files")
@@ -104,6 +151,7 @@ def add_files() -> Answer:
             data = inputs.taken(name, cast(BinaryIO, it.stream))
             read = staging_files.read(name, data, form.get("sheet", ""))
             added.append(tools().staging.add_file(person().name, name, data, "uk" in form, read))
+            tools().points.fill(person().name, added[-1])
         except Refused as error:
             refused.append(str(error))
     if not added and not refused:
@@ -117,22 +165,14 @@ def add_files() -> Answer:
 
 @screen.post("/row/<int:number>")
 @needs(RECORD)
-def change(number: int) -> Answer:
-    """One row: saved, withdrawn, or brought back."""
-    form, staging, who = flask.request.form, tools().staging, person().name
-    what, version = form.get("what", "save"), number_in(form, "version")
+def bring_one_back(number: int) -> Answer:
+    """One row that was withdrawn, brought back."""
     try:
-        if what == "withdraw":
-            staging.move(who, [(number, version)], WITHDRAWN)
-            return to_table(withdrew=number)
-        if what == "back":
-            staging.move(who, [(number, version)], OPEN)
-            return to_table(row=number)
-        staging.save(who, number, version, staging_page.sent(staging.row(number), form))
-        return to_table(row=number)
+        tools().staging.move(
+            person().name, [(number, number_in(flask.request.form, "version"))], OPEN)
     except Refused as error:
-        more = ". What you typed is kept below" if isinstance(error, Meanwhile) else ""
-        return page(f"Nothing was changed: {error}{more}.", True, number, form)
+        return page(f"Nothing was changed: {error}.", True)
+    return to_table(see=number)
 
 
 @screen.post("/file/<int:number>")

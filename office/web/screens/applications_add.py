@@ -7,10 +7,11 @@ from office.check import LOOK
 from office.model import Register
 from office.rules import LIMITS
 
-from .. import staging_form, staging_page
+from .. import staging_form, staging_page, staging_points
 from ..guard import needs, person
 from ..people import RECORD
 from ..staging_check import Table, said
+from ..staging_points import Keys
 from ..staging_rows import COMMITTED, OPEN, SENDING
 from ..staging_tools import number_in, register_now, table_now, tools
 
@@ -34,12 +35,14 @@ def show() -> Answer:
         found = tools().staging.row(number)
         looks = [said(it) for it in table.findings.get(number, []) if it.kind == LOOK]
         text = " ".join([f"{found.cells['name']} is added with the number"
-                         f" {found.cells['child']}.", *(f"To look at: {it}." for it in looks)])
+                         f" {found.cells['child']}, and with the point {found.point_words}.",
+                         *(f"To look at: {it}." for it in looks)])
     return page(None, text)
 
 
-def page(cells: dict[str, str] | None, text: str = "", table: Table | None = None) -> Answer:
-    """The form: empty, or with what was typed and what is wrong in it."""
+def page(cells: dict[str, str] | None, text: str = "", table: Table | None = None,
+         keys: Keys = Keys(), point: str = "") -> Answer:
+    """The form: empty, or with what was typed, what is wrong in it, and what was looked up."""
     register, reason = register_now()
     free = free_number(register)
     typed = cells or staging_form.cells_of({"child": str(free or "")})
@@ -48,7 +51,7 @@ def page(cells: dict[str, str] | None, text: str = "", table: Table | None = Non
     body = flask.render_template(
         "applications_add.html", cells=found, said=text, is_bad=table is not None, reason=reason,
         preferences=list(zip(staging_form.PREFERENCES, staging_form.preferences_of(typed))),
-        proposed=free or "", most_flag=LIMITS["flag"].most,
+        proposed=free or "", most_flag=LIMITS["flag"].most, keys=keys, point=point,
         wrong=next((it.column for it in found.values() if it.is_wrong), "name"),
         schools=[register.schools[it] for it in sorted(register.schools)] if register else [])
     return body, 409 if table is not None else 200
@@ -59,7 +62,13 @@ def page(cells: dict[str, str] | None, text: str = "", table: Table | None = Non
 def add() -> Answer:
     """Adds a child. Where something is wrong the form is shown again, with what was typed."""
     form, staging, who = flask.request.form, tools().staging, person().name
-    cells = staging_form.cells_of(form)
+    keys = Keys(form.get("property_number", ""), form.get("postcode", ""))
+    typed = staging_form.cells_of(form)
+    with tools().points.gazetteer.looking() as lookup:
+        cells, point = staging_points.typed_point(typed, keys, lookup)
+    told = "; ".join(staging_points.said_in_form(cells, point, keys))
+    if form.get("what") == "look":
+        return page(cells, "", None, keys, told)
     register, _ = register_now()
     with staging.lock:
         if cells["child"] in ("", form.get("proposed", "")):
@@ -72,9 +81,9 @@ def add() -> Answer:
         table = tools().checker.table(
             staging.rows(OPEN), register, staging_form.typed_row(cells, who))
         if table.has_error(0):
-            return page(cells, "It is not added yet: see what is wrong.", table)
+            return page(cells, "It is not added yet: see what is wrong.", table, keys, told)
         try:
-            number = staging.add_form(who, cells)
+            number = staging.add_form(who, cells, keys.others, point)
         except Refused as error:
-            return page(cells, f"It is not added: {error}.", table)
+            return page(cells, f"It is not added: {error}.", table, keys, told)
     return flask.redirect(flask.url_for("applications_add.show", added=number), 303)

@@ -10,11 +10,14 @@ from werkzeug.wrappers import Response
 from office import criteria, register_lists
 from office.model import Register
 
-from .. import children, corrections, flags, records, wording
+from .. import children, corrections, explanations, flags, records, staging_points, wording
 from ..children import ACTIONS, FIELDS, Question
 from ..desk import Seen, seen_of
 from ..guard import needs, parts, person
-from ..people import READ, RECORD
+from ..people import NOTES, READ, RECORD
+from ..points import TYPED, Point
+from ..staging_points import Keys
+from ..staging_tools import tools
 from ..wording import sentence
 
 screen = flask.Blueprint("child", __name__, url_prefix="/children")
@@ -105,7 +108,17 @@ def child_page(number: int, said: str = "", status: int = 200) -> Answer:
                for name, code in children.possible(register, number)]
     return flask.render_template(
         "child.html", **shown(register, number), said=said, is_bad=status != 200,
-        actions=actions, records=records.of_child(history, register, number)), status
+        point=records.point_of(history, number), actions=actions,
+        records=records.of_child(history, register, number),
+        rounds=explanations.taken(parts(), register, number), **noted(number)), status
+
+
+def noted(number: int) -> dict[str, Any]:
+    """The notes and files of a child, for those who may see them."""
+    if not person().may(NOTES):
+        return {}
+    kept = parts().notes
+    return {"notes": kept.of_child(number), "files": kept.files_of(number)}
 
 
 def day_typed() -> tuple[datetime.date, str, str]:
@@ -179,9 +192,11 @@ def correct(number: int) -> Answer:
 
 def form_page(
     number: int, cells: dict[str, str], wrong: dict[str, str] | None = None, said: str = "",
-    status: int = 200,
+    status: int = 200, point: str = "",
 ) -> Answer:
-    """The form, with what was typed, and what was seen of the child when it was opened."""
+    """The form, with what was typed and looked up, and what was seen of the child when it was
+    opened.
+    """
     register = child_in(number)
     present = seen_of(register, {"cmd": "amend", "child": number}).text
     words = flags.present()
@@ -189,8 +204,8 @@ def form_page(
         "correct.html", child=register.children[number], fields=FIELDS, cells=cells,
         wrong=wrong or {}, said=said, is_bad=status != 200, label=wording.label,
         seen=flask.request.form.get("seen", present),
-        is_choice=corrections.is_choice, is_flags=corrections.is_flags,
-        flags=[(it, flags.named(it, words)) for it in flags.NUMBERS]), status
+        is_choice=corrections.is_choice, is_flags=corrections.is_flags, keys=keys_of_form(),
+        point=point, flags=[(it, flags.named(it, words)) for it in flags.NUMBERS]), status
 
 
 def cells_of_form() -> dict[str, str]:
@@ -200,6 +215,30 @@ def cells_of_form() -> dict[str, str]:
             else form.get(it.name, "") for it in FIELDS}
 
 
+def keys_of_form() -> Keys:
+    """The property number and the postcode that were typed."""
+    form = flask.request.form
+    return Keys(form.get("property_number", ""), form.get("postcode", ""))
+
+
+def look_up(number: int, cells: dict[str, str]) -> Answer:
+    """The form with the point that is looked up, where there is one."""
+    keys = keys_of_form()
+    with tools().points.gazetteer.looking() as lookup:
+        made, point = staging_points.looked_up(cells, keys, lookup, Point(TYPED), True)
+    said = "; ".join(staging_points.said_in_form(made, point, keys))
+    return form_page(number, made, point=said or "type a property number or a postcode")
+
+
+def source_of(register: Register, number: int, cells: dict[str, str]) -> str:
+    """Where the point of a correction came from, if it changes the point."""
+    child = register.children[number]
+    if (cells["east"].strip(), cells["north"].strip()) == (str(child.east), str(child.north)):
+        return ""
+    with tools().points.gazetteer.looking() as lookup:
+        return staging_points.typed_point(cells, keys_of_form(), lookup)[1].words
+
+
 @screen.post("/<int:number>/correct")
 @needs(RECORD)
 def do_correct(number: int) -> Answer:
@@ -207,6 +246,8 @@ def do_correct(number: int) -> Answer:
     register, cells = child_in(number), cells_of_form()
     command, wrong = corrections.read(register, number, cells)
     what = flask.request.form.get("what", "")
+    if what == "look":
+        return look_up(number, cells)
     if wrong or what == "edit":
         said = "Nothing was sent: see the fields that are marked." if wrong else ""
         return form_page(number, cells, wrong, said, 400 if wrong else 200)
@@ -214,7 +255,8 @@ def do_correct(number: int) -> Answer:
     # (a form that was opened before another correction has the data from before it)
     said = parts().desk.changed(register, command, seen)
     if what == "send":
-        result = parts().desk.send(person(), command, seen)
+        result = parts().desk.send(
+            person(), command, seen, point=source_of(register, number, cells))
         if result.is_done:
             return flask.redirect(flask.url_for("child.show", number=number, recorded="yes"), 303)
         said, register = result.said, child_in(number)
@@ -232,6 +274,7 @@ def compare_page(
         return form_page(number, cells, {}, f"{said} {same}".strip(), 409)
     return flask.render_template(
         "correction.html", child=child, changes=changes, cells=cells, said=said, fields=FIELDS,
+        keys=keys_of_form(), point=source_of(register, number, cells),
         warnings=list(corrections.warnings(child, command)),
         seen=seen_of(register, command).text, is_flags=corrections.is_flags,
     ), 409 if said else 200

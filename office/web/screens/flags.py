@@ -25,10 +25,10 @@ def uses(register: Register | None, number: int) -> tuple[str, int]:
 
 def page(
     given: dict[int, str], seen: str, said: str = "", wrong: dict[int, str] | None = None,
-    status: int = 200,
+    status: int = 200, focus: int | None = None,
 ) -> Answer:
-    """The list of all flags."""
-    register = None
+    """All flags. One has the focus: the last that was stored, or the first that is wrong."""
+    register, focus = None, min(wrong) if wrong else focus
     try:
         register = parts().desk.register()
     except Refused as error:
@@ -36,7 +36,7 @@ def page(
     rows = [(it, given.get(it, ""), (wrong or {}).get(it, ""), *uses(register, it))
             for it in flags.NUMBERS]
     return flask.render_template(
-        "flags.html", rows=rows, seen=seen, said=said, is_bad=status != 200), status
+        "flags.html", rows=rows, seen=seen, said=said, is_bad=status != 200, focus=focus), status
 
 
 @screen.get("/")
@@ -44,8 +44,10 @@ def page(
 def show() -> Answer:
     """The words."""
     words = flags.present()
-    said = "The words are stored." if "stored" in flask.request.args else ""
-    return page(words, flags.text_of(words), said)
+    stored = flask.request.args.get("stored", "")
+    said = "The words are stored." if stored else ""
+    focus = int(stored) if stored in map(str, flags.NUMBERS) else None
+    return page(words, flags.text_of(words), said, focus=focus)
 
 
 @screen.post("/")
@@ -56,7 +58,7 @@ def change() -> Answer:
     given = {it: trimmed(form.get(f"flag-{it}", "")) for it in flags.NUMBERS}
     words = {it: text for it, text in given.items() if text}
     wrong = {it: said for it, text in words.items() if (said := flags.wrong(text))}
-    seen = form.get("seen", "")
+    seen, known = form.get("seen", ""), flags.present()
     if wrong:
         return page(given, seen, "Nothing was stored: see the fields that are marked.", wrong, 400)
     try:
@@ -67,4 +69,5 @@ def change() -> Answer:
         now = "; ".join(f"{it}: {text}" for it, text in present.items()) or "none"
         return page(given, flags.text_of(present),
                     f"{sentence(str(error))} The present words: {now}.", status=409)
-    return flask.redirect(flask.url_for("flags.show", stored="yes"), 303)
+    last = max((it for it in given if given[it] != known.get(it, "")), default=min(given))
+    return flask.redirect(flask.url_for("flags.show", stored=last), 303)

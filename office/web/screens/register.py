@@ -154,7 +154,7 @@ def seen_in(given: Command) -> Seen | None:
     row = commands.read(text.encode("utf-8"))
     if not isinstance(row, dict) and text != "null":
         flask.abort(400, "what was seen is no child and no school")
-    return seen_by(parts().desk.register(), given, row)
+    return seen_by(given, row)
 
 
 @screen.post("/import")

@@ -1,0 +1,66 @@
+"""A draw that moves a child from a place which its family had accepted: it is said before the
+second person confirms, and in the letter.
+"""
+import pathlib
+from collections.abc import Iterator
+
+import pytest
+from draw_site import (
+    HAL, JANE, Machine, after_round, begun, brought, machine_over, small_register, version,
+)
+from letter_site import asked, letter_pages, made
+from pages import Page
+
+
+@pytest.fixture(name="register", scope="module")
+def register_fixture(tmp_path_factory: pytest.TempPathFactory) -> pathlib.Path:
+    """The file of a small register."""
+    return small_register(tmp_path_factory)
+
+
+@pytest.fixture(name="small")
+def small_fixture(
+    tmp_path: pathlib.Path, register: pathlib.Path, monkeypatch: pytest.MonkeyPatch
+) -> Iterator[Machine]:
+    """A machine with a small register."""
+    with machine_over(tmp_path, register, monkeypatch) as found:
+        yield found
+
+
+def test_a_fill_that_ends_an_accepted_place_says_so_before_it_is_confirmed(
+    small: Machine,
+) -> None:
+    """Children 2 and 3 live nearest of those who wait at OAK, and have ELM: 2 has accepted it, and
+    3 has not answered. Both move by two fills; 1 stays where it is.
+    """
+    with small.office() as office:
+        after_round(small, office)
+        small.do([{"cmd": "accept", "child": 2, "school": "ELM"}])
+        number = begun(office, "OAK", 2, "2025-04-07")
+        brought(office, number, "rehearsed")
+        jane = office.browser("jane")
+        page = Page(jane.get(f"/draws/{number}").text)
+        assert page.by_id["accepted-ended"].startswith(
+            "1 child gives up a place that it had accepted.")
+        rows = {it[1]: it[3:] for it in page.tables["By child"][1:]}
+        assert rows == {
+            "2": ["ELM", "OAK", "moves; had accepted ELM: that place ends"],
+            "3": ["ELM", "OAK", "moves"]}
+        office.parts.draws.confirm(JANE, number, version(office, number))
+        for step in ("send", "audit", "open"):
+            getattr(office.parts.draws, step)(HAL, number, version(office, number))
+        register = office.parts.desk.now()
+        draw = next(it for it in (2, 3) if 2 in register.outcomes[it])
+        path = made(jane, asked(jane, "offers", str(draw), day_of_letters="7 April 2025"))
+        text = " ".join(letter_pages(jane, path))
+        assert ("The place at ELM School has ended, because a place at OAK School, which you"
+                " prefer, was offered") in text
+
+
+def test_a_draw_that_ends_no_accepted_place_says_nothing_of_it(small: Machine) -> None:
+    """The families of those who move have not answered, or hold no place."""
+    with small.office() as office:
+        number = begun(office)
+        brought(office, number, "rehearsed")
+        page = Page(office.browser("jane").get(f"/draws/{number}").text)
+        assert "accepted-ended" not in page.by_id and "By child" in page.tables

@@ -1,0 +1,64 @@
+"""The activity: all that was done, found by person, child and day, with what came of it."""
+import datetime
+from collections.abc import Iterator
+
+import pytest
+from applications import ROUND, Browser, Site, office_over, town
+from pages import Page
+
+from office.web.screens import activity
+
+
+@pytest.fixture(name="office", scope="module")
+def office_fixture(tmp_path_factory: pytest.TempPathFactory) -> Iterator[Site]:
+    """The application after a round, in which two officers have recorded answers."""
+    with office_over(tmp_path_factory.mktemp("activity"), [*town(), ROUND]) as found:
+        jane, bo = found.browser("jane"), found.browser("bo")
+        for browser, child, school in ((jane, 1, "A"), (bo, 3, "B"), (bo, 3, "B")):
+            browser.command({"cmd": "accept", "child": child, "school": school})
+        bo.post("/flags/", {"flag-2": "<b>medical</b> need", "seen": "{}"})
+        yield found
+
+
+def rows(browser: Browser, asked: str = "") -> list[list[str]]:
+    """The rows that are shown, without their moments."""
+    page = Page(browser.get(f"/activity/{asked}").text)
+    found: list[list[str]] = next(iter(page.tables.values()))
+    return [it[1:] for it in found[1:]]
+
+
+def test_the_last_that_was_done_is_first_with_what_came_of_it(office: Site) -> None:
+    """What the register refused is not said to be done, and a name of people is text."""
+    rita = office.browser("rita", "reader")
+    shown = [it for it in rows(rita) if it[1].startswith(("accept", "named"))]
+    assert [it[:2] for it in shown] == [
+        ["bo", "named flags words 2 <b>medical</b> need before"],
+        ["bo", "accept child 3 school B"], ["bo", "accept child 3 school B"],
+        ["jane", "accept child 1 school A"]]
+    assert [it[2].partition(":")[0] for it in shown] == ["", "refused", "done", "done"]
+    assert "<b>medical" not in rita.get("/activity/").text
+
+
+def test_it_is_found_by_person_child_and_day(office: Site) -> None:
+    """One of these, or several."""
+    rita = office.browser("rita", "reader")
+    assert rows(rita, "?child=1") == [["jane", "accept child 1 school A", "done"]]
+    assert [it[0] for it in rows(rita, "?child=3")] == ["bo", "bo"]
+    assert rows(rita, "?child=1&who=bo") == [] and rows(rita, "?child=13") == []
+    assert {it[0] for it in rows(rita, "?who=bo")} == {"bo"}
+    assert {"bo", "jane"} <= {it[0] for it in rows(rita)}
+    today = datetime.date.today()
+    assert rows(rita, f"?day={today}") == rows(rita)
+    assert rows(rita, f"?day={today - datetime.timedelta(1)}") == []
+
+
+def test_of_many_the_last_are_shown_and_all_are_counted(
+    office: Site, monkeypatch: pytest.MonkeyPatch
+) -> None:
+    """By the caption of the table."""
+    rita = office.browser("rita", "reader")
+    monkeypatch.setattr(activity, "SHOWN", 2)
+    page = Page(rita.get("/activity/?who=bo").text)
+    name = next(iter(page.tables))
+    assert len(page.tables[name]) == 3 and name.endswith("of which the last 2 are shown")
+    assert page.tables[name][1][2].startswith("named flags")

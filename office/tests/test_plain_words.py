@@ -1,0 +1,194 @@
+"""No screen names a path, a command or a user of the machine, whatever the machine cannot do: a
+folder is missing or not writable, a disk is full, a program is not there.
+"""
+import errno
+import io
+import os
+import pathlib
+import re
+import shutil
+import sqlite3
+import tempfile
+from collections.abc import Callable, Iterator
+from typing import Any
+
+import pytest
+from applications import Site, site
+from conftest import ROOT
+from pages import Page
+from register_files import Refused
+from werkzeug.datastructures import FileStorage
+
+from office.web import copies, plain, rehearsal, uploads
+
+# what no text for an officer has
+FORBIDDEN = re.compile(
+    r"(?<![\w<.])/[a-z]+/|admissions-[a-z]|Errno|\broot\b|sqlite|\bsudo\b|systemctl")
+
+
+@pytest.fixture(name="office")
+def office_fixture(tmp_path: pathlib.Path) -> Iterator[Site]:
+    """The application before a register that does not answer."""
+    with site(tmp_path, "http://127.0.0.1:1") as found:
+        yield found
+
+
+def is_plain(text: str) -> bool:
+    """Whether a text for an officer names nothing of the machine."""
+    return FORBIDDEN.search(text) is None
+
+
+def cannot(number: int) -> Callable[..., Any]:
+    """What fails as a file does, with its path."""
+    def fail(*_: object, **__: object) -> Any:
+        raise OSError(number, os.strerror(number), "/var/lib/admissions/office/requests/copy")
+
+    return fail
+
+
+def missing(office: Site, _: pytest.MonkeyPatch) -> None:
+    """The folder of requests is gone."""
+    shutil.rmtree(office.parts.copies.requests)
+
+
+def not_writable(_: Site, patch: pytest.MonkeyPatch) -> None:
+    """The folder of requests is another user's."""
+    patch.setattr(tempfile, "mkstemp", cannot(errno.EACCES))
+
+
+def full(_: Site, patch: pytest.MonkeyPatch) -> None:
+    """The disk is full."""
+    patch.setattr(os, "fsync", cannot(errno.ENOSPC))
+
+
+@pytest.mark.parametrize("how, reason", [
+    (missing, "no such file or directory"), (not_writable, "permission denied"),
+    (full, "its disk is full")])
+def test_a_copy_that_cannot_be_asked_for_is_said_plainly(
+    office: Site, monkeypatch: pytest.MonkeyPatch, reason: str,
+    how: Callable[[Site, pytest.MonkeyPatch], None],
+) -> None:
+    """With the reason, and with nothing of the machine."""
+    how(office, monkeypatch)
+    with pytest.raises(Refused) as error:
+        office.parts.copies.asked(copies.COPY, 1)
+    assert str(error.value) == f"the machine cannot be asked for copies ({reason}). {plain.ADVICE}"
+
+
+def test_what_the_machine_answers_is_said_without_its_paths(
+    office: Site, monkeypatch: pytest.MonkeyPatch
+) -> None:
+    """The words of its commands name files, and commands themselves."""
+    for why, said in (
+        ("the register was not copied: admissions-backup: /var/lib/admissions/a/reg.db is in use",
+         "the register was not copied: a file is in use"),
+        ("the register was not copied: [Errno 28] No space left on device: '/var/backups/a b'",
+         "the register was not copied: No space left on device: a file b'"),
+        ("the register is as it was: admissions-restore: /x/y.db: cannot be read, /x/z is there",
+         "the register is as it was: a file: cannot be read, a file is there"),
+    ):
+        answer = {"number": 1, "error": "NotCopied", "why": why}
+        monkeypatch.setattr(copies, "read", lambda _, it=answer: it)
+        monkeypatch.setattr(copies.Copies, "put", lambda *_: None)
+        with pytest.raises(Refused) as error:
+            office.parts.copies.asked(copies.COPY, 1)
+        assert str(error.value) == said
+
+
+def test_a_copy_that_cannot_be_read_has_no_path(
+    office: Site, tmp_path: pathlib.Path, monkeypatch: pytest.MonkeyPatch
+) -> None:
+    """One that is damaged, one that is a folder, and one without the program."""
+    found = office.parts.copies
+    found.folder.mkdir()
+    name = "office-000001-2025-03-03T101112.db"
+    with office.parts.store.writing() as db:
+        db.execute("INSERT INTO copy (number, purpose, asked, name, size) VALUES"
+                   " (1, 'a try', '2025-03-03', ?, 5)", (name,))
+    (found.folder / name).write_bytes(b"SQLite format 3\0" + b"x" * 5000)
+    with pytest.raises(Refused, match="^the copy is no register") as damaged:
+        found.register(1)
+    assert str(tmp_path) not in str(damaged.value) and is_plain(str(damaged.value))
+    monkeypatch.setenv("ADMISSIONS", str(tmp_path / "none"))
+    with pytest.raises(Refused, match="^the program of the register is not on the machine") as none:
+        found.register(1)
+    assert is_plain(str(none.value))
+    sent = FileStorage(io.BytesIO(b"SQLite format 3\0" + b"x" * 5000), filename="copy.db")
+    with pytest.raises(Refused, match="^the program of the register is not on the machine"):
+        uploads.register_of(sent)
+    monkeypatch.setattr(tempfile, "TemporaryDirectory", cannot(errno.ENOSPC))
+    with pytest.raises(Refused, match="no place for a copy .its disk is full") as room:
+        rehearsal.scratch_room()
+    assert is_plain(str(room.value))
+
+
+# a form of each screen that stores something, and what was typed into it
+FORMS = {
+    "/flags/": {"flag-3": "lives in the parish"},
+    "/applications/add/": {"name": "Mo Marsh", "east": "1", "north": "2", "day": "20/10/2024",
+                           "preference-1": "OAK"},
+    "/people/": {"what": "add", "name": "new.person", "role": "reader"},
+    "/schools/new/": {"school": "ASH", "name": "Ash School", "pan": "30"},
+}
+
+
+@pytest.mark.parametrize("error", [
+    sqlite3.OperationalError("database or disk is full"),
+    sqlite3.OperationalError("attempt to write a readonly database"),
+    sqlite3.OperationalError("no such table: staged_row"),
+    OSError(errno.EIO, os.strerror(errno.EIO), "/var/lib/admissions/office/office.db"),
+], ids=str)
+def test_nothing_that_was_typed_is_lost_where_nothing_can_be_stored(
+    office: Site, monkeypatch: pytest.MonkeyPatch, error: Exception
+) -> None:
+    """Each screen says so without a path, and has what was typed, to be sent again."""
+    hal = office.browser("hal", "head")
+
+    def fail() -> Any:
+        raise error
+
+    monkeypatch.setattr(office.parts.store, "writing", fail)
+    for path, given in FORMS.items():
+        found = hal.post(path, given)
+        assert found.status_code in (409, 503), (path, found.text)
+        said = Page(found.text).said()
+        assert said and is_plain(said) and "staged_row" not in said, (path, said)
+        for text in given.values():
+            assert text in found.text, (path, text)
+
+
+def test_an_error_of_the_application_keeps_what_was_typed(
+    office: Site, monkeypatch: pytest.MonkeyPatch
+) -> None:
+    """It names nothing of itself; without a form it is a page."""
+    hal = office.browser("hal", "head")
+
+    def fail(*_: object) -> Any:
+        raise KeyError("/var/lib/admissions/office")
+
+    monkeypatch.setattr("office.web.flags.change", fail)
+    monkeypatch.setattr("office.web.flags.present", fail)
+    found = hal.post("/flags/", FORMS["/flags/"])
+    assert found.status_code == 500 and "lives in the parish" in found.text
+    assert "Something went wrong in the application" in Page(found.text).said()
+    page = hal.get("/flags/")
+    assert page.status_code == 500 and is_plain(Page(page.text).said())
+
+
+def test_no_template_names_anything_of_the_machine() -> None:
+    """The words of all screens."""
+    folder = ROOT / "office" / "web" / "templates"
+    for path in folder.glob("*.html"):
+        # (a page of the archive, which names the files beside it)
+        if path.name == "archive.html":
+            continue
+        shown = re.sub(r"{#.*?#}|{%.*?%}|{{.*?}}|<[^>]*>", " ", path.read_text("utf-8"), flags=re.S)
+        assert is_plain(shown), path.name
+
+
+def test_no_text_of_people_is_taken_for_markup() -> None:
+    """No template has a text as it is, but that of the handbook, which the product itself has."""
+    found = [path.name for path in (ROOT / "office" / "web").rglob("*")
+             if path.suffix in (".html", ".py")
+             and re.search(r"\|\s*safe\b|autoescape|Markup\(", path.read_text("utf-8"))]
+    assert found == ["help.py"]

@@ -1,0 +1,114 @@
+"""Work in the store that several persons do step by step, as a draw or a restore: a row that has a
+state and a version, and a row for each step that was done.
+"""
+import contextlib
+import dataclasses
+import datetime
+import sqlite3
+import threading
+from collections.abc import Iterator
+from typing import Generic, Protocol, TypeVar
+
+from register_files import Refused
+
+from .history import History, now
+from .people import Person
+from .store import Store
+
+
+def moment(at: str) -> str:
+    """The time of a moment (UTC) by the clock of this machine; with the day if it is not today."""
+    found = datetime.datetime.fromisoformat(at).astimezone()
+    is_today = found.date() == datetime.date.today()
+    return f"{found:%H:%M}" if is_today else f"{found.day} {found:%B}, {found:%H:%M}"
+
+
+@dataclasses.dataclass(frozen=True)
+class Done:
+    """A step that was done: to which state, by whom, at which moment (UTC), and what came of it."""
+
+    state: str
+    who: str
+    at: str
+    said: str
+
+
+def steps_in(rows: list[sqlite3.Row]) -> tuple[Done, ...]:
+    """The steps of rows."""
+    return tuple(Done(it["state"], it["who"], it["at"], it["said"]) for it in rows)
+
+
+class Stepped(Protocol):
+    """What goes through states. Its version grows with each step."""
+
+    @property
+    def number(self) -> int:
+        """Its number in the store."""
+
+    @property
+    def state(self) -> str:
+        """Its state."""
+
+    @property
+    def version(self) -> int:
+        """Its version: who decides names the one that they saw."""
+
+    @property
+    def done(self) -> tuple[Done, ...]:
+        """The steps that were done."""
+
+
+One = TypeVar("One", bound=Stepped)
+
+
+class StepStore(Generic[One]):
+    """All of one kind, in the table of its name; the steps are in the table NAME_step."""
+
+    table: str
+
+    def __init__(self, store: Store, record: History) -> None:
+        self.store, self.history = store, record
+        self.lock = threading.RLock()
+
+    def get(self, number: int) -> One:
+        """One by its number, or a refusal."""
+        raise NotImplementedError
+
+    def steps_of(self, number: int) -> list[sqlite3.Row]:
+        """The steps of one that were done."""
+        table = self.table
+        return self.store.rows(
+            f"SELECT * FROM {table}_step WHERE {table}=? ORDER BY version", number)
+
+    @contextlib.contextmanager
+    def turn(self, number: int, seen: int, *states: str) -> Iterator[One]:
+        """One in one of these states, if it is as it was when the person decided. Nobody else
+        changes it meanwhile.
+        """
+        with self.lock:
+            found = self.get(number)
+            if found.version != seen:
+                last = found.done[-1]
+                raise Refused(f"the {self.table} has changed since this page was shown: {last.who}"
+                              f" brought it to the state '{last.state}' at {moment(last.at)}."
+                              " Nothing was done")
+            if found.state not in states:
+                raise Refused(f"the {self.table} is in the state '{found.state}', in which this"
+                              " cannot be done")
+            yield found
+
+    @contextlib.contextmanager
+    def moving(
+        self, found: One, who: Person, state: str, said: str = "", **columns: object
+    ) -> Iterator[sqlite3.Connection]:
+        """Brings one to a state, with what else is stored at once."""
+        names = "".join(f", {it}=?" for it in columns)
+        with self.store.writing() as db:
+            query = f"UPDATE {self.table} SET state=?, version=?{names} WHERE id=? AND version=?"
+            version = found.version + 1
+            if not db.execute(query, (state, version, *columns.values(), found.number,
+                                      found.version)).rowcount:
+                raise Refused(f"the {self.table} has changed meanwhile. Nothing was done")
+            db.execute(f"INSERT INTO {self.table}_step VALUES (?, ?, ?, ?, ?, ?)",
+                       (found.number, version, now(), who.name, state, said))
+            yield db
