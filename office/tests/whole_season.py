@@ -12,11 +12,12 @@ import pathlib
 import socket
 import subprocess
 import time
-from collections.abc import Iterator
+from collections.abc import Callable, Iterator
 
 import pytest
 from conftest import ROOT, make
 from draw_site import NAME, Machine, machine_over
+from machine import deletion, office_delete, second_copy
 
 from checks.season import needs  # noqa: E402
 
@@ -66,10 +67,23 @@ def is_answering(place: str) -> bool:
     return True
 
 
+def with_deletion(machine: Machine, patch: pytest.MonkeyPatch,
+                  now: Callable[[], datetime.date]) -> None:
+    """Has the machine keep a day of deletion and delete the register, by the day of the season."""
+    settings = machine.folder / "etc"
+    (settings / NAME).mkdir(parents=True)
+    (settings / NAME / "site-name").write_text("admissions.example\n")
+    for it in (office_delete, second_copy):
+        patch.setattr(it, "SETTINGS", settings)
+    patch.setattr(deletion, "today", now)
+    patch.setattr(
+        office_delete, "stop", lambda _: machine.stop() if machine.file.exists() else None)
+
+
 def test_a_season_as_people_live_it(
     tmp_path: pathlib.Path, monkeypatch: pytest.MonkeyPatch
 ) -> None:
-    """From the first sign-in to the second round, on the days of the season."""
+    """From the first sign-in to the deletion, on the days of the season."""
     assert not needs.missing()
     from checks.season import season, site
 
@@ -84,11 +98,16 @@ def test_a_season_as_people_live_it(
         new.write_text(day.isoformat())
         new.replace(today)
 
+    def now() -> datetime.date:
+        return datetime.date.fromisoformat(today.read_text("ascii"))
+
     clock(datetime.date(2024, 11, 4))
     with machine_over(tmp_path / "machine", register, monkeypatch) as machine:
+        with_deletion(machine, monkeypatch, now)
         with application(machine, today) as (address, password):
             report = season.hold(
                 site.Site(address), (FIRST, password), room,
                 pathlib.Path(pictures) if pictures else None, clock)
-    assert not report.failed, "\n".join(report.failed)
+        assert not report.failed, "\n".join(report.failed)
+        assert not [*(machine.lib / NAME).iterdir(), *(machine.backups / NAME).iterdir()]
     assert report.passed > 100, "the season was not lived"

@@ -16,6 +16,8 @@ from collections.abc import Iterable, Mapping
 Pair = tuple[str, int]
 Lots = Mapping[Pair, int]
 PLAN = "plan"
+# an offer is reminded of so long after it, and ends so long after the reminder
+NOTICE = datetime.timedelta(days=14)
 # class, distance and lot
 Rank = tuple[int, int, int]
 
@@ -101,6 +103,9 @@ class Season:
         self.places: dict[int, str] = {}
         self.plans: set[int] = set()
         self.left: set[Pair] = set()
+        # the offers that have no answer, with their days, and those of which was reminded
+        self.offers: dict[int, datetime.date] = {}
+        self.reminded: dict[int, datetime.date] = {}
 
     def plan(self, child: int, school: str) -> None:
         """A plan names a school: the child is admitted, and its application ends."""
@@ -108,9 +113,33 @@ class Season:
         self.plans.add(child)
         self.places[child] = school
 
+    def answer(self, child: int) -> None:
+        """An offer is accepted."""
+        del self.offers[child]
+        self.reminded.pop(child, None)
+
     def decline(self, child: int) -> None:
-        """A child gives up its place, and that school is not offered to it again."""
+        """A child gives up its place, or does not answer in time, and that school is not offered to
+        it again.
+        """
+        self.offers.pop(child, None)
+        self.reminded.pop(child, None)
         self.left.add((self.places.pop(child), child))
+
+    def offer(self, child: int, school: str, day: datetime.date) -> None:
+        """A child is offered a place, which it has from now on."""
+        if self.places.get(child) != school:
+            self.places[child], self.offers[child] = school, day
+            self.reminded.pop(child, None)
+
+    def to_remind(self, day: datetime.date) -> list[int]:
+        """Who is reminded on a day at the latest."""
+        return sorted(it for it, offered in self.offers.items()
+                      if it not in self.reminded and offered + NOTICE <= day)
+
+    def to_end(self, day: datetime.date) -> list[int]:
+        """Whose offer may be withdrawn on a day."""
+        return sorted(it for it, reminded in self.reminded.items() if reminded + NOTICE <= day)
 
     def wanted(self, child: int) -> list[str]:
         """The schools of a child's list above its place, without those that it left."""
@@ -158,7 +187,7 @@ class Season:
         plans = [self.places[it] for it in self.plans]
         return max(0, self.schools[school].pan - plans.count(school))
 
-    def round(self, lots: Lots) -> dict[int, str | None]:
+    def round(self, lots: Lots, day: datetime.date) -> dict[int, str | None]:
         """Holds a round, and returns the school of each child that takes part."""
         entrants = self.entrants()
         asks = {it: iter([*self.wanted(it), *filter(None, [self.places.get(it)])])
@@ -175,7 +204,8 @@ class Season:
                 kept[school].remove(last)
                 unheard.append(last)
         found = {child: school for school, them in kept.items() for child in them}
-        self.places |= found
+        for child, school in found.items():
+            self.offer(child, school, day)
         self.draws, self.rounds = self.draws + 1, self.rounds + 1
         return {it: found.get(it) for it in entrants}
 
@@ -188,11 +218,11 @@ class Season:
             return None
         return max(others, key=lambda it: self.rank((school, it), lots))
 
-    def fill(self, school: str, lots: Lots) -> int:
+    def fill(self, school: str, lots: Lots, day: datetime.date) -> int:
         """Offers a vacancy to the first of those that wait, and returns who it is. A place that the
         child had ends.
         """
         _, first = min(self.waiting(school), key=lambda it: self.rank(it, lots))
-        self.places[first] = school
+        self.offer(first, school, day)
         self.draws += 1
         return first

@@ -54,8 +54,8 @@ def recorded(office: Office, school: str) -> None:
              for it in office.read("/register")["children"]}
     for it in children:
         report.same(kinds[it], None if it in declined else "accepted", f"the place of child {it}")
-    for it in declined:
-        season.decline(it)
+    for it in children:
+        (season.decline if it in declined else season.answer)(it)
     office.compare("the answers")
 
 

@@ -11,6 +11,9 @@ from .allocation import Child
 from .hands import Hands
 from .office import HAL, Office
 
+# so many rows are corrected before they are saved
+AT_ONCE = 2
+
 
 def from_workbook(office: Office) -> None:
     """The workbook is added, and what is wrong is named at its cells."""
@@ -21,7 +24,6 @@ def from_workbook(office: Office) -> None:
     town.write(path, town.COLUMNS, town.rows(given))
     hal.press("Applications")
     hal.choose("Add workbooks (.xlsx) or CSV files", path)
-    hal.press("Add the files")
     hal.see(f"applications.xlsx is added: {len(given) + 1} rows.")
     hal.look("Applications, with errors")
     wrong = len(town.FAULTS) + 1
@@ -37,7 +39,7 @@ def from_workbook(office: Office) -> None:
 def row_of(hands: Hands, child: Child) -> WebElement:
     """The row of a child: of two with its number, the one with its home."""
     rows: list[WebElement] = hands.driver.execute_script(
-        "const value = (row, name) => row.querySelector(`input[name=${name}]`)?.value;"
+        "const value = (row, name) => row.querySelector(`input[name^='${name}-']`)?.value;"
         "return [...document.querySelectorAll('.cells tbody tr')].filter("
         "(row) => value(row, 'child') === arguments[0])", str(child.number))
     if len(rows) > 1:
@@ -47,7 +49,7 @@ def row_of(hands: Hands, child: Child) -> WebElement:
 
 def cell(row: WebElement, column: str) -> WebElement:
     """The field of a cell."""
-    return row.find_element(By.CSS_SELECTOR, f"input[name={column}]")
+    return row.find_element(By.CSS_SELECTOR, f"input[name^='{column}-']")
 
 
 def found_at(hands: Hands, child: Child, column: str) -> str:
@@ -60,12 +62,18 @@ def found_at(hands: Hands, child: Child, column: str) -> str:
 
 
 def corrected(office: Office) -> None:
-    """Each cell is corrected where it is, and saved by Enter; the doubled row is withdrawn."""
+    """Each cell is corrected where it is, and saved by Enter, the first two at once; the doubled
+    row is withdrawn.
+    """
     report, hal = office.report, office.people[HAL]
     given = list(office.season.children.values())
     report.step("they are corrected at their cells")
-    left = len(town.FAULTS) + 1
-    for child, fault in town.wrong_rows(given):
+    wrong = list(town.wrong_rows(given))
+    left = len(town.FAULTS) + 1 - len(wrong[:AT_ONCE])
+    several(hal, [(it, fault.column) for it, fault in wrong[:AT_ONCE]])
+    hal.see(f"Saved: {AT_ONCE} rows; nothing is wrong in them.")
+    hal.see(f"{len(given) + 1} rows: {left} with errors")
+    for child, fault in wrong[AT_ONCE:]:
         typed(hal, child, fault.column, town.texts_of(child)[fault.column])
         left -= 1
         hal.see("nothing is wrong in it.", f"child {child.number}, {fault.column}")
@@ -75,6 +83,20 @@ def corrected(office: Office) -> None:
     twice = row_of(hal, town.doubled(given))
     hal.press("Withdraw", twice)
     hal.see(f"{len(given)} rows: 0 with errors, {len(town.LATE)} to look at.")
+
+
+def several(hal: Hands, cells: list[tuple[Child, str]]) -> None:
+    """Cells of several rows get their right texts. What was typed is there after a reload, and all
+    rows are saved at once.
+    """
+    for child, column in cells:
+        hal.into(cell(row_of(hal, child), column))
+        hal.replace(town.texts_of(child)[column])
+    hal.reload()
+    hal.report.see("What you typed here is not saved yet." in hal.main,
+                   f"what was typed is gone after a reload: {hal.main[:300]}")
+    hal.into(cell(row_of(hal, cells[-1][0]), cells[-1][1]))
+    hal.enter()
 
 
 def typed(hal: Hands, child: Child, column: str, text: str) -> None:
@@ -110,7 +132,7 @@ def stored(office: Office) -> None:
     report.same(facts.get("Late"), str(late), "late ones to be stored")
     report.same(facts.get("Looked after"), str(sum(it.looked_after for it in given)),
                 "looked after of those to be stored")
-    hal.see(f"shall {len(given)} applications of {len(given)} children be stored, {in_time} in time"
+    hal.see(f"Shall {len(given)} applications of {len(given)} children be stored, {in_time} in time"
             f" and {late} late?")
     hal.press(f"Store {len(given)} applications")
     hal.see(f"Stored in the register: {len(given)} applications")
@@ -145,7 +167,7 @@ def plans(office: Office) -> None:
     children = list(season.children.values())
     named = [(children[9], "A"), (children[33], "DEAN")]
     hal.press("Answers")
-    hal.tab_to("A column of numbers or names, or rows as decline,23,ELM,Bo Bell")
+    hal.tab_to("A column of numbers or names, or rows as 23 Bo Bell ELM decline")
     hal.type("\n".join(f"plan,{it.number},{school},{it.name}" for it, school in named))
     hal.press("Add to the pile")
     hal.press("Record 2 answers")

@@ -43,7 +43,7 @@ def schools(office: Office) -> None:
     town.write_schools(path)
     jane.press("Add schools")
     jane.choose("Sheet", path)
-    lines = jane_adds(jane)
+    lines = jane.captioned("Each line as it will be stored")
     jane.look("Add schools, a draft")
     for it in town.SCHOOLS:
         row = next((row for row in lines if row[0] == it.code), [""] * 6)
@@ -54,13 +54,6 @@ def schools(office: Office) -> None:
     jane.press(f"Store {len(town.SCHOOLS)} schools")
     jane.see(f"{len(town.SCHOOLS)} schools are stored.")
     office.report.same(len(jane.rows("#outcomes")), len(town.SCHOOLS), "schools that were stored")
-
-
-def jane_adds(jane: Hands) -> list[list[str]]:
-    """Adds the sheet that was chosen to the draft, and returns its lines."""
-    buttons = jane.driver.find_elements("css selector", "form[action$='/sheet']")
-    jane.press("Add to the draft", buttons[0])
-    return jane.captioned("Each line as it will be stored")
 
 
 def flags(office: Office) -> None:
@@ -88,8 +81,11 @@ def people(office: Office) -> None:
         jane.pick("Role", role, role)
         if name == PROGRAM:
             jane.pick("Who it is", "a program", "a pr")
-        jane.press("Add")
-        jane.see(f"{name} is added.")
+        jane.enter()
+        jane.see(f"{name} is added as {role}.")
+        here = jane.field("Name or mail address, in small letters")
+        office.report.see(here == jane.driver.switch_to.active_element,
+                          f"the field of a name does not have the focus after {name}")
         office.drawn[name] = jane.text("#secret")
     jane.look("People, all of them")
     listed = {row[0]: row[1] for row in jane.captioned("Who may sign in")}
@@ -102,9 +98,11 @@ def arrivals(office: Office) -> None:
     """Each signs in and sees what is theirs."""
     firsts = {HAL: "Season", SUP: "Lots", RITA: "Season", ABBEY: "A Abbey School"}
     menus = {
-        HAL: "Season Schools Applications Children Answers Draws Lists Flags The page Activity",
+        HAL: "Season Schools Applications Children Answers Reminders Letters Draws Trials Lists"
+             " Figures Flags The page Copies Activity End of the season",
         SUP: "Lots", ABBEY: "",
-        RITA: "Season Schools Applications Children Draws Lists Flags The page Activity"}
+        RITA: "Season Schools Applications Children Reminders Letters Draws Trials Lists Figures"
+              " Flags The page Copies Activity"}
     for who, first in firsts.items():
         hands = office.arrive(who)
         sign_in(hands, office.drawn[who])

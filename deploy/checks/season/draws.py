@@ -1,6 +1,7 @@
 """A round, or fills at one school in one closure: closed, copied, lots drawn and sealed, rehearsed,
 confirmed by a second person, held, audited and opened.
 """
+import copy
 import dataclasses
 import datetime
 import hashlib
@@ -12,7 +13,7 @@ from selenium.webdriver.common.keys import Keys
 from . import town
 from .allocation import Pair, lot_of_seed
 from .hands import Hands
-from .office import HAL, SUP, Office
+from .office import HAL, SUP, Before, Office
 from .report import until
 
 AGREED = "I have read what looks wrong above, and it is right"
@@ -30,6 +31,8 @@ class Draw:
     school: str = ""
     fills: int = 1
     is_workbook: bool = False
+    # the day of the office when the draw is held, if its own is wrong
+    office_day: datetime.date | None = None
 
     @property
     def numbers(self) -> str:
@@ -53,9 +56,9 @@ class Draw:
 Lots = dict[Pair, list[int]]
 
 
-def held(office: Office, draw: Draw) -> None:
-    """A draw from its begin to its end, compared with the rules."""
-    office.today(draw.day)
+def held(office: Office, draw: Draw) -> Lots:
+    """A draw from its begin to its end, compared with the rules; returns its lots."""
+    office.today(draw.office_day or draw.day)
     office.report.step(f"{draw.words}: begun, closed and copied")
     pairs = office.season.waiting(draw.school) if draw.school else office.season.pairs()
     lots = lots_of(office, draw, pairs)
@@ -63,7 +66,34 @@ def held(office: Office, draw: Draw) -> None:
     closed(office, draw, len(pairs))
     office.report.step(f"{draw.words}: lots")
     drawn(office, draw, pairs, lots)
+    ended(office, draw, lots)
+    return lots
+
+
+def held_again(office: Office, draw: Draw, lots: Lots) -> None:
+    """The same of a draw that a restore has undone, from the form that the head of the office sees:
+    its lots stay as they were sealed, and the supervisor seals them for the right day.
+    """
+    jane, sup = office.jane, office.people[SUP]
+    office.report.step(f"{draw.words}: held again on {draw.day}")
+    jane.type_day("Day of the draw", draw.day)
+    jane.enter()
+    office.report.same(jane.title, draw.title, "the heading of the draw that is held again")
+    closed(office, draw, len(lots))
+    sup.open("/")
+    sup.see(f"{len(lots)} lots were sealed in the draw that this one repeats, and stay as they"
+            " are.")
+    sup.press("Show all lots, to seal them")
+    sealed(office, draw, lots)
+    ended(office, draw, lots)
+
+
+def ended(office: Office, draw: Draw, lots: Lots) -> None:
+    """A draw whose lots are sealed, to its end."""
     office.report.step(f"{draw.words}: rehearsed and confirmed")
+    if not draw.school:
+        office.before[draw.first] = Before(
+            copy.deepcopy(office.season), {pair: it[0] for pair, it in lots.items()}, draw.day)
     rehearsed(office, draw, lots)
     office.report.step(f"{draw.words}: held, audited and opened")
     sent(office, draw)
@@ -135,6 +165,12 @@ def drawn(office: Office, draw: Draw, pairs: Sequence[Pair], lots: Lots) -> None
     sup.fill("Seed", draw.seed)
     sup.enter()
     sup.see(f"{others} lots are drawn by the seed.")
+    sealed(office, draw, lots)
+
+
+def sealed(office: Office, draw: Draw, lots: Lots) -> None:
+    """The supervisor seals all lots, of which the screen shows the digest."""
+    report, sup = office.report, office.people[SUP]
     sup.look("All lots, to be sealed")
     digest = hashlib.sha256(sealed_text(draw, lots).encode()).hexdigest()
     report.same(sup.text("#digest"), digest, "the digest of the lots")
@@ -149,7 +185,6 @@ def by_workbook(office: Office, sup: Hands, draw: Draw, lots: dict[Pair, int]) -
     until(path.exists, "the sheet of lots")
     office.report.same(town.fill_lots(path, lots), len(lots), "pairs of the sheet with a lot")
     sup.choose("File (.xlsx or .csv)", path)
-    sup.press("Take the lots of the file")
     sup.see(f"The file has {len(lots)} lots of {draw.numbers}: {len(lots)} new or changed.")
 
 
@@ -186,20 +221,21 @@ def sealed_text(draw: Draw, lots: Lots) -> str:
 
 
 def rehearsed(office: Office, draw: Draw, lots: Lots) -> None:
-    """The draw is rehearsed: its outcome must be that of the rules. A second person confirms it."""
+    """The rehearsal has followed the seal: its outcome must be that of the rules. A second person
+    confirms it.
+    """
     report, jane, hal, season = office.report, office.jane, office.people[HAL], office.season
     before = dict(season.places)
     jane.reload()
-    jane.press("Rehearse")
     jane.look(f"{'Fills' if draw.school else 'A round'}, rehearsed")
     got: list[tuple[int, int, str | None]] = []
     if draw.school:
         for at in range(draw.fills):
             there = season.waiting(draw.school)
-            first = season.fill(draw.school, {pair: lots[pair][at] for pair in there})
+            first = season.fill(draw.school, {pair: lots[pair][at] for pair in there}, draw.day)
             got.append((draw.first + at, first, draw.school))
     else:
-        outcome = season.round({pair: it[0] for pair, it in lots.items()})
+        outcome = season.round({pair: it[0] for pair, it in lots.items()}, draw.day)
         got = [(draw.first, child, school) for child, school in outcome.items()]
     shown = sorted((int(row[0]), int(row[1]), row[3], row[4])
                    for row in jane.captioned("By child"))
@@ -213,12 +249,12 @@ def rehearsed(office: Office, draw: Draw, lots: Lots) -> None:
 
 
 def sent(office: Office, draw: Draw) -> None:
-    """It is held, audited, and the register is opened for all."""
+    """It is held, and the audit that agrees opens the register for all."""
     report, jane = office.report, office.jane
     jane.reload()
     jane.press(f"Hold {draw.numbers}")
+    jane.see("The audit agrees, and the register is open for all again.")
     jane.see("The outcome is that of the rehearsal, and the second program has worked out the"
              " same.")
-    jane.look("A draw that was audited")
-    jane.press("Open for all")
+    jane.look("A draw that was opened")
     report.same(jane.facts().get("State"), "opened", f"the state of {draw.numbers}")

@@ -19,9 +19,13 @@ from selenium.webdriver.common.keys import Keys
 from selenium.webdriver.remote.webdriver import WebDriver
 from selenium.webdriver.remote.webelement import WebElement
 
+from . import screens
 from .report import Report, Stopped, until
 
-WIDTH, HEIGHT, SMALL = 1280, 900, 320
+# the window; what is left of it at 200 percent, and the narrowest one in which all can be read
+WIDTH, HEIGHT, TWICE, SMALL = 1280, 900, 640, 320
+# screens with more controls are not gone through by Tab
+MOST_STOPS = 60
 # no screen needs so many steps by Tab to one of its fields
 MOST_TABS = 400
 PLAIN = """
@@ -121,9 +125,10 @@ class Hands:
         element.click()
 
     def choose(self, label: str, path: pathlib.Path) -> None:
-        """Chooses a file in a field."""
+        """Chooses a file in a field, from which another page follows."""
         self.report.counts.clicks += 1
-        self.field(label).send_keys(str(path))
+        with self.new_page(label):
+            self.field(label).send_keys(str(path))
 
     def field(self, label: str) -> WebElement:
         """The field with a label."""
@@ -214,6 +219,10 @@ class Hands:
         until(lambda: self.driver.execute_script(
             "return document.documentElement.dataset.mark !== arguments[0] &&"
             " document.readyState === 'complete'", mark), f"a page after {name!r}")
+        # (one that says how far something is loads itself again, until that is done)
+        until(lambda: self.driver.execute_script(
+            "return document.readyState === 'complete' &&"
+            " !document.querySelector('meta[http-equiv=refresh]')"), f"the end after {name!r}")
         self.look()
 
     def resize(self, width: int, height: int) -> None:
@@ -237,13 +246,57 @@ class Hands:
             return
         self.report.screens.add(name)
         self.picture(name)
-        self.resize(SMALL, HEIGHT)
-        wide, room = self.driver.execute_script(
-            "const it = document.documentElement; return [it.scrollWidth, it.clientWidth];")
-        self.report.see(wide <= room <= SMALL, f"'{name}' is {wide} pixels wide where there are"
-                        f" {room}")
+        self.see_structure(name)
+        for width in (TWICE, SMALL):
+            self.resize(width, HEIGHT)
+            for it in self.driver.execute_script(screens.TOO_WIDE) or [""]:
+                self.report.see(not it, f"'{name}' at {width} pixels: {it}")
         self.picture(name, "-small")
         self.resize(WIDTH, HEIGHT)
+        self.see_stops(name)
+
+    def see_structure(self, name: str) -> None:
+        """Looks at what a screen reader gets, at the contrast in both schemes, and at paper."""
+        found = list(self.driver.execute_script(screens.STRUCTURE))
+        for scheme in ("dark", "light"):
+            self.emulate("", scheme)
+            _, faint = self.driver.execute_script(f"return {screens.CONTRAST};")
+            found += [f"faint in {scheme}: {text} {ratio}" for text, ratio in faint[:5]]
+        self.emulate("print", "light")
+        found += [f"on paper: {it}" for it in self.driver.execute_script(screens.PRESSABLE)]
+        self.emulate("", "light")
+        for it in found or [""]:
+            self.report.see(not it, f"'{name}': {it}")
+
+    def emulate(self, media: str, scheme: str) -> None:
+        """Shows the page on paper or on a screen, in light or dark colours."""
+        self.driver.execute_cdp_cmd("Emulation.setEmulatedMedia", {
+            "media": media, "features": [{"name": "prefers-color-scheme", "value": scheme}]})
+
+    def see_stops(self, name: str) -> None:
+        """Goes through a screen by Tab: each control is reached, in the order of the page. The
+        focus is where it was then.
+        """
+        without = self.driver.execute_script(screens.WITHOUT_TAB)
+        self.report.see(not without, f"'{name}': Tab has another order, or no way, to {without}")
+        count = self.driver.execute_script(screens.STOPS)
+        if count > MOST_STOPS:
+            return
+        before = self.driver.switch_to.active_element
+        self.driver.execute_script(screens.TO_BEGIN)
+        reached: list[int] = []
+        for _ in range(count + 5):
+            ActionChains(self.driver).send_keys(Keys.TAB).perform()
+            here = self.driver.execute_script(screens.HERE)
+            if here is not None:
+                reached.append(int(here))
+            if len(set(reached)) == count:
+                break
+        missed = sorted(set(range(count)) - set(reached))
+        self.report.see(not missed and reached == sorted(reached),
+                        f"'{name}': Tab reaches {reached}, and not {missed} of {count} controls")
+        back = screens.TO_BEGIN if before.tag_name == "body" else screens.TO_FIELD
+        self.driver.execute_script(back, before)
 
     def picture(self, name: str, end: str = "") -> None:
         """Keeps a picture of the whole page."""

@@ -2,7 +2,8 @@
 import importlib.util
 import shutil
 
-PROGRAMS = {"chromium": "chromium", "chromedriver": "chromium-driver", "openssl": "openssl"}
+PROGRAMS = {"chromium": "chromium", "chromedriver": "chromium-driver", "openssl": "openssl",
+            "pdftotext": "poppler-utils"}
 MODULES = {"selenium": "python3-selenium", "openpyxl": "python3-openpyxl"}
 
 

@@ -9,7 +9,7 @@ from collections.abc import Callable
 from typing import Any
 
 from . import town
-from .allocation import Season
+from .allocation import Lots, Season
 from .hands import Hands
 from .report import Report
 from .site import Site
@@ -19,6 +19,15 @@ Clock = Callable[[datetime.date], None]
 HEAD, OFFICER, SUPERVISOR, READER = "head", "officer", "supervisor", "reader"
 # the officer, the supervisor, who reads, the head of a school, and a program with a token
 HAL, SUP, RITA, ABBEY, PROGRAM = "hal", "sup", "rita", "abbey", "checker"
+
+
+@dataclasses.dataclass(frozen=True)
+class Before:
+    """A round as the rules have it: the season right before it, its lots and its day."""
+
+    season: Season
+    lots: Lots
+    day: datetime.date
 
 
 @dataclasses.dataclass
@@ -39,6 +48,11 @@ class Office:
     # the season as the rules make it, once the days are known
     season: Season = dataclasses.field(init=False)
     offer_day: datetime.date = dataclasses.field(init=False)
+    lists_end: datetime.date = dataclasses.field(init=False)
+    deletion: datetime.date = dataclasses.field(init=False)
+    # the day of the office, and the rounds by the numbers of their draws
+    day: datetime.date = dataclasses.field(default_factory=datetime.date.today)
+    before: dict[int, Before] = dataclasses.field(default_factory=dict)
 
     @property
     def jane(self) -> Hands:
@@ -66,12 +80,14 @@ class Office:
         days = self.read("/register")["season"]
         closing = datetime.date.fromisoformat(days["closing"])
         self.offer_day = datetime.date.fromisoformat(days["offer_day"])
+        self.lists_end = datetime.date.fromisoformat(days["last_list_day"])
         self.season = Season(town.SCHOOLS, town.children(closing), closing)
 
     def today(self, day: datetime.date) -> None:
-        """It is another day."""
+        """It is another day, where that can be."""
         if self.clock:
             self.clock(day)
+            self.day = day
 
     def compare(self, after: str) -> None:
         """The places of the register must be those of the rules, and so must its vacancies and its

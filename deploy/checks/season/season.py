@@ -1,4 +1,4 @@
-"""The season from its first sign-in to its last list."""
+"""The season from its first sign-in to its deletion."""
 import contextlib
 import datetime
 import pathlib
@@ -6,17 +6,20 @@ from collections.abc import Callable
 
 from selenium.common.exceptions import WebDriverException
 
-from . import answers, applications, beginning, draws
+from . import answers, applications, beginning, draws, ending, letters, wrong
 from .draws import Draw
 from .office import ABBEY, HAL, RITA, SUP, Clock, Office
 from .report import Report, Stopped
 from .site import Site
 
-# what a season should cost in clicks
-AIM = 40
+# what a season should cost in clicks; and how often what looks wrong is said to be right where the
+# draws are held on another day than that of the office: once for each
+AIM, TICKS = 60, 4
 # the school at which vacancies are filled, and how many; and so many days after the offer day are
 # the fills and the second round
 SCHOOL, FILLS, AFTER_FILLS, AFTER_SECOND = "A", 3, 21, 56
+# and so many days are the reminders and the withdrawals, of which some are not recorded
+AFTER_REMINDERS, AFTER_WITHDRAWALS, NOT_WITHDRAWN = 14, 35, 3
 
 
 def hold(site: Site, first: tuple[str, str], folder: pathlib.Path,
@@ -35,7 +38,9 @@ def hold(site: Site, first: tuple[str, str], folder: pathlib.Path,
                 report.see(clicks <= most, f"{step.__doc__} {clicks} clicks, and not {most}")
         except (Stopped, WebDriverException) as error:
             report.see(False, f"the season stops: {error}")
-    total, most = report.counts.clicks, sum(most for _, most in STEPS) + office.ticks
+    ticks = 1 if clock else TICKS
+    report.see(office.ticks <= ticks, f"{office.ticks} ticks, and not {ticks}")
+    total, most = report.counts.clicks, sum(most for _, most in STEPS) + ticks
     report.step(f"the end of the season: at most {most} clicks; the aim is {AIM}")
     report.see(total <= most, f"{total} clicks, and not {most}")
     return report
@@ -65,10 +70,31 @@ def fills(office: Office) -> None:
     draws.held(office, Draw(2, day, "11 20 24 25 36 40", SCHOOL, FILLS))
 
 
+def offers(office: Office) -> None:
+    """Letters to all whom the first round has offered a place."""
+    letters.to_offered(office, 1)
+
+
+def letterhead(office: Office) -> None:
+    """What letters say of the office."""
+    letters.letterhead(office)
+
+
+def reminders(office: Office) -> None:
+    """Reminders of all who have not answered, with their letters."""
+    letters.reminders(office, office.offer_day + datetime.timedelta(days=AFTER_REMINDERS))
+
+
+def withdrawals(office: Office) -> None:
+    """Withdrawals of offers that nobody has answered, with their letters."""
+    day = office.offer_day + datetime.timedelta(days=AFTER_WITHDRAWALS)
+    letters.withdrawals(office, day, NOT_WITHDRAWN)
+
+
 def second_round(office: Office) -> None:
-    """The second round, in which late applications take part too."""
+    """The second round, in which late applications take part too, with a wrong day at first."""
     day = office.offer_day + datetime.timedelta(days=AFTER_SECOND)
-    draws.held(office, Draw(2 + FILLS, day, "02 03 19 28 41 47"))
+    wrong.held(office, Draw(2 + FILLS, day, "02 03 19 28 41 47"))
 
 
 def other_screens(office: Office) -> None:
@@ -98,26 +124,37 @@ def other_screens(office: Office) -> None:
 # is beside these: it is asked for on another day than that of the draw.)
 STEPS: tuple[tuple[Callable[[Office], None], int], ...] = (
     (beginning.first_sign_in, 0),
-    # the screen, the file, the draft, and the schools in it
-    (beginning.schools, 4),
+    # the screen, the file, and the schools in it
+    (beginning.schools, 3),
     (beginning.flags, 1),
-    # the screen, and each of five who are added
-    (beginning.people, 6),
+    # the screen: each of five is added by typing
+    (beginning.people, 1),
     (beginning.arrivals, 0),
     (ready, 0),
-    # the screen, the file, and its rows
-    (applications.from_workbook, 3),
+    # the screen, and the file
+    (applications.from_workbook, 2),
     # the row that is withdrawn
     (applications.corrected, 1),
     (applications.stored, 2),
     # the screen, the pile, the question, and its answer
     (applications.plans, 4),
-    # for the head of the office the screen, the close, the rehearsal, the draw and the end; for the
-    # officer the draw and the confirmation; for the supervisor the seal, and the sheet, its file
-    # and its lots
-    (first_round, 11),
+    # for the head of the office the screen, the close and the draw; for the officer the draw and
+    # the confirmation; for the supervisor the seal, and the sheet and its file
+    (first_round, 8),
+    # the screens, and what is saved
+    (letterhead, 3),
+    # the screen, the file, and the record
+    (offers, 3),
     (first_answers, 3),
-    (fills, 8),
-    (second_round, 8),
+    # the screens, what is recorded, the record, the letters and their file
+    (reminders, 7),
+    (fills, 6),
+    (withdrawals, 8),
+    # the wrong draw, two answers, the restore, the draw again, and the answer to its offer
+    (second_round, 25),
+    (ending.figures, 3),
+    (ending.question, 4),
     (other_screens, 0),
+    (ending.archived, 3),
+    (ending.deleted, 1),
 )

@@ -1,0 +1,136 @@
+"""A draw that was held with a wrong day, and how it is put right: the copy from before it is
+restored by two persons, what came since is sent again, and it is held again with its lots.
+"""
+import copy
+import dataclasses
+import datetime
+
+from selenium.webdriver.common.by import By
+
+from . import draws
+from .allocation import Season
+from .draws import Draw
+from .hands import Hands
+from .office import HAL, Office
+from .report import until
+
+# so many days later than the right day is the one that was typed
+SLIP = 30
+
+
+def held(office: Office, draw: Draw) -> None:
+    """A draw that is held with a wrong day at first. The register is then as if it had been held
+    once, with the answers that came meanwhile.
+    """
+    slip = draw.day + datetime.timedelta(days=SLIP)
+    before = copy.deepcopy(office.season)
+    wrong = dataclasses.replace(draw, day=slip, office_day=draw.day)
+    lots = draws.held(office, wrong)
+    stayed, fresh = answering(office, before)
+    answered(office, stayed, fresh)
+    restored(office, draw, before, (stayed, fresh))
+    draws.held_again(office, draw, lots)
+    sent_later(office, fresh)
+    office.report.same(office.read(f"/draw/{draw.first}")["day"], draw.day.isoformat(),
+                       f"the day of draw {draw.first}")
+    office.compare("the draw on its right day, with all answers")
+    for it in (stayed, fresh):
+        sees_author(office, it)
+
+
+def answering(office: Office, before: Season) -> tuple[int, int]:
+    """Two children whose families answer after the wrong draw: one that the draw did not move, and
+    one with a new offer of it.
+    """
+    season, then = office.season, before.offers
+    stayed = next(it for it, day in sorted(season.offers.items()) if then.get(it) == day)
+    fresh = next(it for it, day in sorted(season.offers.items()) if then.get(it) != day)
+    return stayed, fresh
+
+
+def answered(office: Office, *children: int) -> None:
+    """The officer records answers, before anybody has seen that the day was wrong."""
+    hal = office.people[HAL]
+    office.report.step("answers after the wrong draw")
+    hal.press("Answers")
+    for it in children:
+        hal.type(f"{it}\n")
+    until(lambda: hal.has("Record 2 answers"), "the pile has both answers")
+    hal.press("Record 2 answers")
+    done = "2 of 2 answers are recorded."
+    until(lambda: done in hal.main, f"the page says that {done}")
+    for it in children:
+        office.season.answer(it)
+    office.compare("the answers after the wrong draw")
+
+
+def see_ticked(hands: Hands, children: tuple[int, ...]) -> None:
+    """The entries of these children are ticked, and no others: all that can be sent again after a
+    wrong draw is so at first.
+    """
+    boxes = hands.driver.find_elements(By.CSS_SELECTOR, "#since input[type=checkbox]:checked")
+    labels = [hands.text(f"label[for='{it.get_attribute('id')}']") for it in boxes]
+    hands.report.same(sorted(int(it.split()[1]) for it in labels), sorted(children),
+                      "whose entries are ticked to be sent again")
+
+
+def restored(office: Office, draw: Draw, before: Season, answered_by: tuple[int, int]) -> None:
+    """The head of the office asks for the restore at the draw, the officer confirms it, and it is
+    opened for all; what came since is there again with its first author.
+    """
+    report, jane, hal = office.report, office.jane, office.people[HAL]
+    report.step(f"{draw.words}: the copy from before it is restored")
+    number = jane.facts()["Copies"].split()[0]
+    jane.press(f"This draw was wrong: restore the copy from before {draw.numbers}")
+    jane.press(f"Close for all others, to restore copy {number}")
+    report.same(jane.title, f"Restore of copy {number}", "the heading of the restore")
+    came = [(row[2], row[3]) for row in jane.captioned("Came since the copy")]
+    report.same(len(came), 3, "entries that came since the copy")
+    report.see(any("A draw is held again on the screen of draws." in it for _, it in came),
+               f"the draw is not sent again: {came}")
+    see_ticked(jane, answered_by)
+    jane.press(f"Ask to restore copy {number}")
+    jane.look("A restore, asked for")
+    hal.press("Copies")
+    hal.press(f"The restore of copy {number}")
+    hal.press(f"Restore copy {number}")
+    hal.look("A restore, done")
+    stayed, fresh = answered_by
+    again = {int(row[3].split()[1]): (row[2], row[4]) for row in hal.captioned("Came since the")
+             if row[3].startswith("child ")}
+    report.same(again.get(stayed), (hal.who, "stored"), f"the answer of child {stayed}, sent again")
+    report.see(again.get(fresh, ("", "stored"))[1] != "stored",
+               f"an offer that is undone was accepted by child {fresh}: {again}")
+    jane.reload()
+    jane.press("Open for all")
+    office.season = copy.deepcopy(before)
+    office.season.answer(stayed)
+    office.compare("the restore")
+    jane.press(f"Begin {draw.words} again")
+
+
+def sent_later(office: Office, fresh: int) -> None:
+    """The answer to an offer of the draw is sent once that is held again."""
+    jane = office.jane
+    office.report.step(f"the answer of child {fresh} is sent again")
+    jane.press("Copies")
+    row = next(row[0] for row in jane.captioned("Restores"))
+    jane.press(row)
+    see_ticked(jane, (fresh,))
+    jane.press("Send what is ticked")
+    office.season.answer(fresh)
+    kinds = {it["child"]: it["place"] and it["place"]["kind"]
+             for it in office.read("/register")["children"]}
+    office.report.same(kinds[fresh], "accepted", f"the place of child {fresh}")
+
+
+def sees_author(office: Office, child: int) -> None:
+    """The history of a child names who sent its answer again, and who has recorded it first."""
+    hal = office.people[HAL]
+    hal.open(f"/children/{child}", "A child after a restore")
+    rows = [row for row in hal.rows("#history") if row[2].startswith("accepted the place")]
+    # (between them may be that it was sent while there was no offer)
+    office.report.see(len(rows) > 1 and f"recorded first by {hal.who} on" in rows[0][2]
+                      and rows[0][3].startswith("done") and rows[-1][1] == hal.who
+                      and "undone when copy" in rows[-1][3],
+                      f"who recorded the answer of child {child}: {rows}")
