@@ -107,6 +107,8 @@ install:
 	for tool in audit check figures letters lots query send trial why; do install -D -m 755 office/command $(DESTDIR)$(PREFIX)/bin/admissions-$$tool || exit 1; done
 	install -d $(DESTDIR)$(PREFIX)/share/admissions/office
 	install -m 644 office/*.py office/*.json $(DESTDIR)$(PREFIX)/share/admissions/office
+	# (a part of it is the help of the application)
+	install -m 644 docs/HANDBOOK.md $(DESTDIR)$(PREFIX)/share/admissions/office
 	install -d $(DESTDIR)$(PREFIX)/share/admissions/office/templates
 	install -m 644 office/templates/* $(DESTDIR)$(PREFIX)/share/admissions/office/templates
 	install -d $(DESTDIR)$(PREFIX)/share/admissions/office/web/screens $(DESTDIR)$(PREFIX)/share/admissions/office/web/templates

@@ -12,6 +12,8 @@ from typing import Any
 
 from register_files import Refused
 
+from . import texts
+
 # what a cell has, as it is given; a text of the form YYYY-MM-DD is a day
 Value = str | int | float | datetime.date | None
 
@@ -26,12 +28,13 @@ HEAD_COLOUR, LINE_COLOUR = "FFDDDDDD", "FF999999"
 @dataclasses.dataclass
 class Page:
     """A sheet: its name, what it has, and its header with its rows. In the columns of `blank`
-    somebody writes whole numbers up to this one."""
+    somebody writes whole numbers up to this one. Where it is text, each cell is one as it is."""
 
     name: str
     purpose: str
     rows: Sequence[Sequence[Value]]
     blank: dict[int, int] = dataclasses.field(default_factory=dict)
+    is_text: bool = False
 
 
 def library() -> ModuleType:
@@ -52,11 +55,16 @@ def value_of(value: Value) -> Value:
     return UNWRITABLE.sub("\ufffd", value) if isinstance(value, str) else value
 
 
-def fill(page: Any, rows: Iterable[Iterable[Value]]) -> None:
+def text_of(value: Value) -> Value:
+    """A value as a cell has it that is a text in any case."""
+    return UNWRITABLE.sub("\ufffd", "" if value is None else str(value))
+
+
+def fill(page: Any, rows: Iterable[Iterable[Value]], is_text: bool) -> None:
     """Writes the cells. A text is a text, whatever it begins with."""
     for at, row in enumerate(rows, 1):
         for column, given in enumerate(row, 1):
-            value = value_of(given)
+            value = text_of(given) if is_text else value_of(given)
             if value is None or value == "":
                 continue
             cell = page.cell(at, column)
@@ -114,6 +122,8 @@ def data(pages: list[Page], title: str) -> bytes:
     library_ = library()
     made = library_.Workbook()
     made.remove(made.active)
+    # (a title may have what somebody typed, of which a workbook takes no control characters)
+    title = texts.visible(title)
     made.properties.title, made.properties.creator = title, "admissions"
     if len(pages) > 1:
         contents: list[list[Value]] = [["sheet", "rows", "what it has"]]
@@ -121,7 +131,7 @@ def data(pages: list[Page], title: str) -> bytes:
         pages = [Page("contents", "the sheets of this workbook", contents), *pages]
     for it in pages:
         page = made.create_sheet(it.name)
-        fill(page, it.rows)
+        fill(page, it.rows, it.is_text)
         set_out(page, it, title, library_.styles)
         for column, most in it.blank.items():
             letter = page.cell(1, column).column_letter

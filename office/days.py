@@ -9,6 +9,8 @@ FIRST, LAST = (
 )
 # an offer may be reminded of after so long, and withdrawn so long after the reminder
 NOTICE = datetime.timedelta(days=RULES["limits"]["notice"]["least"])
+# a day of deletion is kept only if it is so far ahead, so that whoever runs the machine can object
+DELETION_NOTICE = datetime.timedelta(days=14)
 # before the closing date; primary applications are made from 1 September on, and it closes on
 # 15 January
 EARLIEST_DAYS, EARLIEST = 136, "more than four months"

@@ -5,16 +5,18 @@ out, and nothing here does. A register is read from a file, of which the program
 from a server, by the address at which it is served.
 """
 import contextlib
+import copy
 import dataclasses
 import datetime
 import functools
 import json
+import operator
 import os
 import re
 import subprocess
 import tempfile
 from collections.abc import Callable, Iterable, Iterator, Sequence
-from typing import Any, Protocol
+from typing import Any, NamedTuple, Protocol
 
 import register_files as files
 from register_files import InUse, Refused
@@ -28,11 +30,14 @@ OFFERED, ACCEPTED, PLAN = "offered", "accepted", "plan"
 HELD, LEFT, BEFORE, BELOW, WAITS = "place", "left", "before", "below", "waits"
 # the members of a child that are not fields of commands
 NO_DATA = ("application", "left", "place")
+# the members of a preference that each has
+RANKED = operator.itemgetter("school", "class", "metres", "state")
 # for the name of a register among the arguments of a command
 ADDRESS_HELP = ", or the address at which it is served"
 USER_HELP = "sign in with this name where a register is served; the password is asked for"
 USER_NEEDS = "--user needs the address at which a register is served"
 Pair = tuple[str, int]
+Lots = dict[Pair, int]
 
 
 @dataclasses.dataclass(frozen=True)
@@ -53,8 +58,7 @@ class School:
     waiting: int = dataclasses.field(default=0, compare=False)
 
 
-@dataclasses.dataclass(frozen=True)
-class Child:
+class Child(NamedTuple):
     """A child: its home in metres, its flags as numbers, the codes of its siblings' schools, and
     its present school or ""; and all its data by the names of the fields of commands.
     """
@@ -67,11 +71,10 @@ class Child:
     flags: tuple[int, ...]
     siblings: tuple[str, ...]
     present: str
-    data: dict[str, Any] = dataclasses.field(repr=False)
+    data: dict[str, Any]
 
 
-@dataclasses.dataclass(frozen=True)
-class Preference:
+class Preference(NamedTuple):
     """How a child ranks at a school of its list (class, whole metres), what became of that, and
     its position among those who wait there, if it waits.
     """
@@ -85,19 +88,40 @@ class Preference:
 
 @dataclasses.dataclass(frozen=True)
 class Application:
-    """When a child applied, and for which schools, best first, each with what came of it."""
+    """When a child applied, and for which schools, best first, each with what came of it. These
+    stay as the document has them until they are wanted: most readers want those of a few children.
+    """
 
     day: datetime.date
-    listed: dict[str, Preference]
+    preferences: tuple[str, ...]
+    rows: list[dict[str, Any]] = dataclasses.field(repr=False)
 
-    @property
-    def preferences(self) -> tuple[str, ...]:
-        """The codes of the schools, best first."""
-        return tuple(self.listed)
+    @functools.cached_property
+    def listed(self) -> dict[str, Preference]:
+        """What came of each school, best first."""
+        return {code: preference_of(it) for code, it in zip(self.preferences, self.rows)}
+
+    def at(self, code: str) -> Preference | None:
+        """What came of one school, if it is listed."""
+        return preference_of(self.row_of(code)) if code in self.preferences else None
+
+    def rank(self, code: str) -> tuple[int, int]:
+        """The class and the distance at a school that is listed."""
+        found = self.row_of(code)
+        return found["class"], found["metres"]
+
+    def row_of(self, code: str) -> dict[str, Any]:
+        """The row of a school that is listed."""
+        return self.rows[self.preferences.index(code)]
+
+    def in_state(self, *states: str) -> Iterator[tuple[int, str, Preference]]:
+        """The schools of which one of these came: as which preference, and what it is in full."""
+        for at, it in enumerate(self.rows, 1):
+            if it["state"] in states:
+                yield at, it["school"], preference_of(it)
 
 
-@dataclasses.dataclass(frozen=True)
-class Place:
+class Place(NamedTuple):
     """A place that a child has: OFFERED, ACCEPTED or by a PLAN; the days of the offer and of its
     reminder while it is open.
     """
@@ -126,15 +150,28 @@ class Source(Protocol):
     def shown(self) -> bytes:
         """The document of the register."""
 
-    def draws(self, numbers: Sequence[int]) -> Iterator[bytes]:
-        """The documents of draws, in this order."""
+    def lots(self, draws: Sequence[int]) -> Iterator[Lots]:
+        """The lots of draws, in this order."""
 
     def copy_to(self, path: str) -> None:
         """Writes the register to a new file, or refuses."""
 
 
 @dataclasses.dataclass
-class Register:
+class Members:
+    """What a command may rest on: schools, and children with their applications and places."""
+
+    schools: dict[str, School]
+    children: dict[int, Child]
+    applications: dict[int, Application]
+    places: dict[int, Place]
+    # the pairs of children and schools whose offer or list the child gave up
+    left: set[tuple[int, str]]
+    draws: list[Draw]
+
+
+@dataclasses.dataclass
+class Register(Members):
     """All that a register shows."""
 
     name: str
@@ -143,33 +180,33 @@ class Register:
     holidays: tuple[datetime.date, ...]
     # the closing day, the offer day and the last day of the lists
     days: tuple[datetime.date, datetime.date, datetime.date]
-    schools: dict[str, School]
-    children: dict[int, Child]
-    applications: dict[int, Application]
-    places: dict[int, Place]
-    # the pairs of children and schools whose offer or list the child gave up
-    left: set[tuple[int, str]]
-    draws: list[Draw]
     # by draws: the school of each child that took part, or None; and whether it is a new offer
     outcomes: dict[int, dict[int, str | None]]
     fresh: dict[int, dict[int, bool]]
     source: Source = dataclasses.field(repr=False, compare=False)
-    _lots: dict[int, dict[Pair, int]] = dataclasses.field(
-        default_factory=dict, repr=False, compare=False)
+    _lots: dict[int, Lots] = dataclasses.field(default_factory=dict, repr=False, compare=False)
 
-    def lots(self, draw: int) -> dict[Pair, int]:
+    def lots(self, draw: int) -> Lots:
         """The lots of a draw, if there is such a draw."""
         return next(self.lots_of([draw])) if draw in self.outcomes else {}
 
-    def lots_of(self, draws: Sequence[int]) -> Iterator[dict[Pair, int]]:
+    def lots_of(self, draws: Sequence[int]) -> Iterator[Lots]:
         """The lots of draws, in this order: read when they are first wanted."""
         unread = [it for it in draws if it not in self._lots]
-        documents = zip(unread, self.source.draws(unread))
+        read_lots = zip(unread, self.source.lots(unread))
         for draw in draws:
             while draw not in self._lots:
-                number, text = next(documents)
-                self._lots[number] = lots_in(self.name, text)
+                number, found = next(read_lots)
+                self._lots[number] = found
             yield self._lots[draw]
+
+    def shown_again(self) -> "Register":
+        """The same, as its source shows it once more. The document does not show lots, so these are
+        read anew.
+        """
+        found = copy.copy(self)
+        found._lots = {}  # pylint: disable=protected-access
+        return found
 
     @property
     def rounds(self) -> list[Draw]:
@@ -196,7 +233,7 @@ class Register:
     @functools.cached_property
     def wanted(self) -> dict[int, list[str]]:
         """The schools at which each child takes part in the next draw, best first."""
-        return {child: [code for code, it in found.listed.items() if it.state in (BEFORE, WAITS)]
+        return {child: [code for _, code, _ in found.in_state(BEFORE, WAITS)]
                 for child, found in self.taking_part.items()}
 
     @functools.cached_property
@@ -214,8 +251,7 @@ class Register:
 
     def rank(self, code: str, child: int) -> tuple[int, int]:
         """The class and the distance of a child at a school of its list."""
-        found = self.applications[child].listed[code]
-        return found.number, found.metres
+        return self.applications[child].rank(code)
 
 
 def same_season(before: Register, after: Register) -> None:
@@ -246,15 +282,19 @@ class File:
         """The document of the register."""
         return self.document()
 
-    def draws(self, numbers: Sequence[int]) -> Iterator[bytes]:
+    def lots(self, draws: Sequence[int]) -> Iterator[Lots]:
+        """The lots of draws, in this order."""
+        return (lots_in(self.name, it) for it in self.documents(draws))
+
+    def documents(self, numbers: Sequence[int]) -> Iterator[bytes]:
         """The documents of draws, in this order. One is shown by a run of the program; several are
         read from one that serves a copy, or shown by a run each where it cannot serve one so.
         """
         wanted = [Request(f"/draw/{it}", f"draw {it} of {self.name} is not shown")
                   for it in numbers]
         if len(wanted) > 1:
-            with contextlib.suppress(served_copy.NoNetwork), self.another() as copy:
-                yield from served_copy.of_copy(self.program, copy, wanted)
+            with contextlib.suppress(served_copy.NoNetwork), self.another() as path:
+                yield from served_copy.of_copy(self.program, path, wanted)
                 return
         for it in numbers:
             yield self.document("--draw", str(it))
@@ -276,19 +316,19 @@ class File:
     def another(self) -> Iterator[str]:
         """A second copy, which is removed at the end."""
         with tempfile.TemporaryDirectory(dir=self.room.name) as room:
-            copy = os.path.join(room, "copy.db")
-            self.copy_to(copy)
-            yield copy
+            path = os.path.join(room, "copy.db")
+            self.copy_to(path)
+            yield path
 
     def imports(self, rows: bytes) -> dict[str, Any]:
         """The answer of the program to an import of rows, or the error of its form with the row of
         it. It imports them into a copy of its own, of which nothing remains.
         """
-        with self.another() as copy:
-            given = copy + ".csv"
+        with self.another() as path:
+            given = path + ".csv"
             with open(given, "xb") as file:
                 file.write(rows)
-            ran = self.ran("import", copy, given)
+            ran = self.ran("import", path, given)
         if error := re.fullmatch(rb"fault: row ([1-9][0-9]*): ([A-Za-z]+)\n", ran.stderr):
             return {"fault": True, "name": error[2].decode(), "row": int(error[1])}
         if ran.returncode not in (0, 3):
@@ -312,18 +352,28 @@ def printed(ran: subprocess.CompletedProcess[bytes]) -> str:
 
 
 class Server:
-    """A register that is served."""
+    """A register that is served. It may be read many times: what it shows as before is not made
+    out again.
+    """
 
     def __init__(self, sender: senders.Http) -> None:
         self.name, self.sender = sender.named(), sender
+        # by the numbers of draws: their documents as they were read last, with their lots
+        self.known: dict[int, tuple[bytes, Lots]] = {}
 
     def shown(self) -> bytes:
         """The document of the register."""
         return self.sender.read("/register")
 
-    def draws(self, numbers: Sequence[int]) -> Iterator[bytes]:
-        """The documents of draws, in this order."""
-        return (self.sender.read(f"/draw/{it}") for it in numbers)
+    def lots(self, draws: Sequence[int]) -> Iterator[Lots]:
+        """The lots of draws, in this order. A draw never changes; but where a copy is restored,
+        another may have its number and its outcomes, so that its document alone tells.
+        """
+        for number in draws:
+            document, known = self.sender.read(f"/draw/{number}"), self.known.get(number)
+            if known is None or known[0] != document:
+                known = self.known[number] = document, lots_in(self.name, document)
+            yield known[1]
 
     def copy_to(self, path: str) -> None:
         """Refuses: a server gives no file."""
@@ -445,7 +495,7 @@ def parsed(name: str, text: bytes) -> dict[str, Any]:
         return found
 
 
-def lots_in(name: str, text: bytes) -> dict[Pair, int]:
+def lots_in(name: str, text: bytes) -> Lots:
     """The lots of the document of a draw."""
     found = parsed(name, text)
     with checked(name):
@@ -479,12 +529,12 @@ def of_document(source: Source, found: dict[str, Any]) -> Register:
     )
 
 
-def with_rows(
-    register: Register, schools: Sequence[dict[str, Any]], children: Sequence[dict[str, Any]],
-) -> Register:
-    """A register with these schools and children of a document, and none else."""
-    with checked(register.name):
-        return dataclasses.replace(register, **members_of(schools, children))
+def of_rows(
+    name: str, schools: Sequence[dict[str, Any]], children: Sequence[dict[str, Any]],
+) -> Members:
+    """These schools and children of a document, and none else."""
+    with checked(name):
+        return Members(**members_of(schools, children), draws=[])
 
 
 def members_of(
@@ -524,9 +574,15 @@ def child_of(found: dict[str, Any]) -> Child:
 
 def application_of(found: dict[str, Any]) -> Application:
     """An application of a document."""
-    listed = {it["school"]: Preference(it["class"], it["metres"], it["state"], it.get("position"),
-                                       it.get("of")) for it in found["preferences"]}
-    return Application(datetime.date.fromisoformat(found["day"]), listed)
+    rows = found["preferences"]
+    codes = tuple(code for code, *_ in map(RANKED, rows))
+    return Application(datetime.date.fromisoformat(found["day"]), codes, rows)
+
+
+def preference_of(found: dict[str, Any]) -> Preference:
+    """A preference of a document."""
+    return Preference(found["class"], found["metres"], found["state"], found.get("position"),
+                      found.get("of"))
 
 
 def places_of(children: Iterable[dict[str, Any]]) -> Iterator[tuple[int, Place]]:
@@ -534,5 +590,5 @@ def places_of(children: Iterable[dict[str, Any]]) -> Iterator[tuple[int, Place]]
     for it in children:
         place = it["place"]
         if place is not None:
-            days = (day_of(place[name]) for name in ("offered", "reminded"))
-            yield it["child"], Place(place["school"], place["kind"], *days)
+            yield it["child"], Place(place["school"], place["kind"], day_of(place["offered"]),
+                                     day_of(place["reminded"]))

@@ -30,6 +30,7 @@ PACKAGES = {
     "authlib": "python3-authlib",
     "flask": "python3-flask",
     "gunicorn": "python3-gunicorn",
+    "markdown": "python3-markdown",
     "requests": "python3-requests",
     "jinja2": "python3-jinja2",
     "weasyprint": "weasyprint",

@@ -44,11 +44,15 @@ def cell_of(value: object) -> str:
     return str(value)
 
 
+def plain(text: str) -> str:
+    """A text without accents and capitals, to be put in order."""
+    letters = unicodedata.normalize("NFKD", text)
+    return "".join(it for it in letters if not unicodedata.combining(it)).casefold()
+
+
 def folded(name: str) -> str:
     """A name without accents, capitals, punctuation and order of its parts, to be compared."""
-    letters = unicodedata.normalize("NFKD", name)
-    plain = "".join(it for it in letters if not unicodedata.combining(it)).casefold()
-    return " ".join(sorted(re.sub(r"[\W_]+", " ", re.sub(r"['’`]", "", plain)).split()))
+    return " ".join(sorted(re.sub(r"[\W_]+", " ", re.sub(r"['’`]", "", plain(name))).split()))
 
 
 def is_alike(one: str, other: str) -> bool:

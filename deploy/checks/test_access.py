@@ -7,6 +7,7 @@ import pytest
 
 from checks.browser import Browser, browsing
 from checks.page import FOCUS, opened, press, press_no, visit
+from checks.season.screens import CONTRAST
 from checks.world import World
 
 VIEWS = ("#start", "#answers", "#add", "#file", "#draw", "#child/1", "#child/2", "#child/2/amend",
@@ -16,38 +17,6 @@ VIEWS = ("#start", "#answers", "#add", "#file", "#draw", "#child/1", "#child/2",
 HAS_NAME = ("button", "textbox", "searchbox", "combobox", "checkbox", "Date", "table", "link",
             "dialog", "region", "navigation", "progressbar")
 IS_THERE = ("status", "heading", "main", "search", "banner", "navigation", "table", "columnheader")
-
-# The contrast of each text with what is behind it, as WCAG 2.2 computes it: the ratio of their
-# relative luminances. Large text needs 3, other text 4.5
-CONTRAST = """(() => {
-    const channels = (text) => text.match(/[\\d.]+/g).map(Number);
-    const parts = [0.2126, 0.7152, 0.0722];
-    const linear = (it) => it <= 0.04045 ? it / 12.92 : ((it + 0.055) / 1.055) ** 2.4;
-    const light = (colour) => colour.slice(0, 3).map((it) => linear(it / 255))
-        .reduce((sum, it, at) => sum + it * parts[at], 0);
-    const isDark = matchMedia('(prefers-color-scheme: dark)').matches;
-    const behind = (node) => {
-        for (let it = node; it; it = it.parentElement) {
-            const colour = channels(getComputedStyle(it).backgroundColor);
-            if (colour.length < 4 || colour[3] > 0) return colour;
-        }
-        return isDark ? [18, 18, 18] : [255, 255, 255];
-    };
-    const walk = document.createTreeWalker(document.body, NodeFilter.SHOW_TEXT);
-    const found = [];
-    let count = 0;
-    while (walk.nextNode()) {
-        const node = walk.currentNode.parentElement, text = walk.currentNode.data.trim();
-        if (!text || !node.getClientRects().length || node.disabled) continue;
-        const style = getComputedStyle(node), size = parseFloat(style.fontSize);
-        const one = light(channels(style.color)), other = light(behind(node));
-        const ratio = (Math.max(one, other) + 0.05) / (Math.min(one, other) + 0.05);
-        const isLarge = size >= 24 || (size >= 18.66 && style.fontWeight >= 700);
-        count += 1;
-        if (ratio < (isLarge ? 3 : 4.5)) found.push([text.slice(0, 30), ratio.toFixed(2)]);
-    }
-    return [count > 10, found];
-})()"""
 
 # What can have the focus, in the order of the document
 STOPS = """[...document.querySelectorAll(

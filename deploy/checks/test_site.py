@@ -28,7 +28,9 @@ HEAD = "child,name,east,north,looked_after,flags,siblings,day,preferences\n"
 ROWS = HEAD + "1,Row,0,700,no,,,2025-06-02,B\n"
 EVIL = "https://evil.example"
 HTTP = ("--http1.1", "--http2")
-CHUNKED = ("--header", "Transfer-Encoding: chunked")
+CHUNKED = ("--http1.1", "--header", "Transfer-Encoding: chunked")
+# (over HTTP/2, where some versions of curl announce the length of what was to be sent in chunks)
+UNANNOUNCED = {"in chunks": CHUNKED, "by HTTP/2": ("--http2", "--header", "Content-Length:")}
 # What a browser sends that goes to a page
 PAGE = ("--header", "Accept: text/html,application/xhtml+xml,*/*;q=0.8")
 Ask = Callable[[World], Answer]
@@ -108,10 +110,12 @@ def test_nothing_of_a_long_body_is_read_of_who_is_not_signed_in(world: World, be
     assert status_of(raw(world, begin, f"Origin: https://{NAME}", *fields)) == 401
 
 
+@pytest.mark.parametrize("way", UNANNOUNCED)
 def test_of_a_body_whose_length_is_not_announced_no_more_is_read_of_who_is_not_signed_in(
-        world: World) -> None:
-    (world.room / "over-a-mebibyte").write_text(" " * ((1 << 20) + 1))
-    answer = world.ask("/command", None, f"@{world.room}/over-a-mebibyte", options=CHUNKED)
+        world: World, way: str) -> None:
+    body = world.room / "over-a-mebibyte"
+    body.write_text(" " * ((1 << 20) + 1))
+    answer = world.ask("/command", None, f"@{body}", options=UNANNOUNCED[way])
     assert answer.status == 413
 
 
@@ -489,6 +493,25 @@ def test_a_body_that_is_longer_than_what_a_head_may_be_is_done(world: World) -> 
     assert (answer.status, json.loads(answer.body)["fault"] > 0) == (400, True)
 
 
+# where else the application takes files
+OTHER_FILES = (
+    "/applications/files", "/answers/several", "/children/1/files", "/figures/",
+    "/letters/templates/1", "/lots/1/sheet", "/schools/new/sheet", "/schools/new/last-year",
+)
+
+
+@pytest.mark.parametrize("options", [(), CHUNKED])
+def test_a_gazetteer_is_taken_at_its_own_address_alone(
+        world: World, options: tuple[str, ...]) -> None:
+    """It is longer than all other files. (What is sent here is none, as the application says.)"""
+    (world.room / "gazetteer").write_text(" " * (17 << 20))
+    body = f"@{world.room}/gazetteer"
+    assert world.ask("/applications/gazetteer/file", "jane", body, options=options).status == 409
+    for path in OTHER_FILES:
+        assert world.ask(path, "jane", body, options=options).status == 413, path
+    assert world.ask("/applications/gazetteer/file", None, body).status == 401
+
+
 def test_a_sign_in_of_over_8_kb_is_not_read(world: World) -> None:
     answer = world.sign_in("jane", "x" * 8192, "--interface", "127.0.2.40")
     assert (answer.status, answer.session) == (413, "")
@@ -577,7 +600,8 @@ def shake_hands(world: World, context: ssl.SSLContext, name: str) -> None:
 # header of the list, and none but those
 
 SIGN_IN, NOT_FROM_HERE = "sign in first", "a request must come from a page of this site"
-LONG_BODY = "a body has at most 16 MB, that of a sign-in 8 KB, and 1 MB where nobody is signed in"
+LONG_BODY = ("a body has at most 16 MB, a gazetteer 64 MB, a sign-in 8 KB, and 1 MB where nobody is"
+             " signed in")
 LONG_COMMAND = "the register takes at most 1,048,576 bytes at once"
 NO_REQUEST = "this is no request that the site reads, or its head has over 8 KB"
 # What is asked, its status and the reason

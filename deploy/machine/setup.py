@@ -61,7 +61,7 @@ NEEDED = {
     "systemd-tmpfiles": "systemd",
 }
 # what the office's application imports
-MODULES = ("argon2", "authlib", "flask", "gunicorn", "requests")
+MODULES = ("argon2", "authlib", "flask", "gunicorn", "markdown", "requests")
 AUTHORITY = SETTINGS / "authority"
 WAIT = 60
 # where systemd finds what is changed of a unit, and what lets an application out into the network

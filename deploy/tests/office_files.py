@@ -6,7 +6,8 @@ import typing
 
 from machine import office_store, registers
 from office.web.history import ANSWER, SENDS, History
-from office.web.people import PERSON
+from office.web.notes import Notes
+from office.web.people import PERSON, Person
 from office.web.store import Store
 
 AT = "2025-03-03T10:00:00.000+00:00"
@@ -48,3 +49,24 @@ def add_people(
                 "INSERT INTO person (name, kind, role, hash, is_locked, added)"
                 " VALUES (?, ?, ?, ?, ?, ?)",
                 [(name, kind, role, NO_HASH + name, int(locked), AT) for name, role in people])
+
+
+def add_note_and_file(register: registers.Register, child: int, text: str, data: bytes) -> None:
+    """Adds a note and a file of a child, as an officer does."""
+    jane = Person("jane", "officer")
+    with contextlib.closing(Store(str(office_store.path_of(register)))) as store:
+        with history(register) as kept:
+            notes = Notes(store, kept)
+            notes.add(jane, child, "Ada Abel", text)
+            notes.add_file(jane, child, "Ada Abel", "../../evidence.pdf", data)
+
+
+def notes_and_files_of(register: registers.Register, child: int) -> list[tuple[str, str, bytes]]:
+    """The notes and files of a child, by their texts, names and bytes, as an officer reads them."""
+    with contextlib.closing(Store(str(office_store.path_of(register)))) as store:
+        with history(register) as kept:
+            notes = Notes(store, kept)
+            found = [("note", it.text, b"") for it in notes.of_child(child)]
+            jane = Person("jane", "officer")
+            return found + [("file", it.called, notes.data(jane, it))
+                            for it in notes.files_of(child)]

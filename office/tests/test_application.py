@@ -12,7 +12,7 @@ from applications import ORIGIN, ROUND, Browser, Site, child, office_over, site,
 from pages import Page, press
 from register_files import Refused
 
-from office.web import app, guard, history, people, store
+from office.web import guard, history, people, store, wording
 from office.web.screens import activity
 
 ACCEPT = {"cmd": "accept", "child": 1, "school": "A"}
@@ -311,17 +311,86 @@ def test_a_new_password_ends_the_other_sessions(office: Site) -> None:
     assert [it.get("/").status_code for it in (jane, other, bo)] == [200, 302, 200]
 
 
+def test_a_role_that_is_given_is_what_somebody_may(office: Site) -> None:
+    """From the next sign-in on, which follows at once; and on record with the one before."""
+    hal, kim = office.browser("hal", "head"), office.browser("kim", "reader")
+    for role, status in (("officer", 200), ("reader", 403)):
+        assert hal.post("/people/", {"what": "role", "name": "kim", "role": role}
+                        ).status_code == 200
+        assert kim.get("/").status_code == 302, "signed out"
+        assert kim.sign_in("kim", office.passwords["kim"]).status_code == 303
+        assert kim.get("/answers/").status_code == status, role
+    told = [it.about for it in office.parts.history.entries if it.what == "gave a role"]
+    assert [(it["before"], it["role"]) for it in told] == [
+        ("reader", "officer"), ("officer", "reader")]
+
+
 def test_nobody_is_given_a_role_that_was_not_chosen(office: Site) -> None:
     """The form has no role until one is chosen, and a program is given a token and no password."""
     hal = office.browser("hal", "head")
     form = Page(hal.get("/people/").text).form("Add")
     assert form.values.get("role", []) == [""]
     found = hal.post("/people/", form.sent_by("Add", name="ann"))
-    assert found.status_code == 409 and "choose a role" in Page(found.text).said()
+    assert found.status_code == 409 and Page(found.text).error("role") == "Choose a role."
     assert office.parts.people.store.row("SELECT 1 FROM person WHERE name='ann'") is None
     given = {"what": "add", "name": "portal", "role": "reader", "kind": "program"}
     assert "The token of portal" in Page(hal.post("/people/", given).text).text.replace(
         "<bdi>", "").replace("</bdi>", "")
+
+
+def test_people_are_added_by_typing_alone(office: Site) -> None:
+    """The field of the name has the focus after each, and is described by what was done. What is
+    wrong is at its field, and what was typed is kept.
+    """
+    hal = office.browser("hal", "head")
+    page = Page(hal.get("/people/").text)
+    form = page.form("Add")
+    # (Enter in a field presses the first button, and there is no other)
+    assert page.focus == "" and form.buttons == {"Add": ("what", "add")}
+    assert page.stops[-4:-1] == ["name", "role", "kind"]
+    given = {"name": ["ann"], "role": ["officer"], "kind": "person"}
+    page = Page(hal.post("/people/", form.sent_by("Add", **given)).text)
+    assert page.said() == "ann is added as officer." and page.focus == "name"
+    assert "answer" in (page.fields["name"]["aria-describedby"] or "").split()
+    form = page.form("Add")
+    assert (form.values["name"], form.values["role"]) == ([""], [""])
+    for name, role, wrong, focus in (
+        ("Ann B", "reader", {"name": "A name is 1 to 64 of"}, "name"),
+        ("ann", "reader", {"name": "Ann is there already."}, "name"),
+        ("bea", "", {"role": "Choose a role."}, "role"),
+        ("<b>", "x", {"name": "A name is 1 to 64 of", "role": "X is no role:"}, "name"),
+    ):
+        given = {"name": [name], "role": [role], "kind": "program"}
+        found = hal.post("/people/", form.sent_by("Add", **given))
+        page = Page(found.text)
+        assert found.status_code == 409 and page.focus == focus, name
+        for field in ("name", "role"):
+            assert page.error(field).startswith(wrong.get(field, "")), (name, field)
+            assert bool(page.error(field)) == (field in wrong), (name, field)
+        again = page.form("Add").values
+        assert (again["name"], again["kind"]) == ([name], ["program"])
+        assert role not in people.ROLES or again["role"] == [role]
+    rows = office.parts.store.rows("SELECT name, role FROM person ORDER BY name")
+    assert [tuple(it) for it in rows] == [("ann", "officer"), ("hal", "head")]
+
+
+def test_flags_are_named_by_typing_alone(office: Site) -> None:
+    """The flag that was named last has the focus, described by what was done; or the first one that
+    is wrong, by its error.
+    """
+    jane = office.browser("jane")
+    page = Page(jane.get("/flags/").text)
+    form = page.form("Store the words")
+    assert page.focus == "" and len(form.buttons) == 1
+    sent = form.sent_by("Store the words", **{"flag-2": "medical", "flag-4": "social"})
+    page = Page(jane.get(jane.post("/flags/", sent).location).text)
+    assert page.said() == "The words are stored." and page.focus == "flag-4"
+    assert page.fields["flag-4"]["aria-describedby"] == "answer"
+    form = page.form("Store the words")
+    sent = form.sent_by("Store the words", **{"flag-3": "x" * 500, "flag-5": "x" * 500})
+    page = Page(jane.post("/flags/", sent).text)
+    assert page.focus == "flag-3" and page.error("flag-3") and page.error("flag-5")
+    assert Page(jane.get("/flags/?stored=x").text).focus == ""
 
 
 def test_a_person_with_a_pile_is_not_removed(office: Site) -> None:
@@ -330,6 +399,9 @@ def test_a_person_with_a_pile_is_not_removed(office: Site) -> None:
     assert jane.post("/answers/", {"entry": "1"}).status_code == 303
     found = hal.post("/people/", {"what": "remove", "name": "jane"})
     assert found.status_code == 409 and "1 answer in a pile" in Page(found.text).said()
+    # (nor by an answer that is added between the question and the removal)
+    with pytest.raises(Refused, match="1 answer in a pile"):
+        office.parts.people.remove("jane")
     assert len(office.parts.store.rows("SELECT 1 FROM answer WHERE person='jane'")) == 1
     question = Page(jane.post("/answers/remove", {"number": "all"}).text)
     press(jane, "/answers/remove", question, "Remove 1 answer")
@@ -494,7 +566,7 @@ def test_a_day_of_the_activity_is_that_of_the_clock(monkeypatch: pytest.MonkeyPa
     time.tzset()
     try:
         late = history.Entry(1, "2025-06-01T23:30:00.000+00:00", "jane", "signed in", {})
-        assert app.moment(late.at) == "2 June 2025, 00:30"
+        assert wording.moment(late.at) == "2 June 2025, 00:30"
         assert activity.is_meant(late, "", "2025-06-02", "")
         assert not activity.is_meant(late, "", "2025-06-01", "")
     finally:
@@ -517,6 +589,8 @@ def test_a_session_ends(office: Site) -> None:
     """By a sign-out, after half an hour without a request, and after some hours at most."""
     jane = office.browser("jane")
     assert jane.post("/sign-out").status_code == 303 and jane.get("/").status_code == 302
+    # (also for whoever has copied the cookie)
+    assert office.parts.store.rows("SELECT 1 FROM session") == []
     moment = [1e9]
     office.parts.people.clock = lambda: moment[0]
     secret = office.parts.people.begin("jane")

@@ -17,24 +17,39 @@ READS, RECORDS = {HEAD, OFFICER, READER}, {HEAD, OFFICER}
 ALL: set[str] = set(ROLES)
 # who may see the pages of a screen, and who may send what it sends
 SCREENS: dict[str, tuple[set[str], set[str]]] = {
-    "activity": (READS, set()), "answers": (RECORDS, RECORDS), "applications": (READS, RECORDS),
+    "activity": (READS, set()), "answers": (RECORDS, RECORDS),
+    "answers_of": (RECORDS, RECORDS), "applications": (READS, RECORDS),
     "applications_add": (RECORDS, RECORDS), "applications_commit": (READS, RECORDS),
-    "child": (READS, RECORDS), "draws": (READS, {HEAD}), "flags": (READS, RECORDS),
-    "lists": (READS, set()), "lots": ({SUPERVISOR}, {SUPERVISOR}),
-    "new_schools": (RECORDS, RECORDS), "people": ({HEAD, ADMINISTRATOR}, {HEAD, ADMINISTRATOR}),
+    "gazetteer": (READS, RECORDS), "points": (READS, RECORDS),
+    "child": (READS, RECORDS), "draws": (READS, {HEAD}), "figures": (READS, RECORDS),
+    "flags": (READS, RECORDS), "help": (ALL, set()), "copies": (READS, {HEAD}),
+    "letters": (READS, RECORDS), "letter_templates": (READS, {HEAD}),
+    "lists": (READS, READS), "lots": ({SUPERVISOR}, {SUPERVISOR}),
+    "new_schools": (RECORDS, RECORDS), "notices": (READS, RECORDS),
+    "people": ({HEAD, ADMINISTRATOR}, {HEAD, ADMINISTRATOR}),
     "register": (READS, RECORDS), "schools": (READS, RECORDS), "season": (ALL, set()),
-    "signing": (ALL, ALL),
+    "signing": (ALL, ALL), "why": (READS, set()), "notes": (RECORDS, RECORDS),
+    "trials": (READS, RECORDS), "season_end": (RECORDS, {HEAD}), "restores": (READS, {HEAD}),
+    "preferences": (RECORDS, RECORDS), "letter_sender": (READS, {HEAD}),
+    "letter_addresses": (READS, RECORDS),
 }
 # what differs from its screen
 OTHERS: dict[tuple[str, str], set[str]] = {
     ("child.ask", "GET"): RECORDS, ("child.correct", "GET"): RECORDS,
+    ("letters.file", "GET"): RECORDS, ("letters.ask_record", "GET"): RECORDS,
+    ("letters.audit", "POST"): {HEAD},
+    ("letter_templates.previewed", "GET"): {HEAD}, ("notices.choose", "GET"): RECORDS,
     ("draws.second", "POST"): {HEAD, OFFICER}, ("register.question", "POST"): READS,
+    **{(f"season_end.{it}", "POST"): {HEAD, OFFICER} for it in ("confirm", "go_on", "take_back")},
+    ("restores.second", "POST"): {HEAD, OFFICER},
     ("register.waiting", "GET"): READS | {SCHOOL}, ("schools.one", "GET"): READS | {SCHOOL},
     ("schools.workbook", "GET"): READS | {SCHOOL}, ("schools.raise_number", "GET"): RECORDS,
 }
-VALUES = {"number": 1, "name": "accept", "code": "A", "kind": "csv"}
+VALUES = {"number": 1, "name": "accept", "code": "A", "kind": "csv", "draw": 1, "reader": "family",
+          "note": 1, "file": 1, "owner": "nobody", "version": 1}
 NAMES = {"draws.step": "close", "draws.second": "confirm", "lists.one": "waiting",
-         "lists.workbook": "waiting"}
+         "lists.workbook": "waiting", "letters.from_list": "waiting", "notices.choose": "remind",
+         "notices.ask": "remind", "lists.csv": "waiting", "lists.save": "waiting"}
 
 
 @pytest.fixture(name="office")
@@ -78,7 +93,8 @@ def kept(office: Site) -> list[Any]:
     """The register, and what the application keeps of people and drafts."""
     rows = [[tuple(row) for row in office.parts.store.rows(f"SELECT * FROM {table}")]
             for table in ("person", "staged_file", "staged_row", "school_draft", "answer", "draw",
-                          "draw_step", "lot", "setting")]
+                          "draw_step", "lot", "setting", "note", "child_file", "list_view",
+                          "figures")]
     return [office.parts.desk.read(True)[1], rows]
 
 

@@ -1,5 +1,6 @@
 """The application as a program of the web: its screens over one register."""
 import datetime
+import gc
 import pathlib
 from typing import Any
 
@@ -9,23 +10,31 @@ import werkzeug.routing
 
 from office import texts
 
-from . import authority, flags, guard
+from . import authority, flags, guard, numbers, uploads, wording
 from .guard import PUBLIC, needs
 from .parts import Config, Parts
 from .people import READ
 from .screens import (
-    activity, answers, applications, applications_add, applications_commit, child, draws, lists,
-    lots, new_schools, people, register, schools, season, signing,
+    activity, answers, applications, applications_add, applications_commit, child, copies, draws,
+    figures, gazetteer, help, letter_addresses, letter_sender, letter_templates, letters, lists,
+    lots, new_schools, notes, notices, people, points, preferences, register, restores, schools,
+    season, season_end, signing, trials, why,
 )
+from .screens import answers_of
 from .screens import flags as flag_screen
 
 HERE = pathlib.Path(__file__).resolve().parent
 SCREENS = (
     signing, season, new_schools, schools, flag_screen, applications, applications_add,
-    applications_commit, child, answers, draws, lots, lists, people, activity, register,
+    applications_commit, points, gazetteer, child, preferences, why, notes, answers, notices,
+    letters, letter_templates, letter_sender, letter_addresses, draws, trials, lots, lists,
+    figures, copies, restores, people, activity, season_end, register, help, answers_of,
 )
 # the largest body: a workbook, or a file of commands
 MOST_BYTES = 16 << 20
+# so many objects are made between two looks for garbage among them: a page of a long list makes
+# tens of thousands, nearly all of which end without one
+OBJECTS = 50_000
 # what the menu has, in its order: the view, its title, and the right
 MENU = (
     ("season.show", "Season", "read"),
@@ -33,13 +42,19 @@ MENU = (
     ("applications.show", "Applications", "read"),
     ("child.find", "Children", "read"),
     ("answers.show", "Answers", "record"),
+    ("notices.show", "Reminders", "read"),
+    ("letters.show", "Letters", "read"),
     ("draws.show", "Draws", "read"),
+    ("trials.show", "Trials", "read"),
     ("lots.show", "Lots", "lots"),
     ("lists.show", "Lists", "read"),
+    ("figures.show", "Figures", "read"),
     ("flags.show", "Flags", "read"),
     ("register.page", "The page", "read"),
+    ("copies.show", "Copies", "read"),
     ("people.show", "People", "people"),
     ("activity.show", "Activity", "read"),
+    ("season_end.show", "End of the season", "confirm"),
 )
 
 
@@ -48,10 +63,14 @@ def create(config: Config) -> flask.Flask:
     app = flask.Flask(__name__, static_folder=None, template_folder=str(HERE / "templates"))
     app.jinja_env.undefined = jinja2.StrictUndefined
     app.jinja_env.trim_blocks = app.jinja_env.lstrip_blocks = True
-    app.config["MAX_CONTENT_LENGTH"] = MOST_BYTES
+    # (later versions of the library have a limit of their own for forms)
+    app.config["MAX_CONTENT_LENGTH"] = app.config["MAX_FORM_MEMORY_SIZE"] = MOST_BYTES
+    app.request_class = uploads.Request
     parts = Parts(config)
+    gc.set_threshold(OBJECTS, *gc.get_threshold()[1:])
     app.extensions["office"] = parts
     is_secure = config.origin.startswith("https:")
+    app.url_map.converters["int"] = numbers.Number
     app.secret_key = authority.cookie_key(parts.store)
     app.config.update(
         SESSION_COOKIE_NAME="__Host-state" if is_secure else "state", SESSION_COOKIE_PATH="/",
@@ -61,8 +80,10 @@ def create(config: Config) -> flask.Flask:
         app.register_blueprint(it.screen)
     app.context_processor(shared)
     app.jinja_env.filters["day"] = day
-    app.jinja_env.filters["moment"] = moment
+    app.jinja_env.filters["moment"] = wording.moment
+    app.jinja_env.filters["sentence"] = wording.sentence
     app.jinja_env.filters["flag_words"] = flags.flag_words
+    app.jinja_env.filters["visible"] = texts.visible
     app.jinja_env.globals["count"] = texts.count
 
     @needs(PUBLIC)
@@ -108,9 +129,3 @@ def day(value: datetime.date | str | None) -> str:
         return ""
     found = datetime.date.fromisoformat(value) if isinstance(value, str) else value
     return f"{found.day} {found:%B %Y}"
-
-
-def moment(value: str) -> str:
-    """A moment of the history by the clock of this machine."""
-    found = datetime.datetime.fromisoformat(value).astimezone()
-    return f"{found.day} {found:%B %Y, %H:%M}"

@@ -48,7 +48,7 @@ def has_applied(register: Register, command: Command) -> bool:
 def has_left(register: Register, command: Command) -> bool:
     """Whether a child does not wait at the school."""
     found = register.applications.get(command["child"])
-    waits = found.listed.get(command["school"]) if found else None
+    waits = found.at(command["school"]) if found else None
     return waits is None or waits.state != WAITS
 
 

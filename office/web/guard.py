@@ -1,17 +1,19 @@
 """Who asks, and whether they may: sessions, tokens, rights, requests of other sites, headers."""
 import json
 import re
+import sqlite3
+import sys
 import threading
 import time
 from collections.abc import Callable
 from typing import Any, TypeVar, cast
 
 import flask
-from register_files import Refused
+from register_files import FULL, Refused
 from werkzeug.exceptions import HTTPException
 from werkzeug.wrappers import Response as AnyResponse
 
-from . import wording
+from . import plain, wording
 from .desk import Away
 from .parts import Parts
 from .people import Person
@@ -44,6 +46,8 @@ MOST_TYPED = 1_000_000
 SECRET = ("signing.sign_in", "signing.password")
 ENDED = ("Your session has ended, and nothing was done. Sign in again, and then send once more what"
          " you typed: it is below.")
+BROKEN = ("Something went wrong in the application. Look whether what you sent is done, before you"
+          " send it again; and tell whoever maintains it.")
 EARLIER = ("This page was of an earlier session, and nothing was done. What you typed is below:"
            " read it, and send it again if it still holds.")
 View = TypeVar("View", bound=Callable[..., Any])
@@ -223,11 +227,30 @@ def on_refused(error: Exception) -> tuple[str, int] | flask.Response:
     return failed(503 if isinstance(error, Away) else 409, str(error))
 
 
-def on_http(error: HTTPException) -> tuple[str, int] | flask.Response:
-    """A status of HTTP, in words."""
+def on_files(error: Exception) -> AnyResponse | tuple[str, int]:
+    """What the application cannot do with its own files, in words that name none of them; what was
+    typed is kept. The log has the rest.
+    """
+    assert isinstance(error, (OSError, sqlite3.Error))
+    flask.current_app.log_exception(sys.exc_info())
+    said = (f"The application cannot use its files now: {plain.reason(error)}. {plain.ADVICE}; and"
+            " look whether what you sent is done, before you send it again.")
+    # (507 is for a disk that is full, as by a file that a browser sends)
+    status = 507 if getattr(error, "errno", None) in FULL else 503
+    try:
+        return again(status, said) or failed(status, said)
+    except OSError:
+        # (what cannot be kept is the request itself)
+        return failed(status, said)
+
+
+def on_http(error: HTTPException) -> AnyResponse | tuple[str, int]:
+    """A status of HTTP, in words. Where the application has failed, what was typed is kept."""
     words = {404: "there is no such page", 405: "the page takes no such request",
-             401: "sign in first", 413: "that is too large"}
+             401: "sign in first", 413: "that is too large", 500: BROKEN}
     status = error.code or 500
+    if status == 500 and (kept := again(500, BROKEN)):
+        return kept
     if error.response is not None:
         return cast(flask.Response, error.response)
     return failed(status, words.get(status) or str(error.description))
@@ -239,6 +262,8 @@ def guarded(app: flask.Flask) -> None:
     app.before_request(see)
     app.after_request(headers)
     app.register_error_handler(Refused, on_refused)
+    app.register_error_handler(OSError, on_files)
+    app.register_error_handler(sqlite3.Error, on_files)
     app.register_error_handler(HTTPException, on_http)
     missing = [name for name, it in app.view_functions.items() if not hasattr(it, "right")]
     if missing:

@@ -17,9 +17,13 @@ from register_files import OWNER_ALONE, Refused
 
 from office import commands
 
+from . import lineage
+
 FIRST = "0" * 64
 # what an entry is about: a request to the register, what came of it, or what a person did
 SENDS, ANSWER, SETTLED = "sends", "answer", "settled"
+# the register is that of a copy from here on: the copy, and the last entry from before it
+RESTORED = "restored a copy"
 
 
 @dataclasses.dataclass(frozen=True)
@@ -71,6 +75,12 @@ def entries_of(name: str, data: bytes) -> tuple[list[Entry], str]:
     return found, before
 
 
+def says_done(it: Entry) -> bool:
+    """Whether an entry says of a request that it is done."""
+    return it.what == ANSWER and commands.is_done(it.about["answer"]) or (
+        it.what == SETTLED and bool(it.about["done"]))
+
+
 def read(name: str) -> list[Entry]:
     """The entries of a history that nobody writes, as of a copy."""
     with open(name, "rb") as file:
@@ -100,6 +110,7 @@ class History:
         self.open: dict[int, Entry] = {}
         # what was told from outside, by its key
         self.told: set[str] = set()
+        self.restores: list[tuple[int, int]] = []
         self.before, self.length = FIRST, 0
         try:
             self.load()
@@ -172,24 +183,50 @@ class History:
         self.entries.append(entry)
         if "told" in entry.about:
             self.told.add(entry.about["told"])
+        if entry.what == RESTORED:
+            self.restores.append((entry.number, entry.about["position"]))
         if entry.what == SENDS:
             self.open[entry.number] = entry
         elif entry.what in (ANSWER, SETTLED):
             self.open.pop(entry.about["of"], None)
+
+    def begin_anew(self, who: str, what: str, about: dict[str, Any]) -> Entry:
+        """Replaces the file by a new one of which this is the first entry. The one before is gone
+        from the disk when this returns, or, after a crash, is there as it was.
+        """
+        with self.lock:
+            entry = Entry(1, self.moment(), who, what, json.loads(json.dumps(about)))
+            line, new = entry.line(FIRST), f"{self.path}.new"
+            fd = os.open(new, os.O_RDWR | os.O_CREAT | os.O_TRUNC | os.O_APPEND | os.O_CLOEXEC,
+                         OWNER_ALONE)
+            fcntl.flock(fd, fcntl.LOCK_EX | fcntl.LOCK_NB)
+            os.write(fd, line)
+            os.fsync(fd)
+            os.rename(new, self.path)
+            self.sync_folder()
+            os.close(self.fd)
+            self.fd, self.entries, self.open, self.told = fd, [], {}, set()
+            self.take(entry)
+            self.before, self.length = digest(line), len(line)
+            return entry
 
     def open_requests(self) -> list[Entry]:
         """The requests to the register of which no answer is known yet."""
         with self.lock:
             return list(self.open.values())
 
+    def lineage(self) -> lineage.Lineage:
+        """What led to the register as it is."""
+        return lineage.of(self.restores, len(self.entries))
+
     def done(self) -> Iterator[Entry]:
-        """The requests to the register that are known to be done, the last first."""
+        """The requests to the register that are known to be done, the last first; without those
+        that a restore has undone.
+        """
         with self.lock:
-            found = list(self.entries)
-        known = {it.about["of"] for it in found
-                 if it.what == ANSWER and commands.is_done(it.about["answer"])
-                 or it.what == SETTLED and it.about["done"]}
-        return (it for it in reversed(found) if it.number in known)
+            found, there = list(self.entries), self.lineage()
+        known = {it.about["of"] for it in found if says_done(it)}
+        return (it for it in reversed(found) if it.number in known and it.number in there)
 
     def close(self) -> None:
         """Ends the use of the file."""

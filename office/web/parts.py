@@ -6,12 +6,18 @@ import pathlib
 from office import senders
 
 from .copies import Copies
+from .copy_tests import CopyTests
 from .desk import Desk
 from .draws import Draws
 from .draws_drafts import Drafts
+from .draws_following import Following
 from .history import History
+from .notes import Notes
 from .people import People
+from .restores import Restores
+from .season_end import SeasonEnd
 from .store import Store
+from .trials import Trials
 
 
 @dataclasses.dataclass(frozen=True)
@@ -39,6 +45,8 @@ class Parts:
         self.history = History(str(config.folder / "history.jsonl"))
         self.store = Store(str(config.folder / "office.db"))
         self.people = People(self.store)
+        self.notes = Notes(self.store, self.history)
+        self.trials = Trials()
         is_socket = config.door.startswith("/")
         sender = senders.Door(config.door) if is_socket else senders.Http(config.door)
         sender.called = "the register"
@@ -46,11 +54,19 @@ class Parts:
         self.copies = Copies(config.folder / "requests", config.copies, self.store, self.desk)
         self.draws = Draws(self.store, self.history, self.desk, self.copies)
         self.lots = Drafts(self.draws)
-        self.desk.closed = self.draws.closed
+        self.following = Following(self.draws)
+        self.restores = Restores(
+            self.store, self.history, self.desk, self.copies, self.draws)
+        self.copy_tests = CopyTests(self.copies, self.draws)
+        self.draws.closed_by_another = self.restores.closed
+        self.end = SeasonEnd(self)
+        self.desk.closed = lambda: (
+            self.end.closed() or self.draws.closed() or self.restores.closed())
 
     def hear(self) -> None:
         """Takes into the history what was told outside of the application, each once."""
-        with self.history.lock:
+        # (the locks in the order of all who store something and record it)
+        with self.store.lock, self.history.lock:
             for it in self.store.rows("SELECT * FROM told ORDER BY number"):
                 # (it is there already after a crash between the two writes)
                 if it["key"] not in self.history.told:
@@ -60,6 +76,7 @@ class Parts:
                     db.execute("DELETE FROM told WHERE number=?", (it["number"],))
 
     def close(self) -> None:
-        """Ends the use of its files."""
+        """Ends the use of its files, and what is under way."""
+        self.trials.close()
         self.store.close()
         self.history.close()

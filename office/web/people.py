@@ -24,16 +24,22 @@ ROLES = {
     HEAD: "reads and records everything, holds draws, restores, and says who may sign in",
     OFFICER: "reads and records everything, and confirms the draws of somebody else",
     SUPERVISOR: "draws the lots, and nothing else",
-    READER: "reads everything, and records nothing",
+    READER: "reads the register, but no notes and files of children, and records nothing",
     ADMINISTRATOR: "says who may sign in, and sees no child",
 }
 # what a role may do
 READ, RECORD, DRAW, CONFIRM, LOTS, PEOPLE = "read", "record", "draw", "confirm", "lots", "people"
+# what letters say, which speaks for the whole office
+TEMPLATES = "templates"
+# the end of a season
+END = "end"
 # the lists of schools: of all, or for the head of one of that one
 LISTS = "lists"
+# the notes and files of children, which are for those alone who decide on them
+NOTES = "notes"
 RIGHTS = {
-    HEAD: {READ, LISTS, RECORD, DRAW, CONFIRM, PEOPLE},
-    OFFICER: {READ, LISTS, RECORD, CONFIRM},
+    HEAD: {READ, LISTS, RECORD, DRAW, CONFIRM, PEOPLE, NOTES, TEMPLATES, END},
+    OFFICER: {READ, LISTS, RECORD, CONFIRM, NOTES},
     SUPERVISOR: {LOTS},
     READER: {READ, LISTS},
     ADMINISTRATOR: {PEOPLE},
@@ -171,10 +177,14 @@ class People:
 
     def see_new(self, name: str, role: str) -> None:
         """Refuses somebody who cannot be added."""
+        self.see_name(name)
+        see_role(role)
+
+    def see_name(self, name: str) -> None:
+        """Refuses a name that nobody can be added by."""
         if not NAME.fullmatch(name):
             raise Refused("a name is 1 to 64 of a-z, 0-9 and . _ @ + -, and begins with a letter"
                           " or a figure")
-        see_role(role)
         if self.store.row("SELECT 1 FROM person WHERE name=?", name):
             raise Refused(f"{name} is there already")
 
@@ -226,7 +236,8 @@ class People:
         if found and found["many"]:
             have = texts.count(found["many"], "answer")
             raise Refused(f"{name} has {have} in a pile that nobody has recorded, which would be"
-                          f" lost: they are recorded or removed first. {name} can be locked")
+                          f" lost: whoever records answers takes them over first, on the screen"
+                          f" Answers. {name} can be locked")
 
     def remove(self, name: str) -> None:
         """Removes a person. What they did stays in the history."""

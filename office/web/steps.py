@@ -24,10 +24,20 @@ class Step:
     links: tuple[tuple[str, str, Mapping[str, str]], ...]
 
 
-def steps(register: Register, today: datetime.date) -> list[Step]:
-    """The steps of the season, in order."""
+def steps(
+    register: Register, today: datetime.date, untold: Mapping[int, int] | None = None,
+) -> list[Step]:
+    """The steps of the season, in order. `untold` is how many letters of each draw are not recorded
+    as sent.
+    """
     made = (schools, applications, first_round, answers, lists, end)
-    return [it(register, today) for it in made]
+    found = {it: it(register, today) for it in made}
+    for number, many in (untold or {}).items():
+        step = first_round if register.draws[number - 1].round == 1 else lists
+        said = (f"{texts.count(many, 'letter')} of draw {number} {'is' if many == 1 else 'are'} not"
+                " recorded as sent.")
+        found[step] = dataclasses.replace(found[step], due=(*found[step].due, said))
+    return list(found.values())
 
 
 def next_of(found: list[Step]) -> Step | None:
@@ -84,7 +94,8 @@ def first_round(register: Register, today: datetime.date) -> Step:
     elif not rounds and today > closing and register.pairs:
         due = ("The supervisor can draw the lots now.",)
     return Step("First round", bool(rounds), said, None if rounds else offer, due,
-                (("draws.show", "Draws", {}),
+                (("draws.show", "Draws", {}), ("trials.show", "Trials", {}),
+                 ("letters.show", "Letters", {}),
                  ("lists.one", "Rounds and fills", {"name": "draws"})))
 
 
@@ -104,6 +115,7 @@ def answers(register: Register, today: datetime.date) -> Step:
     return Step("Answers to offers", bool(register.draws) and not offers, said,
                 min(later, default=None), tuple(due),
                 (("answers.show", "Answers", {}),
+                 ("notices.show", "Reminders and withdrawals", {}),
                  ("lists.one", "Not answered", {"name": "no-answer"}),
                  ("lists.one", "Reminders that are due", {"name": "remind-due"}),
                  ("lists.one", "Offers that may be withdrawn", {"name": "lapse-due"})))
@@ -115,18 +127,23 @@ def deadlines(register: Register) -> Iterator[datetime.date]:
         yield (it.reminded or day) + NOTICE
 
 
+def can_be_filled(register: Register, today: datetime.date) -> str:
+    """At which schools somebody waits for a place that is vacant, in a sentence, or ""."""
+    both = [it.code for it in register.schools.values() if it.vacancies and it.waiting]
+    is_due = both and register.draws and today <= register.days[2]
+    return f"A place can be filled at {texts.listed(both)}." if is_due else ""
+
+
 def lists(register: Register, today: datetime.date) -> Step:
     """The waiting lists, from which vacancies are filled."""
     _, _, last = register.days
     vacant = sum(it.vacancies for it in register.schools.values())
     waiting = sum(it.waiting for it in register.schools.values())
     said = f"{texts.count(vacant, 'place')} vacant, {waiting:,} waiting"
-    both = [it.code for it in register.schools.values() if it.vacancies and it.waiting]
-    is_due = both and register.draws and today <= last
-    due = (f"A place can be filled at {texts.listed(both)}.",) if is_due else ()
+    due = (said_due,) if (said_due := can_be_filled(register, today)) else ()
     return Step("Waiting lists", today > last, said if register.draws else "after the first round",
                 last, due,
-                (("draws.show", "Draws", {}),
+                (("draws.show", "Draws", {}), ("letters.show", "Letters", {}),
                  ("lists.one", "Waiting lists", {"name": "list"}),
                  ("lists.one", "Places of each school", {"name": "vacancies"}),
                  ("lists.one", "Children without a place", {"name": "unplaced"})))
@@ -137,7 +154,8 @@ def end(register: Register, today: datetime.date) -> Step:
     _, _, last = register.days
     said = f"the lists end on {weekday(last)}, {when(last, today)}"
     due = ("Keep the last copy with the sheets and the audits.",) if today > last else ()
-    return Step("End of the season", False, said, None, due, ())
+    return Step("End of the season", False, said, None, due,
+                (("season_end.show", "End of the season", {}),))
 
 
 def counts(register: Register) -> list[tuple[str, int]]:

@@ -77,7 +77,113 @@ STEPS = (
     """
     ALTER TABLE draw ADD COLUMN give_up_by TEXT;
     """,
+    # where the point of a row came from, as JSON
+    """
+    ALTER TABLE staged_row ADD COLUMN point TEXT NOT NULL DEFAULT '';
+    """,
+    # why what follows a step of a draw by itself was not done
+    """
+    ALTER TABLE draw ADD COLUMN trouble TEXT;
+    """,
+    # notes and files of children, each with the child's name as it was then
+    """
+    CREATE TABLE note (
+        number INTEGER PRIMARY KEY AUTOINCREMENT, child INTEGER NOT NULL, name TEXT NOT NULL,
+        text TEXT NOT NULL, who TEXT NOT NULL, at TEXT NOT NULL, struck_by TEXT, struck_at TEXT,
+        struck_why TEXT) STRICT;
+    CREATE INDEX note_child ON note (child);
+    CREATE TABLE child_file (
+        number INTEGER PRIMARY KEY AUTOINCREMENT, child INTEGER NOT NULL, name TEXT NOT NULL,
+        called TEXT NOT NULL, size INTEGER NOT NULL, digest TEXT NOT NULL, data BLOB,
+        who TEXT NOT NULL, at TEXT NOT NULL, removed_by TEXT, removed_at TEXT,
+        removed_why TEXT) STRICT;
+    CREATE INDEX child_file_child ON child_file (child);
+    """,
+    # of a copy the last entry of the history before it, who asked for it, and its test; restores,
+    # with what came since the copy; and of a draw the one that it repeats, and why with other lots
+    """
+    ALTER TABLE copy ADD COLUMN position INTEGER;
+    ALTER TABLE copy ADD COLUMN who TEXT NOT NULL DEFAULT '';
+    ALTER TABLE copy ADD COLUMN tested TEXT;
+    ALTER TABLE copy ADD COLUMN test TEXT;
+    CREATE TABLE restore (
+        id INTEGER PRIMARY KEY AUTOINCREMENT, copy INTEGER NOT NULL REFERENCES copy (number),
+        state TEXT NOT NULL, version INTEGER NOT NULL,
+        copy_before INTEGER REFERENCES copy (number), draw INTEGER REFERENCES draw (id)) STRICT;
+    CREATE TABLE restore_step (
+        restore INTEGER NOT NULL REFERENCES restore (id), version INTEGER NOT NULL,
+        at TEXT NOT NULL, who TEXT NOT NULL, state TEXT NOT NULL, said TEXT NOT NULL,
+        PRIMARY KEY (restore, version)) STRICT;
+    CREATE TABLE again (
+        restore INTEGER NOT NULL REFERENCES restore (id), entry INTEGER NOT NULL,
+        is_chosen INTEGER NOT NULL, state TEXT NOT NULL, said TEXT NOT NULL DEFAULT '',
+        after INTEGER NOT NULL DEFAULT 0, sent INTEGER, PRIMARY KEY (restore, entry)) STRICT;
+    ALTER TABLE draw ADD COLUMN repeats INTEGER REFERENCES draw (id);
+    ALTER TABLE draw ADD COLUMN other_lots TEXT NOT NULL DEFAULT '';
+    """,
+    # letters: templates with all their versions; sets of letters that are made or were; each letter
+    # as it was; audits of draws that were not held here; and rows of reminders and withdrawals
+    """
+    CREATE TABLE letter_template (
+        id INTEGER PRIMARY KEY AUTOINCREMENT, name TEXT NOT NULL UNIQUE) STRICT;
+    CREATE TABLE letter_version (
+        template INTEGER NOT NULL REFERENCES letter_template (id), version INTEGER NOT NULL,
+        text TEXT NOT NULL, pictures TEXT NOT NULL, who TEXT NOT NULL, at TEXT NOT NULL,
+        PRIMARY KEY (template, version)) STRICT;
+    CREATE TABLE letter_picture (digest TEXT PRIMARY KEY, data BLOB NOT NULL) STRICT;
+    CREATE TABLE letter_set (
+        id INTEGER PRIMARY KEY AUTOINCREMENT, key TEXT NOT NULL UNIQUE, who TEXT NOT NULL,
+        at TEXT NOT NULL, asked TEXT NOT NULL, state TEXT NOT NULL, said TEXT NOT NULL DEFAULT '',
+        seen TEXT, is_draft INTEGER NOT NULL DEFAULT 0, total INTEGER NOT NULL, ended TEXT,
+        taken TEXT, sent TEXT, sent_by TEXT, recorded TEXT) STRICT;
+    CREATE TABLE letter (
+        id INTEGER PRIMARY KEY AUTOINCREMENT, set_id INTEGER NOT NULL REFERENCES letter_set (id),
+        place INTEGER NOT NULL, child INTEGER NOT NULL, about TEXT NOT NULL, words TEXT NOT NULL,
+        html BLOB NOT NULL, UNIQUE (set_id, place)) STRICT;
+    CREATE INDEX letter_child ON letter (child);
+    CREATE TABLE letter_audit (
+        draw INTEGER PRIMARY KEY, outcome TEXT NOT NULL, is_right INTEGER NOT NULL,
+        said TEXT NOT NULL, who TEXT NOT NULL, at TEXT NOT NULL) STRICT;
+    CREATE TABLE notice_row (
+        id INTEGER PRIMARY KEY AUTOINCREMENT, key TEXT NOT NULL UNIQUE, kind TEXT NOT NULL,
+        day TEXT NOT NULL, who TEXT NOT NULL, at TEXT NOT NULL, copy INTEGER, said TEXT NOT NULL
+        DEFAULT '') STRICT;
+    CREATE TABLE notice (
+        row_id INTEGER NOT NULL REFERENCES notice_row (id), place INTEGER NOT NULL,
+        child INTEGER NOT NULL, school TEXT NOT NULL, seen TEXT NOT NULL, state TEXT NOT NULL,
+        said TEXT NOT NULL, after INTEGER NOT NULL, PRIMARY KEY (row_id, place)) STRICT;
+    """,
+    # what a person has chosen of a list, by a name
+    """
+    CREATE TABLE list_view (
+        number INTEGER PRIMARY KEY AUTOINCREMENT,
+        person TEXT NOT NULL REFERENCES person (name) ON DELETE CASCADE,
+        title TEXT NOT NULL, list TEXT NOT NULL, address TEXT NOT NULL,
+        UNIQUE (person, title)) STRICT;
+    """,
+    # the figures that were made: the page as it is published, and what was said beside it as JSON
+    """
+    CREATE TABLE figures (
+        number INTEGER PRIMARY KEY AUTOINCREMENT, who TEXT NOT NULL, made TEXT NOT NULL,
+        page BLOB NOT NULL, digest TEXT NOT NULL, about TEXT NOT NULL,
+        taken_by TEXT NOT NULL DEFAULT '', taken TEXT NOT NULL DEFAULT '') STRICT;
+    """,
+    # what was not understood of an answer
+    """
+    ALTER TABLE answer ADD COLUMN trouble TEXT NOT NULL DEFAULT '';
+    """,
+    # what letters say of the office, with all versions, as JSON; and where letters go, as lines
+    """
+    CREATE TABLE letter_sender (
+        version INTEGER PRIMARY KEY, fields TEXT NOT NULL, who TEXT NOT NULL,
+        at TEXT NOT NULL) STRICT;
+    CREATE TABLE letter_address (
+        child INTEGER PRIMARY KEY, lines TEXT NOT NULL, who TEXT NOT NULL,
+        at TEXT NOT NULL) STRICT;
+    """,
 )
+# the disk, or the limit of a file of the system, is reached
+FULL = "SQLITE_FULL"
 
 
 class Store:
@@ -118,10 +224,13 @@ class Store:
             try:
                 yield self.db
                 self.db.execute("COMMIT")
-            except BaseException:
+            except BaseException as error:
                 # (on a full disk SQLite may have taken it back already)
                 if self.db.in_transaction:
                     self.db.execute("ROLLBACK")
+                if getattr(error, "sqlite_errorname", "") == FULL:
+                    raise Refused("the disk is full, and nothing was stored: tell whoever"
+                                  " maintains the system") from error
                 raise
 
     def rows(self, query: str, *values: object) -> list[sqlite3.Row]:

@@ -27,6 +27,12 @@ def weekday(day: datetime.date) -> str:
     return f"{day:%A}, {days.in_words(day)}"
 
 
+def moment(value: str) -> str:
+    """A moment of the history by the clock of this machine."""
+    found = datetime.datetime.fromisoformat(value).astimezone()
+    return f"{found.day} {found:%B %Y, %H:%M}"
+
+
 def day_of(text: str) -> datetime.date | None:
     """A day as it is typed: 2025-03-17, 17/3/2025 or 17 March 2025."""
     found = days.read(text.strip()) or days.uk_reading(text)

@@ -6,13 +6,16 @@ import flask
 from register_files import Refused
 from werkzeug.wrappers import Response
 
-from .. import steps
+from office.model import Register
+
+from .. import head, steps
 from ..draws_terms import LOTS, Draw
 from ..guard import SIGNED_IN, needs, parts, person
-from ..people import READ
+from ..head import Waits
+from ..people import DRAW, READ, RECORD
 from ..steps import Step
 from ..wording import sentence, weekday
-from . import draws
+from . import draws, letters
 
 screen = flask.Blueprint("season", __name__)
 
@@ -49,6 +52,19 @@ def links(step: Step) -> list[tuple[str, str]]:
     return [(address, words) for words, address in found.items()]
 
 
+def for_head(found: Register | None, draw: Draw | None, step: str) -> list[Waits] | None:
+    """What waits for the head of the office, where the head asks."""
+    if not person().may(DRAW):
+        return None
+    state = draws.state_to_come(draw, found) if draw else ""
+    return head.waiting(parts(), found, today(), draw, step, state)
+
+
+def untold(found: Register) -> dict[int, int]:
+    """How many letters of each draw are not recorded as sent, for who may make letters."""
+    return letters.lists().untold(found) if person().may(RECORD) else {}
+
+
 @screen.get("/")
 @needs(SIGNED_IN)
 def show() -> str | Response:
@@ -61,11 +77,15 @@ def show() -> str | Response:
     except Refused as error:
         reason = sentence(str(error))
     day = today()
-    made = steps.steps(found, day) if found else []
+    made = steps.steps(found, day, untold(found)) if found else []
     draw: Draw | None = parts().draws.present()
+    if draw:
+        parts().following.look(person(), draw)
+        draw = parts().draws.present()
+    step = draws.next_in_words(draw, found) if draw and found else ""
     return flask.render_template(
-        "season.html", register=found, reason=reason, day=weekday(day),
+        "season.html", waits=for_head(found, draw, step), register=found, reason=reason,
+        day=weekday(day),
         rows=[(it, links(it), steps.when(it.by, day) if it.by else "") for it in made],
         next=steps.next_of(made), counts=steps.counts(found) if found else [],
-        draw=draw, next_step=draws.next_in_words(draw, found) if draw and found else "",
-        signed_in=parts().people.signed_in())
+        draw=draw, next_step=step, signed_in=parts().people.signed_in())

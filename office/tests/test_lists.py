@@ -1,0 +1,259 @@
+"""The lists on the screen, in a workbook and as CSV: which rows, columns and order somebody chooses
+by an address, and the views that a person saves. What is expected is worked out by hand.
+"""
+import csv
+import html.parser
+import io
+import urllib.parse
+import zipfile
+from collections.abc import Iterator
+from typing import Any
+
+import openpyxl
+import pytest
+from applications import ROUND, Browser, Site, child, office_over, town
+
+from office import texts
+from office.register_lists import Rows
+from office.web import list_choice
+
+# A has two places and B one: the nearest two have A, the third B, and the fourth none
+ADA, BEN, CYD, DAI = "Ada Abel", "Ben Bell", "Cyd <b>Cole</b>", "Dai O'Dare"
+SUM = "=1+1"
+
+
+class Table(html.parser.HTMLParser):
+    """The table of a list: its titles and its rows as they are read, and whose screens its cells
+    lead to; what a sheet of paper has above it; and the texts of what is marked as an error.
+    """
+
+    def __init__(self, page: str) -> None:
+        super().__init__()
+        self.heads: list[str] = []
+        self.rows: list[list[str]] = []
+        self.paper, self.errors = "", list[str]()
+        self.at, self.is_error, self.is_paper, self.is_list = "", False, False, False
+        self.feed(page)
+
+    def handle_starttag(self, tag: str, attrs: list[tuple[str, str | None]]) -> None:
+        """Begins a row or a cell."""
+        found = dict(attrs)
+        self.is_error = self.is_error or found.get("class") == "error"
+        self.is_list = self.is_list or found.get("id") == "list"
+        self.is_paper = self.is_paper or found.get("class") == "paper-title"
+        if not self.is_list or self.is_paper:
+            return
+        if tag == "tr" and self.at == "tbody":
+            self.rows.append([])
+        if tag in ("thead", "tbody"):
+            self.at = tag
+        if tag == "th":
+            self.heads.append("")
+        if tag == "td":
+            self.rows[-1].append("")
+
+    def handle_endtag(self, tag: str) -> None:
+        """Ends what is marked, and the table."""
+        self.is_error = self.is_error and tag != "span"
+        self.is_paper = self.is_paper and tag != "td"
+        self.is_list = self.is_list and tag != "table"
+
+    def handle_data(self, data: str) -> None:
+        """Takes a text."""
+        if self.is_error:
+            self.errors.append(data)
+        elif self.is_paper:
+            self.paper += data
+        elif self.is_list and data.strip("\n ▲▼"):
+            if self.at == "tbody" and self.rows and self.rows[-1]:
+                self.rows[-1][-1] += data
+            elif self.at == "thead" and self.heads:
+                self.heads[-1] += data
+
+
+@pytest.fixture(scope="module", name="office")
+def office_fixture(tmp_path_factory: pytest.TempPathFactory) -> Iterator[Site]:
+    """The application over a register after its round, with a child whose name is a formula."""
+    commands = [*town(), ROUND, child(5, SUM, 500)]
+    with office_over(tmp_path_factory.mktemp("lists"), commands) as found:
+        yield found
+
+
+@pytest.fixture(scope="module", name="browser")
+def browser_fixture(office: Site) -> Browser:
+    """Somebody who reads."""
+    return office.browser("rita", "reader")
+
+
+def listed(browser: Browser, name: str, status: int = 200, **given: Any) -> Table:
+    """The table of a list."""
+    page = browser.get(f"/lists/{name}?{urllib.parse.urlencode(given, doseq=True)}")
+    assert page.status_code == status, page.text
+    return Table(page.text)
+
+
+def names(table: Table) -> list[str]:
+    """The names of the rows."""
+    return [it[table.heads.index("Name")] for it in table.rows]
+
+
+def test_a_list_is_whole_where_nothing_is_chosen(browser: Browser) -> None:
+    """With each cell, days in words."""
+    found = listed(browser, "children")
+    assert found.heads == ["Child", "Name", "Applied", "School", "Place"]
+    assert found.rows == [
+        ["1", ADA, "31 October 2024", "A", "offered"],
+        ["2", BEN, "31 October 2024", "A", "offered"],
+        ["3", CYD, "31 October 2024", "B", "offered"],
+        ["4", DAI, "31 October 2024", "", ""], ["5", SUM, "", "", ""]]
+
+
+@pytest.mark.parametrize("words, found", [
+    ("abel", [ADA]), ("ÁBEL ada", [ADA]), ("odare", [DAI]), ("O'Dare", [DAI]), ("co", [
+        CYD]), ("alpha", [ADA, BEN]), ("1", [ADA, SUM]), ("31 october", [
+            ADA, BEN, CYD, DAI]), ("2024-10-31 beta", [CYD]), ("3", [CYD]), ("ada ben", []),
+])
+def test_rows_are_found_by_words_in_any_column(
+    browser: Browser, words: str, found: list[str]
+) -> None:
+    """Each word is in the row: whatever capitals and accents, also in the name of a school, or in
+    a day as it is shown; a number is found whole. (`=1+1` is the number 1 twice.)
+    """
+    assert names(listed(browser, "children", words=words)) == found
+
+
+def test_rows_are_found_by_school_and_state(browser: Browser) -> None:
+    """A state that is empty is called none. A school is also found in a list of schools."""
+    assert names(listed(browser, "children", at="B")) == [CYD]
+    assert names(listed(browser, "children", at="A", state="offered")) == [ADA, BEN]
+    assert names(listed(browser, "children", at="A", state="none")) == []
+    assert names(listed(browser, "children", state="none")) == [DAI, SUM]
+    assert names(listed(browser, "unplaced")) == [DAI, SUM]
+    assert names(listed(browser, "unplaced", at="B")) == [DAI]
+    assert names(listed(browser, "round-report", round="1", state="none")) == [DAI]
+    # (the waiting lists by school: Cyd and Dai wait at A, and Dai at B)
+    assert names(listed(browser, "list", school="A")) == [CYD, DAI]
+    assert names(listed(browser, "list", at="B")) == [DAI]
+
+
+def test_columns_and_order_are_chosen(browser: Browser) -> None:
+    """Columns stay in the order of the list. What is empty comes last, up and down. Numbers are
+    ordered as numbers.
+    """
+    found = listed(browser, "children", column=["school", "name"], order="school")
+    assert found.heads == ["Name", "School"]
+    assert found.rows == [[ADA, "A"], [BEN, "A"], [CYD, "B"], [DAI, ""], [SUM, ""]]
+    down = listed(browser, "children", order="school", down="yes")
+    assert names(down) == [CYD, ADA, BEN, DAI, SUM]
+    assert names(listed(browser, "children", order="name", down="yes")) == [
+        DAI, CYD, BEN, ADA, SUM]
+    cells: Rows = [[2], [10], ["9.5"], [None], ["B"], ["a"]]
+    assert list_choice.in_order(cells, 0, False) == [[2], ["9.5"], [10], ["a"], ["B"], [None]]
+
+
+def test_one_child_and_a_name_have_lists_too(browser: Browser) -> None:
+    """Dai waits at both schools; a name that nobody has is said."""
+    assert [it[3:5] for it in listed(browser, "child", child="4").rows] == [["1", "A"], ["2", "B"]]
+    assert names(listed(browser, "find", text="bell")) == [BEN]
+    page = browser.get("/lists/find?text=zzzz")
+    assert page.status_code == 400 and "No child has a name like &#34;zzzz&#34;." in page.text
+    for wrong in ("77", "x", "1" * 30):
+        assert listed(browser, "child", 400, child=wrong).errors == [
+            "the number of a child of the register"]
+
+
+@pytest.mark.parametrize("field, value, said", [
+    ("at", "ZZ", list_choice.NO_SCHOOL), ("state", "lost", list_choice.NO_STATE),
+    ("order", "age", list_choice.NO_COLUMN), ("column", "<b>", list_choice.NO_COLUMN),
+])
+def test_what_a_list_does_not_have_is_said_at_its_field(
+    browser: Browser, field: str, value: str, said: str
+) -> None:
+    """And there is no file of it."""
+    found = listed(browser, "children", 400, **{field: value})
+    assert found.errors == [said] and not found.heads
+    for kind in ("workbook", "csv"):
+        assert browser.get(f"/lists/children/{kind}?{field}=%3Cx").status_code == 400
+    assert browser.get("/lists/amend").status_code == browser.get("/lists/zz").status_code == 404
+
+
+def test_the_files_have_what_is_chosen(browser: Browser) -> None:
+    """A cell of the workbook is a text or a number, never a formula; the CSV has what keeps a
+    spreadsheet from taking it for one.
+    """
+    chosen = "state=none&order=name&down=yes&column=child&column=name"
+    data = browser.get(f"/lists/children/workbook?{chosen}").data
+    page = openpyxl.load_workbook(io.BytesIO(data)).active
+    assert [[it.value for it in row] for row in page.iter_rows()] == [
+        ["child", "name"], [4, DAI], [5, SUM]]
+    assert {it.data_type for row in page.iter_rows() for it in row} == {"s", "n"}
+    parts = zipfile.ZipFile(io.BytesIO(data))
+    assert b"<f>" not in b"".join(parts.read(it) for it in parts.namelist())
+    found = browser.get(f"/lists/children/csv?{chosen}")
+    assert found.mimetype == "text/csv"
+    assert found.headers["Content-Disposition"] == 'attachment; filename="children.csv"'
+    assert list(csv.reader(io.StringIO(found.text.removeprefix("\ufeff")))) == [
+        ["child", "name"], ["4", DAI], ["5", f"'{SUM}"]]
+
+
+def test_a_long_list_has_pages(browser: Browser, monkeypatch: pytest.MonkeyPatch) -> None:
+    """On paper all rows are on one."""
+    monkeypatch.setattr(list_choice, "PAGE", 2)
+    asked = {"1": [ADA, BEN], "2": [CYD, DAI], "3": [SUM], "99": [SUM], "x": [ADA, BEN],
+             "": [ADA, BEN], "0": [ADA, BEN], "-1": [ADA, BEN], "1" * 9: [ADA, BEN],
+             "all": [ADA, BEN, CYD, DAI, SUM]}
+    for number, wanted in asked.items():
+        assert names(listed(browser, "children", page=number)) == wanted, number
+    page = browser.get("/lists/children?order=name&page=2").text
+    assert 'href="/lists/children?page=3&amp;order=name"' in page
+    assert 'href="/lists/children?page=all&amp;order=name"' in page
+
+
+def test_paper_says_what_it_is(browser: Browser) -> None:
+    """The title, what was chosen, the authority, the register and the day, in a row that each
+    sheet repeats.
+    """
+    paper = listed(browser, "children", at="A", words="bell").paper
+    assert paper.startswith("All children, with “bell”, at A")
+    assert 'Tŷ "Ddewi" Council, secondary-2025, as of ' in paper and "1 of 5 rows" in paper
+    assert '<link rel="stylesheet" href="/sheet.css" media="print">' in browser.get(
+        "/lists/children").text
+
+
+def test_a_person_saves_a_view(office: Site, browser: Browser) -> None:
+    """By a name, of whatever characters; nobody else sees it. A second one of the same name
+    replaces it.
+    """
+    title, query = "Mine <script> & =1+1", "order=name&at=A&junk=1&form=x"
+    form = {"title": title, "query": query}
+    assert browser.post("/lists/children/save", form).status_code == 303
+    form["query"] = "at=B&words=Cyd"
+    assert browser.post("/lists/children/save", form).status_code == 303
+    page = browser.get("/lists/").text
+    assert "Mine &lt;script&gt; &amp; =1+1" in page
+    assert 'href="/lists/children?words=Cyd&amp;at=B"' in page and "at=A" not in page
+    assert names(listed(browser, "children", at="B", words="Cyd")) == [CYD]
+    other = office.browser("otto", "officer")
+    assert "Mine" not in other.get("/lists/").text
+    number = office.parts.store.rows("SELECT number FROM list_view")[0][0]
+    assert other.post(f"/lists/views/{number}/remove").status_code == 409
+    assert browser.post(f"/lists/views/{number}/remove").status_code == 303
+    assert "Saved views" not in browser.get("/lists/").text
+    assert [it.about["view"] for it in office.parts.history.entries
+            if it.what in ("saved a view", "removed a view")] == [title] * 3
+
+
+@pytest.mark.parametrize("title", ["", "  ", "a\x00b", "\u202eabc", "x" * 81])
+def test_a_view_needs_a_name_that_can_be_read(browser: Browser, title: str) -> None:
+    """What was chosen and typed is on the page."""
+    found = browser.post("/lists/children/save", {"title": title, "query": "at=B"})
+    assert found.status_code == 422 and "A name has 1 to 80 characters" in found.text
+    assert Table(found.text).rows == [["3", CYD, "31 October 2024", "B", "offered"]]
+    assert "Saved views" not in browser.get("/lists/").text
+
+
+def test_words_are_those_of_the_command(browser: Browser) -> None:
+    """An empty filter is none: the words of a name in any order."""
+    assert texts.folded("Abel, Ada") == "abel ada"
+    assert names(listed(browser, "children", words="Abel, Ada")) == [ADA]
+    assert len(names(listed(browser, "children", words=" "))) == 5
