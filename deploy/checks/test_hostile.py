@@ -520,8 +520,9 @@ def test_no_address_of_a_view_is_taken_for_markup(browser: Browser, address: str
 @pytest.mark.parametrize("path", ["/records", "/sign-in", "/people/", "/page.css"])
 def test_no_other_site_shows_one_of_this_in_a_frame(browser: Browser, path: str) -> None:
     """So nobody is led to press a button that is not seen."""
-    browser.call("Page.navigate", url="data:text/html,<p>other")
-    browser.wait("document.querySelector('p')?.innerText === 'other'")
+    # (each time another page, so that the one before is not taken for it)
+    browser.call("Page.navigate", url=f"data:text/html,<p>{path}")
+    browser.wait(f"document.querySelector('p')?.innerText === '{path}'")
     browser.value(f"document.body.append(Object.assign(document.createElement('iframe'),"
                   f" {{src: '{ORIGIN}{path}'}})); 0")
     shown = browser.until(lambda: browser.framed(f"{ORIGIN}{path}"), "what is in the frame")
