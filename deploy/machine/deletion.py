@@ -49,7 +49,7 @@ def text_of(path: pathlib.Path) -> str:
         return ""
     except OSError as error:
         raise Wrong("NotKept", f"{path} cannot be read: {error.strerror}") from error
-    with open(fd, encoding="ascii") as file:
+    with open(fd, encoding="ascii", errors="replace") as file:
         found = os.fstat(fd)
         if not stat.S_ISREG(found.st_mode) or found.st_uid != os.geteuid() or found.st_mode & 0o022:
             raise Wrong("NotKept", f"{path} may have been written by somebody else")
@@ -59,7 +59,10 @@ def text_of(path: pathlib.Path) -> str:
 def kept(register: Register) -> datetime.date | None:
     """The day that is kept, if there is one."""
     text = text_of(place(register)).strip()
-    return datetime.date.fromisoformat(text) if text else None
+    try:
+        return datetime.date.fromisoformat(text) if text else None
+    except ValueError as error:
+        raise Wrong("NotKept", f"{place(register)} has no day as 2026-01-31") from error
 
 
 def keep(register: Register, number: int) -> datetime.date:
@@ -78,8 +81,11 @@ def keep(register: Register, number: int) -> datetime.date:
 def record_of(register: Register) -> dict[str, str]:
     """The record of a deletion that has begun or ended; nothing where there was none."""
     text = text_of(record_place(register))
-    found = json.loads(text) if text else {}
-    return {str(name): str(it) for name, it in found.items()}
+    try:
+        found = json.loads(text) if text else {}
+        return {str(name): str(it) for name, it in found.items()}
+    except (ValueError, AttributeError) as error:
+        raise Wrong("NotKept", f"{record_place(register)} is no record of a deletion") from error
 
 
 def record(register: Register, found: dict[str, str]) -> None:

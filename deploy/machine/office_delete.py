@@ -67,7 +67,8 @@ def delete(register: Register, day: datetime.date) -> Result:
     """
     stop(register)
     found = deletion.record_of(register)
-    if found.get("day") != day.isoformat() or "ended" in found:
+    # (one of this day that has ended is of a command that was killed before it forgot the day)
+    if found.get("day") != day.isoformat():
         files_, size = counted(register)
         found = {"day": day.isoformat(), "began": now(), "files": str(files_), "bytes": str(size)}
         deletion.record(register, found)
@@ -75,7 +76,7 @@ def delete(register: Register, day: datetime.date) -> Result:
         empty(folder)
     found = {**found, "ended": now(), "remains": second_place(register)}
     deletion.record(register, found)
-    deletion.place(register).unlink()
+    deletion.place(register).unlink(missing_ok=True)
     return found
 
 
@@ -85,13 +86,15 @@ def now() -> str:
 
 
 def stop(register: Register) -> None:
-    """Stops for good what uses the files of a register."""
-    name = register.name
+    """Stops for good what uses the files of a register. The desk is the last: a backup that is
+    stopped starts it.
+    """
+    name, systemctl = register.name, tool("systemctl", "systemd")
     timers = [f"admissions-{it}@{name}.timer" for it in ("backup", "drill")]
     jobs = [f"admissions-{it}@{name}.service" for it in ("backup", "second-copy", "drill")]
-    call(tool("systemctl", "systemd"), "disable", "--now", office_requests.unit_of(register),
-         *timers)
-    call(tool("systemctl", "systemd"), "stop", *jobs)
+    call(systemctl, "disable", "--now", *timers)
+    call(systemctl, "stop", *jobs)
+    call(systemctl, "disable", "--now", office_requests.unit_of(register))
 
 
 def counted(register: Register) -> tuple[int, int]:

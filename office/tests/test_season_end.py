@@ -17,7 +17,7 @@ from typing import Any
 import openpyxl
 import pytest
 from applications import ROUND, Browser, Site, office_over, site, town
-from conftest import PROGRAM, make
+from conftest import PROGRAM, ROOT, make
 from draw_site import NAME, Fields, Machine, machine_over, small_register
 from machine import deletion, office_delete, office_deletion_day, registers, second_copy
 from register_files import Refused
@@ -530,32 +530,78 @@ def test_the_machine_waits_for_the_day(
     assert register.file.exists()
 
 
-@pytest.mark.parametrize("after", range(4))
+@pytest.mark.parametrize("after", range(5))
 def test_a_machine_that_was_killed_ends_what_it_has_begun(
     place: pathlib.Path, monkeypatch: pytest.MonkeyPatch, after: int
 ) -> None:
-    """After so many steps of the deletion. The counts are those from before the first."""
+    """After so many steps of the deletion, the last before the day is forgotten. The counts are
+    those from before the first.
+    """
     register = made_files(place)
     done: list[str] = []
 
     def step(name: str, real: Any) -> Any:
-        def run(*given: Any) -> Any:
+        def run(*given: Any, **more: Any) -> Any:
             if len(done) == after:
                 raise Killed
             done.append(name)
-            return real(*given)
+            return real(*given, **more)
         return run
 
     with monkeypatch.context() as patch:
         patch.setattr(deletion, "record", step("record", deletion.record))
         patch.setattr(office_delete, "empty", step("empty", office_delete.empty))
+        patch.setattr(pathlib.Path, "unlink", step("unlink", pathlib.Path.unlink))
         with pytest.raises(Killed):
             asked(place, "delete", "20260124")
     assert done == ["record", "empty", "empty", "record"][:after]
     assert register.file.exists() == (after < 2)
     answer = asked(place, "delete", "")
     assert answer["files"] == "4" and "ended" in answer and answer["number"] == 20260124
+    assert deletion.kept(register) is None
     assert not list(register.folder.iterdir()) and not list(register.copies.iterdir())
+
+
+@pytest.mark.parametrize("name, text", [
+    ("deletion-day", "31 January 2026"), ("deletion-day", "24.1.2026\xe9"),
+    ("deleted", "{"), ("deleted", "[]"),
+])
+def test_a_file_of_the_machine_that_was_edited_wrong_is_named(
+    place: pathlib.Path, name: str, text: str
+) -> None:
+    """The request is answered, as its unit would begin again and again otherwise; nothing is
+    deleted.
+    """
+    register = made_files(place)
+    (place / "etc" / NAME / name).write_bytes(text.encode("latin-1"))
+    answer = asked(place, "delete", "20260124")
+    assert answer["error"] == "NotKept" and f"{NAME}/{name} " in answer["why"]
+    assert register.file.exists()
+
+
+def test_no_unit_that_a_deletion_stops_starts_another(monkeypatch: pytest.MonkeyPatch) -> None:
+    """A backup that is stopped in the middle has failed, and its unit starts the desk then."""
+    units, running = ROOT / "deploy" / "systemd", set[str]()
+    desk, backup = (f"admissions{it}@{NAME}.service" for it in ("", "-backup"))
+    for it in ("admissions@.service", *(f"admissions-{it}@.{kind}" for it, kind in (
+            ("backup", "timer"), ("backup", "service"), ("second-copy", "service"),
+            ("drill", "timer"), ("drill", "service")))):
+        assert (units / it).exists()
+        running.add(it.replace("@", f"@{NAME}"))
+    assert "OnFailure=admissions@%i.service" in (
+        units / "admissions-backup@.service").read_text("utf-8").splitlines()
+
+    def call(*given: object) -> None:
+        assert given[0] == "systemctl" and given[1] in ("disable", "stop")
+        for it in given[2:]:
+            if it == backup and it in running:
+                running.add(desk)
+            running.discard(str(it))
+
+    monkeypatch.setattr(office_delete, "tool", lambda name, _: name)
+    monkeypatch.setattr(office_delete, "call", call)
+    office_delete.stop(registers.Register(NAME))
+    assert not running
 
 
 def test_the_machine_keeps_a_day_that_is_ahead(
