@@ -10,15 +10,17 @@ import hashlib
 import io
 import json
 import pathlib
+import re
+import sqlite3
 import zipfile
-from collections.abc import Iterator
+from collections.abc import Callable, Iterator
 from typing import Any
 
 import openpyxl
 import pytest
-from applications import ROUND, Browser, Site, office_over, site, town
+from applications import ORIGIN, ROUND, Browser, Site, office_over, site, town
 from conftest import PROGRAM, ROOT, make
-from draw_site import NAME, Fields, Machine, machine_over, small_register
+from draw_site import HAL, JANE, NAME, Fields, Machine, machine_over, small_register
 from machine import deletion, office_delete, office_deletion_day, registers, second_copy
 from register_files import Refused
 from served import served
@@ -26,6 +28,7 @@ from served import served
 from office import days
 from office.web import archive, history, people, season_end
 from office.web.copies import Copies
+from office.web.parts import Config, Parts
 from office.web.season_end import End, SeasonEnd
 
 TODAY = datetime.date(2026, 1, 10)
@@ -277,7 +280,7 @@ def see_two_are_needed(office: Site, head: Person, jane: Person) -> None:
     changed = jane.press("confirm", 409, name=NAME, shown="{}")
     assert "What is deleted has changed since this page was shown." in changed.text
     assert "Type the name of the register" in jane.press("confirm", 422, name="x").text
-    assert "Somebody else has done a step" in jane.press("confirm", 409, name=NAME, seen="1").text
+    assert "A step was done since this page" in jane.press("confirm", 409, name=NAME, seen="1").text
     assert not office.parts.end.get().phase
 
 
@@ -297,6 +300,119 @@ def see_forgotten(office: Site, digest: str, children: int = 5) -> dict[str, Any
         for name in (b"Child 3", b"Ada Abel"):
             assert not path.is_file() or name not in path.read_bytes(), path
     return about
+
+
+# what the application has
+
+
+@pytest.fixture(name="alone")
+def alone_fixture(tmp_path: pathlib.Path) -> Iterator[Parts]:
+    """The parts of an application whose register does not answer, with a note and a file."""
+    found = Parts(Config(NAME, ORIGIN, "http://127.0.0.1:9", tmp_path / "office",
+                         tmp_path / "copies", ROOT / "deploy" / "site"))
+    try:
+        found.notes.add(JANE, 3, "Ada Abel", "a note of Ada Abel")
+        found.notes.add_file(JANE, 3, "Ada Abel", "a.txt", b"a file of Ada Abel")
+        yield found
+    finally:
+        found.close()
+
+
+def test_no_file_of_the_season_stays(alone: Parts) -> None:
+    """Letters that were made, what was previewed, a gazetteer and the archive: each folder is
+    empty, but that of the requests; and is there, as the application still looks into it.
+    """
+    folder, found = alone.config.folder, []
+    for name in ("archive/season.zip", "letters/3/letters.pdf", "letters/3/letters.json",
+                 "previews/ab.pdf", "gazetteer/given.csv", "requests/delete.done"):
+        path = folder / name
+        path.parent.mkdir(parents=True, exist_ok=True)
+        path.write_text("Ada Abel")
+        found.append(path)
+    (folder / "previews" / "link").symlink_to(folder / "requests")
+    assert alone.copies.requests == folder / "requests"
+    alone.end.forget()
+    assert [it for it in found if it.exists()] == [folder / "requests" / "delete.done"]
+    assert {it.name: len(list(it.iterdir())) for it in folder.iterdir() if it.is_dir()} == {
+        "archive": 0, "letters": 0, "previews": 0, "gazetteer": 0, "requests": 1}
+
+
+def test_what_was_deleted_stays_in_no_log(alone: Parts) -> None:
+    """Where another program reads the store meanwhile, its log keeps what was there: the deletion
+    has not ended then, and goes on later.
+    """
+    with contextlib.closing(sqlite3.connect(alone.store.path, isolation_level=None)) as other:
+        other.execute("BEGIN")
+        assert other.execute("SELECT count(*) FROM note").fetchone() == (1,)
+        alone.store.db.execute("PRAGMA busy_timeout=0")
+        with pytest.raises(Refused, match="could not be deleted wholly: go on in some minutes"):
+            alone.end.forget()
+    alone.end.forget()
+    for path in alone.config.folder.glob("office.db*"):
+        assert b"Ada Abel" not in path.read_bytes(), path
+
+
+def archived(parts: Parts) -> End:
+    """The end of a season whose archive has what the application has now, and was taken."""
+    folder = archive.folder_of(parts)
+    folder.mkdir(exist_ok=True)
+    with zipfile.ZipFile(folder / "a.zip", "w") as made:
+        for name, _, data in archive.of_store(parts.store):
+            made.writestr(name, data)
+    return parts.end.store(parts.end.get(), archive="a.zip", taken="now", day=DAY.isoformat(),
+                           digest=archive.digest_of(folder / "a.zip"))
+
+
+def test_what_came_after_the_archive_is_not_lost(
+    alone: Parts, monkeypatch: pytest.MonkeyPatch
+) -> None:
+    """A note, a file that is removed, an address: nothing is deleted until it is in the archive."""
+    monkeypatch.setattr(SeasonEnd, "see_unchanged", lambda *_: None)
+    alone.end.today = lambda: DAY
+    with alone.store.writing() as db:
+        db.execute("INSERT INTO school_draft (cells) VALUES ('{}')")
+    said = "the archive lacks what was recorded here since it was made ({}): make it again"
+    notes = alone.notes
+
+    def address() -> None:
+        with alone.store.writing() as db:
+            db.execute("INSERT INTO letter_address VALUES (3, '[]', 'jane', '')")
+
+    changes: list[tuple[Callable[[], object], str]] = [
+        (lambda: notes.add(JANE, 3, "Ada Abel", "another"), "notes of children"),
+        (lambda: notes.strike(JANE, notes.of_child(3)[0], "wrong"), "notes of children"),
+        (lambda: notes.remove(JANE, notes.files_of(3)[0], "wrong"), "files of children"),
+        (address, "other entries of the application")]
+    for change, what in changes:
+        archived(alone)
+        alone.end.see_due(alone.end.get())
+        change()
+        with pytest.raises(Refused, match=re.escape(said.format(what))):
+            alone.end.ask(HAL, alone.end.get().version, NAME)
+    # (what is there no more is in the archive)
+    archived(alone)
+    with alone.store.writing() as db:
+        db.execute("DELETE FROM school_draft")
+    alone.end.ask(HAL, alone.end.get().version, NAME)
+    assert alone.end.get().asked_by == "hal"
+    (archive.folder_of(alone) / "a.zip").unlink()
+    with pytest.raises(Refused, match="the archive is not there, or not as it was made"):
+        alone.end.confirm(JANE, alone.end.get().version, NAME, "")
+    with pytest.raises(Refused, match="the archive is not there, or not as it was made"):
+        alone.end.take(HAL, alone.end.get().version, WHERE)
+
+
+def test_a_season_does_not_end_within_a_restore(alone: Parts) -> None:
+    """The restored register is another one than that of the last copy."""
+    with alone.store.writing() as db:
+        db.execute("INSERT INTO copy (number, purpose, asked) VALUES (1, 'a try', '')")
+    assert season_end.in_progress(alone) == []
+    alone.restores.added(HAL, 1, None, ())
+    stops = season_end.in_progress(alone)
+    assert [(it.title, it.is_stop) for it in stops] == [("A restore in progress", True)]
+    for step in (lambda: alone.end.copy(HAL, 0, ""), lambda: alone.end.see_unchanged(End(copy=1))):
+        with pytest.raises(Refused, match="a restore in progress: the restore of copy 1"):
+            step()
 
 
 # what is killed
@@ -319,7 +435,8 @@ def ended_season(
         yield "history.jsonl", "the history", b"{}\n"
 
     patch.setattr(archive, "content", content)
-    patch.setattr(SeasonEnd, "unchanged", lambda *_: None)
+    patch.setattr(SeasonEnd, "see_unchanged", lambda *_: None)
+    patch.setattr(archive, "lacks", lambda *_: [])
     patch.setattr(Copies, "asked", lambda *given: {"number": given[2], "files": "2"})
     with site(folder, address) as office:
         office.parts.end.today = lambda: day

@@ -34,6 +34,10 @@ if TYPE_CHECKING:
 FOLDER, START, DIGESTS = "archive", "start-here.html", "digests.txt"
 # what of the application's own file is no part of a season: secrets, and what it is set up with
 SECRET = ("person", "session", "setting")
+# what says nothing of a family: copies, whose tests are there, and what is on its way to the history
+PASSING = ("copy", "told")
+# where the rows of a table are, and its files
+LINES, FILES = "office/{}.jsonl", "office/{}-"
 # the lists of a draw, of which each is a sheet
 OF_DRAWS = (("lots", "draw"), ("round-report", "round"), ("moved", "draw"))
 CHUNK = 1 << 20
@@ -154,13 +158,40 @@ def of_store(store: Store) -> Iterator[tuple[str, str, bytes]]:
             for column in row.keys():
                 cells[column] = row[column]
                 if isinstance(row[column], bytes):
-                    cells[column] = f"office/{name}-{at}-{column}"
+                    cells[column] = f"{FILES.format(name)}{at}-{column}"
                     files.append((cells[column], row[column]))
             lines.append(json.dumps(cells, sort_keys=True, ensure_ascii=False) + "\n")
         if lines:
             said = f"{texts.count(len(lines), 'row')} of the application's table {name}"
-            yield f"office/{name}.jsonl", said, "".join(lines).encode()
+            yield LINES.format(name), said, "".join(lines).encode()
         yield from ((path, f"a file of the table {name}", data) for path, data in files)
+
+
+def lacks(store: Store, path: pathlib.Path) -> list[str]:
+    """The tables that have a row which an archive lacks, or has otherwise."""
+    with zipfile.ZipFile(path) as made:
+        return [name for name in tables(store) if name not in PASSING
+                and rows_now(store, name) - rows_kept(made, name)]
+
+
+def rows_now(store: Store, name: str) -> set[str]:
+    """The rows of a table."""
+    return {without_files(name, dict(it)) for it in store.rows(f"SELECT * FROM {name}")}
+
+
+def rows_kept(made: zipfile.ZipFile, name: str) -> set[str]:
+    """The rows of a table that an archive has."""
+    lines = made.read(LINES.format(name)) if LINES.format(name) in made.namelist() else b""
+    return {without_files(name, json.loads(it)) for it in lines.splitlines()}
+
+
+def without_files(name: str, row: dict[str, Any]) -> str:
+    """A row as one text, without its files, whose names in an archive change with the rows before.
+    """
+    def is_file(it: Any) -> bool:
+        return isinstance(it, bytes) or isinstance(it, str) and it.startswith(FILES.format(name))
+
+    return json.dumps({column: it for column, it in row.items() if not is_file(it)}, sort_keys=True)
 
 
 def content(parts: Parts, copy: int, day: datetime.date) -> Iterator[tuple[str, str, bytes]]:

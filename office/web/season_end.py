@@ -8,7 +8,8 @@ import contextlib
 import dataclasses
 import datetime
 import json
-import os
+import pathlib
+import shutil
 import threading
 from collections.abc import Callable, Iterator, Mapping
 from typing import TYPE_CHECKING, Any
@@ -42,6 +43,7 @@ CALLED = {
     "letter_template": "templates of letters", "notice": "reminders and withdrawals",
     "lot": "lots that were typed or sealed", "figures": "figures that were made",
 }
+OTHERS = "other entries of the application"
 
 
 class WrongField(Refused):
@@ -103,13 +105,7 @@ class End:
 
 def still_open(parts: Parts, register: Register, today: datetime.date) -> list[Open]:
     """What is still open, which the head reads before the last copy."""
-    found = []
-    if draw := parts.draws.present():
-        found.append(Open("A draw in progress", f"{draw.terms.in_words}: it must end first",
-                          "draws.show", is_stop=True))
-    if entries := parts.history.open_requests():
-        found.append(Open("Requests without a known answer",
-                          texts.count(len(entries), "request"), "activity.show", is_stop=True))
+    found = in_progress(parts)
     if offers := register_lists.offers(register):
         found.append(Open("Offers without an answer", texts.count(len(offers), "offer"),
                           "lists.one", {"name": "no-answer"}))
@@ -120,6 +116,22 @@ def still_open(parts: Parts, register: Register, today: datetime.date) -> list[O
             said += f"; the lists end on {days.in_words(register.days[2])}"
         found.append(Open("Waiting lists", said, "lists.one", {"name": "list"}))
     return found + drafts(parts)
+
+
+def in_progress(parts: Parts) -> list[Open]:
+    """What must end before anything else is done."""
+    found = []
+    if draw := parts.draws.present():
+        found.append(Open("A draw in progress", f"{draw.terms.in_words}: it must end first",
+                          "draws.show", is_stop=True))
+    if restore := parts.restores.present():
+        found.append(Open("A restore in progress",
+                          f"the restore of copy {restore.copy}: it must end first",
+                          "copies.show", is_stop=True))
+    if entries := parts.history.open_requests():
+        found.append(Open("Requests without a known answer",
+                          texts.count(len(entries), "request"), "activity.show", is_stop=True))
+    return found
 
 
 def drafts(parts: Parts) -> list[Open]:
@@ -169,8 +181,8 @@ class SeasonEnd:
         with self.lock:
             found = self.get()
             if found.version != seen:
-                raise Refused("somebody else has done a step since this page was shown. Nothing was"
-                              " done: look at it again")
+                raise Refused("a step was done since this page was shown. Nothing was done now: look"
+                              " at it again")
             if found.phase not in (phases or ("",)):
                 raise Refused("the season is deleted, or its deletion has begun: this cannot be"
                               " done any more")
@@ -191,9 +203,8 @@ class SeasonEnd:
     def copy(self, who: Person, seen: int, read: str) -> None:
         """Makes the last copy, where the person has read what is still open."""
         with self.turn(seen) as found:
+            self.see_nothing_in_progress()
             there = still_open(self.parts, self.parts.desk.now(), self.today())
-            if stop := next((it for it in there if it.is_stop), None):
-                raise Refused(f"{stop.title.lower()}: {stop.said}")
             if there and read != read_of(there):
                 raise Refused("read what is still open, and say that it may stay so")
             self.record(who, "makes the last copy of the season",
@@ -202,19 +213,32 @@ class SeasonEnd:
             self.store(found, copy=number, copied_by=who.name, copied=now(), archive="", digest="",
                        size=0, made_by="", made="", taken_by="", taken="", asked_by="", asked="")
 
-    def unchanged(self, found: End) -> Register:
-        """The register, or a refusal where it is not that of the last copy."""
+    def see_nothing_in_progress(self) -> None:
+        """Refuses to go on where something must end before."""
+        if stop := next(iter(in_progress(self.parts)), None):
+            raise Refused(f"{stop.title.lower()}: {stop.said}")
+
+    def see_unchanged(self, found: End) -> None:
+        """Refuses a register that is not that of the last copy, or of which it is not known."""
+        self.see_nothing_in_progress()
         register = self.parts.desk.now()
         if not found.copy or not is_same(register, self.parts.copies.register(found.copy)):
             raise Refused("the register is not that of the last copy: make the last copy again")
-        return register
+
+    def see_archive(self, found: End) -> pathlib.Path:
+        """The file of the archive, or a refusal where it is not as it was made."""
+        path = archive.folder_of(self.parts) / found.archive
+        if not (found.archive and path.is_file() and archive.digest_of(path) == found.digest):
+            raise Refused("the archive is not there, or not as it was made: make it again, and take"
+                          " it")
+        return path
 
     def make_archive(
         self, who: Person, seen: int, page: Callable[[list[Item]], str]
     ) -> None:
         """Makes the archive of the last copy."""
         with self.turn(seen) as found:
-            self.unchanged(found)
+            self.see_unchanged(found)
             made = archive.make(self.parts, found.copy, self.today(), page)
             self.record(who, "made the archive", file=made.name, digest=made.digest,
                         size=made.size, copy=found.copy)
@@ -225,17 +249,15 @@ class SeasonEnd:
                 if it.name != made.name:
                     it.unlink()
 
-    def take(self, who: Person, seen: int, kept: str) -> str:
-        """Records that somebody takes the archive and where it will be kept, and returns its path.
+    def take(self, who: Person, seen: int, kept: str) -> pathlib.Path:
+        """Records that somebody takes the archive and where it will be kept, and returns its file.
         """
         with self.turn(seen) as found:
-            path = archive.folder_of(self.parts) / found.archive
-            if not found.archive or archive.digest_of(path) != found.digest:
-                raise Refused("the archive is not there, or not as it was made: make it again")
+            path = self.see_archive(found)
             see_line("kept", kept, "where it is kept")
             self.record(who, "took the archive", digest=found.digest, kept=kept)
             self.store(found, taken_by=who.name, taken=now(), kept=kept)
-            return str(path)
+            return path
 
     # the day of deletion
 
@@ -289,7 +311,7 @@ class SeasonEnd:
         }
         for it in archive.tables(store):
             if many := store.rows(f"SELECT count(*) FROM {it}")[0][0]:
-                name = CALLED.get(it, "other entries of the application")
+                name = CALLED.get(it, OTHERS)
                 found[name] = found.get(name, 0) + many
         return found
 
@@ -300,9 +322,11 @@ class SeasonEnd:
             raise Refused("set the day of deletion first")
         if self.today() < date:
             raise Refused(f"the day of deletion is {days.in_words(date)}: it has not come")
-        self.unchanged(found)
-        if archive.digest_of(archive.folder_of(self.parts) / found.archive) != found.digest:
-            raise Refused("the archive is not as it was made: make it again, and take it")
+        self.see_unchanged(found)
+        if lacks := archive.lacks(self.parts.store, self.see_archive(found)):
+            named = texts.listed(sorted({CALLED.get(it, OTHERS) for it in lacks}))
+            raise Refused(f"the archive lacks what was recorded here since it was made ({named}):"
+                          " make it again, and take it")
 
     def see_steady(self, who: Person) -> None:
         """Refuses as one of two persons somebody whom the other one could have made up."""
@@ -366,8 +390,11 @@ class SeasonEnd:
             self.store(found, phase=DELETED, deleted=first.at)
 
     def forget(self) -> None:
-        """Removes what the application has of the season: its rows, and the archive."""
-        store, self.parts.desk.copy = self.parts.store, None
+        """Removes what the application has of the season: its rows, and all files in its folders:
+        the archive, letters that were made, what was previewed, and gazetteers.
+        """
+        store, copies = self.parts.store, self.parts.copies
+        self.parts.desk.copy = copies.read = None
         with store.lock:
             store.db.execute("PRAGMA secure_delete=ON")
             with store.writing() as db:
@@ -376,10 +403,22 @@ class SeasonEnd:
                     db.execute(f"DELETE FROM {it}")
             # (a log and free pages would keep what was deleted)
             store.db.execute("VACUUM")
-            store.db.execute("PRAGMA wal_checkpoint(TRUNCATE)")
-        folder = archive.folder_of(self.parts)
-        for path in folder.iterdir() if folder.is_dir() else ():
-            os.unlink(path)
+            is_busy, *_ = store.db.execute("PRAGMA wal_checkpoint(TRUNCATE)").fetchone()
+        if is_busy:
+            raise Refused("the machine copies what the application keeps, and it could not be"
+                          " deleted wholly: go on in some minutes")
+        for folder in self.parts.config.folder.iterdir():
+            if folder.is_dir() and folder != copies.requests:
+                empty(folder)
+
+
+def empty(folder: pathlib.Path) -> None:
+    """Deletes all that is in a folder, which stays."""
+    for path in folder.iterdir():
+        if path.is_dir() and not path.is_symlink():
+            shutil.rmtree(path)
+        else:
+            path.unlink(missing_ok=True)
 
 
 def see_line(field: str, text: str, what: str) -> None:
@@ -403,8 +442,7 @@ def months_after(day: datetime.date, months: int) -> datetime.date:
 
 
 def read_counts(counts: Mapping[str, int]) -> str:
-    """What was shown of a deletion. Entries of the history grow by each sign-in, and copies of
-    nobody's data are not in it.
+    """What was shown of a deletion, without the entries of the history, which each sign-in adds to.
     """
     return json.dumps({name: it for name, it in counts.items()
                        if name != "entries of the history"}, sort_keys=True)

@@ -132,7 +132,7 @@ def take() -> Answer:
     except Refused as error:
         return refused(error)
     return flask.send_file(path, mimetype="application/zip", as_attachment=True,
-                           download_name=parts().end.get().archive)
+                           download_name=path.name)
 
 
 @screen.post("/retention")
