@@ -1,19 +1,24 @@
 """Reminders and withdrawals as one flow: the list of a day, what is ticked shown whole, a copy, the
 record, and the letters of the same children. Days are worked out by hand.
 """
+import datetime
 import pathlib
 import re
 from collections.abc import Iterator
+from types import SimpleNamespace
 from typing import Any
 
 import pytest
-from applications import Browser, Site
+from applications import Browser, Site, site
 from conftest import child
+from draw_site import JANE
 from letter_site import (
     NAMES, after_round, asked, audited, beside, count, hidden, letter_pages, made,
 )
+from register_files import Refused
 
 from office.senders import Ended
+from office.web import notices
 from office.web.answers import Meant
 
 
@@ -215,3 +220,62 @@ def test_a_child_that_is_looked_after_is_named_before_a_withdrawal(
     jane = office.browser("jane")
     assert "looked after, or was" in jane.get("/notices/lapse?day=31 March 2025").text
     assert "looked after, or was" in shown(jane, "lapse", "31 March 2025", [2]).text
+
+
+DAY = datetime.date(2025, 3, 17)
+
+
+def row_of(office: Site, *children: int) -> tuple[notices.Notices, int]:
+    """A row of reminders of these children, of which none is recorded."""
+    found = notices.Notices(office.parts.store, office.parts.history, office.parts.desk,
+                            office.parts.copies)
+    chosen = [notices.Due(it, "ELM", NAMES[it], {}, "{}") for it in children]
+    return found, found.add(JANE, "one", notices.REMIND, DAY, chosen)
+
+
+def test_a_row_that_cannot_be_recorded_now_makes_no_copy(tmp_path: pathlib.Path) -> None:
+    """While a draw closes the register: the copy is from before the reminders, and after the draw.
+    """
+    with site(tmp_path, "http://127.0.0.1:9") as office:
+        found, number = row_of(office, 1, 2)
+        office.parts.desk.closed = lambda: "Closed for draw 1 by hal since 10:00."
+        found.send_all(JANE, number)
+        row = found.get(number)
+        assert row.said == "Closed for draw 1 by hal since 10:00. Nothing was sent."
+        assert not office.copied and row.copy is None and row.count("waits") == 2
+        office.parts.desk.closed = str
+        found.send_all(JANE, number)
+        assert office.copied == ["before reminders of 2025-03-17"]
+
+
+def test_a_form_without_its_key_records_nothing(tmp_path: pathlib.Path) -> None:
+    """As it would be taken for the first such one, however much later it comes."""
+    with site(tmp_path, "http://127.0.0.1:9") as office:
+        found, _ = row_of(office, 1)
+        for _ in range(2):
+            with pytest.raises(Refused, match="the form is not whole"):
+                found.add(JANE, "", notices.REMIND, DAY, [])
+        assert count(office, "notice_row") == 1
+
+
+def test_a_row_that_ends_while_its_page_is_made_is_looked_at_again(
+    tmp_path: pathlib.Path, monkeypatch: pytest.MonkeyPatch
+) -> None:
+    """The page has what was so before, and offers no button to record the rest."""
+    with site(tmp_path, "http://127.0.0.1:9") as office:
+        _, number = row_of(office, 1)
+        jane, answers = office.browser("jane"), [True]
+        monkeypatch.setattr(office.parts.desk, "register", lambda: SimpleNamespace(children={}))
+        monkeypatch.setattr(
+            notices.Notices, "is_running", lambda *_: answers.pop() if answers else False)
+        page = jane.get(f"/notices/rows/{number}").text
+        assert "0 of 1 reminder recorded" in page
+        assert "Look again" in page and "Record the other 1" not in page
+        assert "Record the other 1" in jane.get(f"/notices/rows/{number}").text
+
+
+def test_a_register_that_is_away_is_no_wrong_day(tmp_path: pathlib.Path) -> None:
+    """The page says so, and marks no field."""
+    with site(tmp_path, "http://127.0.0.1:9") as office:
+        page = office.browser("jane").get("/notices/remind?day=17 March 2025")
+        assert page.status_code == 503 and "The register does not answer now" in page.text

@@ -141,6 +141,8 @@ class Notices:
 
     def add(self, who: Person, key: str, kind: str, day: datetime.date, chosen: list[Due]) -> int:
         """Adds a row, once for each form that was shown."""
+        if not key:
+            raise Refused("the form is not whole: begin again. Nothing was recorded")
         with self.lock:
             same = self.store.row("SELECT id FROM notice_row WHERE key=?", key)
             if same:
@@ -187,10 +189,14 @@ class Notices:
         try:
             self.settle(number)
             row = self.get(number)
-            if row.copy is None:
-                what = "reminders" if row.kind == REMIND else "withdrawals"
-                copy = self.copies.make(f"before {what} of {row.day}", who.name)
-                self.change(number, "copy=?", copy)
+            with self.desk.lock:
+                if said := self.desk.closed():
+                    # (a copy from before a draw or a restore would undo that too)
+                    raise Refused(f"{said} Nothing was sent.")
+                if row.copy is None:
+                    what = "reminders" if row.kind == REMIND else "withdrawals"
+                    copy = self.copies.make(f"before {what} of {row.day}", who.name)
+                    self.change(number, "copy=?", copy)
             self.change(number, "said=?", "")
             for it in row.notices:
                 if it.state == WAITS and not self.send(who, row, it):

@@ -71,8 +71,8 @@ def choose_page(kind: str, said: str = "", status: int = 200) -> Answer:
     day, found, marks = wording.day_of(typed), [], None
     wrong = "" if day else "a day as 17 March 2025 or 17/3/2025"
     if day:
+        register = parts().desk.register()
         try:
-            register = parts().desk.register()
             found, marks = notices.due(register, kind, day), marks_of(register)
         except Refused as error:
             wrong = sentence(str(error).partition(";")[0])
@@ -170,8 +170,10 @@ def to_row(number: int) -> Response:
 @needs(READ)
 def one(number: int) -> Answer:
     """A row: what came of each, and the letters of the same children."""
+    # (asked for first: of one that ends meanwhile the page is loaded once more)
+    is_running = rows().is_running(number)
     try:
-        if not rows().is_running(number):
+        if not is_running:
             rows().settle(number)
         row = rows().get(number)
     except Refused as error:
@@ -181,8 +183,7 @@ def one(number: int) -> Answer:
     names = {it.number: it.name for it in parts().desk.register().children.values()}
     return flask.render_template(
         "notices_row.html", row=row, title=TITLES[row.kind], what=WHAT[row.kind], names=names,
-        done=row.count(DONE), is_running=rows().is_running(number),
-        looks_again=LOOKS_AGAIN)
+        done=row.count(DONE), is_running=is_running, looks_again=LOOKS_AGAIN)
 
 
 @screen.post("/rows/<int:number>")
