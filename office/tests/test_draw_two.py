@@ -1,12 +1,15 @@
 """A draw of an office of two, one of whom gets a new password or is locked while it is in progress:
 in no state is it stuck, and in no state does one person alone hold it.
 """
+import datetime
 import pathlib
 import re
 from collections.abc import Callable, Iterator
+from typing import Any, cast
 
+import flask
 import pytest
-from applications import Browser, Site
+from applications import Browser, Site, site
 from draw_site import (
     HAL, Fields, Machine, Person, at_lots, begun, brought, lot_of, machine_over, sealed,
     small_register, typed, version, waiting,
@@ -14,7 +17,10 @@ from draw_site import (
 from pages import Page
 
 from office.web import copies, people
+from office.web.draws_terms import Draw, Terms
 from office.web.history import Entry
+from office.web.screens import draws
+from office.web.step_store import Done
 
 STATES = ("begun", "closed", "copied", "lots", "sealed", "rehearsed", "confirmed", "sending",
           "audited")
@@ -285,3 +291,15 @@ def test_a_supervisor_is_not_made_up(small: Machine, how: str) -> None:
         given = {it: fields[it] for it in ("seen", "digest")}
         assert made.post(f"/lots/{number}/seal", given).status_code == 303
         assert office.parts.draws.get(number).state == "rehearsed"
+
+
+def test_who_sealed_the_lots_reads_who_confirms(tmp_path: pathlib.Path) -> None:
+    """Neither who began the draw, nor who sealed its lots."""
+    done = (Done("begun", "hal", "", ""), Done("sealed", "sup", "", ""))
+    terms, register = Terms(1, None, 1, datetime.date(2025, 3, 3)), cast(Any, object())
+    draw = Draw(1, terms, "rehearsed", 6, 1, None, "ab", {}, {}, "", "", "", done, None, "")
+    with site(tmp_path, "http://127.0.0.1:9") as office, office.app.test_request_context():
+        for name, said in (("sup", "Somebody other than hal and sup confirms it."),
+                           ("hal", "Somebody other than hal and sup confirms it."), ("jane", "")):
+            flask.g.person = people.Person(name, "officer")
+            assert draws.why_not(draw, "confirmed", register) == said

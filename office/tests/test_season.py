@@ -85,6 +85,7 @@ def test_a_season_goes_step_by_step(
                                 "A place can be filled at A."]
         found = rows("2026-01-02")
         assert [it[1] for it in found] == ["yes", "yes", "yes", "yes", "yes", "next"]
+        assert found[5][2] == "the lists ended on Wednesday, 31 December 2025, 2 days ago"
         assert found[5][4] == "Keep the last copy with the sheets and the audits."
 
 

@@ -152,7 +152,8 @@ def lists(register: Register, today: datetime.date) -> Step:
 def end(register: Register, today: datetime.date) -> Step:
     """The end of the season."""
     _, _, last = register.days
-    said = f"the lists end on {weekday(last)}, {when(last, today)}"
+    what = "end" if today <= last else "ended"
+    said = f"the lists {what} on {weekday(last)}, {when(last, today)}"
     due = ("Keep the last copy with the sheets and the audits.",) if today > last else ()
     return Step("End of the season", False, said, None, due,
                 (("season_end.show", "End of the season", {}),))

@@ -7,10 +7,10 @@ import flask
 from register_files import Refused
 from werkzeug.wrappers import Response
 
-from office import days
+from office import days, texts
 from office.model import Register
 
-from .. import draws_again, draws_checks, draws_outcome, explanations
+from .. import draws_again, draws_checks, draws_outcome, explanations, numbers
 from ..draws import Draws, held_in, next_state
 from ..draws_lots import sheet_of
 from ..draws_second import alone_since, made_since
@@ -81,17 +81,17 @@ def show() -> Answer:
 def begin() -> Answer:
     """Begins a draw."""
     form = flask.request.form
-    day, count = day_of(form.get("day", "")), form.get("fills", "1").strip()
+    day, count = day_of(form.get("day", "")), numbers.read(form.get("fills", "1").strip())
     school = form.get("school", "") if form.get("kind") == "fill" else None
     try:
         if day is None:
             raise Refused("type the day of the draw as 3 March 2025 or 3/3/2025")
         if school == "":
             raise Refused("choose the school of the fills")
-        if school and not (count.isascii() and count.isdigit() and len(count) < 4):
+        if school and count < 0:
             raise Refused(f"the number of fills is from 1 to {MOST_FILLS}")
         number = parts().draws.begin(
-            person(), school, int(count) if school else 1, day, reason_of(form))
+            person(), school, count if school else 1, day, reason_of(form))
     except Refused as error:
         return list_page(f"Nothing was begun: {error}.", 409)
     return flask.redirect(flask.url_for("draws.one", number=number), 303)
@@ -202,8 +202,9 @@ def why_not(draw: Draw, state: str, register: Register | None) -> str:
         return f"{draw.restore_by} has asked to restore the copy from before the draw."
     if state == SEALED:
         return "The supervisor does this, on the screen of lots."
-    if state == CONFIRMED and who.name in (draw.who(BEGUN), draw.who(SEALED)):
-        return f"Somebody other than {draw.who(BEGUN)} confirms it."
+    two = draw.who(BEGUN), draw.who(SEALED)
+    if state == CONFIRMED and who.name in two:
+        return f"Somebody other than {texts.listed(two)} confirms it."
     action = action_of(draw, state)
     if action and not who.may(CONFIRM if action in SECOND else DRAW):
         return "Your role does not do this."
@@ -275,12 +276,12 @@ SECOND: dict[str, Step] = {
 def done(number: int, steps: dict[str, Step], name: str) -> Answer:
     """Does a step with what follows it by itself, and shows the draw."""
     found_draw(number)
-    seen = flask.request.form.get("seen", "")
-    if name not in steps or not (seen.isascii() and seen.isdigit() and len(seen) < 9):
+    seen = numbers.read(flask.request.form.get("seen", ""))
+    if name not in steps or seen < 0:
         flask.abort(404 if name not in steps else 400)
     try:
         with parts().draws.lock:
-            steps[name](parts().draws, number, int(seen))
+            steps[name](parts().draws, number, seen)
             parts().following.after(person(), number)
     except Refused as error:
         said = str(error)
