@@ -4,15 +4,18 @@ a small model of the commands.
 """
 import contextlib
 import copy
+import hashlib
 import html
 import json
 import pathlib
 import re
+import sqlite3
 from collections.abc import Callable, Iterator
+from types import SimpleNamespace
 from typing import Any
 
 import pytest
-from applications import Browser, Site
+from applications import Browser, Site, site
 from conftest import HEADER, apply, child
 from draw_site import (
     HAL, JANE, OFFER_DAY, SUP, Machine, begun, brought, given_up, machine_over, small_register,
@@ -22,11 +25,12 @@ from pages import Page, press
 from register_files import Refused
 
 from office.model import Register
-from office.web import copies, draws_again, lineage, restores_again
+from office.web import copies, copy_tests, draws_again, lineage, restores, restores_again
 from office.web.draws_drafts import Typed
 from office.web.history import RESTORED, Entry, History
 from office.web.parts import Parts
-from office.web.step_store import StepStore
+from office.web.restores_terms import Restore
+from office.web.step_store import Done, StepStore
 
 Command = dict[str, Any]
 
@@ -112,7 +116,7 @@ class Room:
     def press(self, browser: Browser, number: int, name: str, entries: tuple[int, ...] = ()) -> Any:
         """Presses a button of a restore, with what is ticked."""
         seen = self.office.parts.restores.get(number).version
-        second = "second/" if name == "confirm" else ""
+        second = "" if name in ("ask", "choose", "later") else "second/"
         given = {f"again-{it}": "on" for it in entries}
         if name == "ask" and not entries:
             given["none"] = "yes"
@@ -628,3 +632,132 @@ def test_the_lineage_of_a_register_follows_its_restores() -> None:
     assert of(both, 11) == {1, 2, 3, 4, 5, 10, 11}
     assert [lineage.undone_by(first, it) for it in (3, 4, 5, 7)] == [None, 6, 6, None]
     assert [lineage.undone_by(both, it) for it in (3, 7, 8, 10)] == [None, 9, 9, None]
+
+
+# without a register, which nothing here needs
+
+
+@pytest.fixture(name="away")
+def away_fixture(tmp_path: pathlib.Path) -> Iterator[Site]:
+    """An application whose register does not answer, with a copy."""
+    with site(tmp_path, "http://127.0.0.1:9") as office:
+        with office.parts.store.writing() as db:
+            db.execute("INSERT INTO copy (number, purpose, asked, name, size) VALUES"
+                       " (1, 'a try', '2025-03-03T10:00:00+00:00', 'office-1.db', 10)")
+        yield office
+
+
+def in_state(office: Site, state: str, *entries: Entry) -> int:
+    """A restore of the copy that hal has begun, brought to a state."""
+    number: int = office.parts.restores.added(HAL, 1, None, entries)
+    with office.parts.store.writing() as db:
+        db.execute("UPDATE restore SET state=? WHERE id=?", (state, number))
+    return number
+
+
+def test_an_officer_ends_a_restore_when_the_head_cannot(away: Site) -> None:
+    """The register would stay closed for all: whoever may confirm goes on, opens, or gives up; what
+    is sent again is chosen by who may restore.
+    """
+    number, jane = in_state(away, "restored"), away.browser("jane")
+    page = Page(jane.get(f"/restores/{number}").text)
+    found = press(jane, f"/restores/{number}", page, "Open for all, and send no more now")
+    assert found.status_code == 303 and away.parts.restores.get(number).state == "opened"
+    assert not away.parts.desk.closed()
+    number = in_state(away, "closed")
+    seen = {"seen": away.parts.restores.get(number).version, "none": "yes"}
+    assert jane.post(f"/restores/{number}/ask", seen).status_code == 403
+    assert jane.post(f"/restores/{number}/second/ask", seen).status_code == 404
+    assert jane.post(f"/restores/{number}/second/give-up", {"seen": "x"}).status_code == 400
+    page = Page(jane.get(f"/restores/{number}").text)
+    found = press(jane, f"/restores/{number}", page, "Give up the restore of copy 1")
+    assert found.status_code == 303 and away.parts.restores.get(number).state == "given up"
+    rita = away.browser("rita", "reader")
+    assert rita.post(f"/restores/{number}/second/give-up", seen).status_code == 403
+
+
+def test_who_opened_a_restore_is_not_who_has_sent_something_later() -> None:
+    """Nor is a step that leaves the state taken for one that leads to it. Worked out by hand."""
+    steps = (("closed", "hal"), ("asked", "hal"), ("closed", "ann"), ("asked", "ann"),
+             ("confirmed", "jane"), ("opened", "hal"), ("opened", "ann"), ("opened", "bo"))
+    done = [Done(state, who, f"2025-03-0{at}T10:00:00+00:00", "")
+            for at, (state, who) in enumerate(steps, 1)]
+    found = Restore(1, 1, "opened", 8, None, None, tuple(done))
+    names = ("closed", "asked", "confirmed", "opened", "copied")
+    assert [found.came_to(it).who for it in names] == ["ann", "ann", "jane", "hal", ""]
+    assert found.came_to("opened").at == "2025-03-06T10:00:00+00:00"
+
+
+def test_what_was_recorded_since_a_restore_is_counted_from_that_one(tmp_path: pathlib.Path) -> None:
+    """And not from a later restore of the same copy."""
+    record = History(str(tmp_path / "history.jsonl"))
+    for what, about in (
+        ("restores", {"copy": 5, "restore": 1}), (RESTORED, {"copy": 5, "position": 0}),
+        ("added", {"person": "bo"}), ("restores", {"copy": 7, "restore": 2}),
+        (RESTORED, {"copy": 7, "position": 3}), ("restores", {"copy": 5, "restore": 3}),
+        (RESTORED, {"copy": 5, "position": 0}),
+    ):
+        record.add("hal", what, about)
+    found = [restores.restored_at(record, Restore(it, 5, "opened", 1, None, None, ()))
+             for it in (1, 2, 3, 4)]
+    assert found == [2, 5, 7, 0]
+    record.close()
+
+
+def test_an_import_whose_rows_are_in_the_table_again_is_not_sent_later(away: Site) -> None:
+    """They would be in the register, and in the table as if nobody had stored them."""
+    record = away.parts.history
+    entries = [record.add("jane", "sends", {"import": it}) for it in (ROWS, f"{ROWS}9,Ivy,1,2\n")]
+    for it in entries:
+        record.add("jane", "answer", {"of": it.number, "answer": {"done": True}})
+    number = in_state(away, "opened", *entries)
+    staged_by(away, entries[0].number)
+    digest = hashlib.sha256(ROWS.encode()).hexdigest()
+    with away.parts.store.writing() as db:
+        db.execute("UPDATE staged_row SET state='open', entry=NULL, sent=?", (f"0 {digest}",))
+    record.add("hal", "restores", {"copy": 1, "restore": number})
+    record.add("hal", RESTORED, {"copy": 1, "position": 0})
+    may = away.parts.restores.later(away.parts.restores.get(number))
+    assert may == {entries[1].number: "", entries[0].number: (
+        "its applications are in the table of Applications again: store them there")}
+
+
+def test_no_copy_is_made_of_a_season_that_is_deleted(away: Site) -> None:
+    """There is no register, and the machine could do nothing with the request."""
+    away.parts.end.store(away.parts.end.get(), phase="deleted")
+    found = away.browser("hal", "head").post("/copies/", {"purpose": "a try"})
+    assert found.status_code == 409 and "The season is deleted" in Page(found.text).by_id["answer"]
+    assert not away.copied
+    assert "made a copy" not in [it.what for it in away.parts.history.entries]
+
+
+def test_a_disk_that_is_full_is_named_and_no_file(
+    away: Site, monkeypatch: pytest.MonkeyPatch
+) -> None:
+    """Where a copy is tested; and in a step of a restore, whose store cannot be read."""
+    def full_room(*_: object, **__: object) -> None:
+        raise OSError(28, "No space left on device", "/tmp/admissions-x/copy.db")
+
+    with monkeypatch.context() as patch:
+        patch.setattr(copy_tests.tempfile, "TemporaryDirectory", full_room)
+        found = away.browser("hal", "head").post("/copies/1/test")
+    assert found.status_code == 409
+    assert Page(found.text).by_id["answer"] == "Copy 1 was not tested: its disk is full."
+
+    def unread(*_: object) -> None:
+        raise sqlite3.OperationalError("database or disk is full")
+
+    number = in_state(away, "closed")
+    monkeypatch.setattr(type(away.parts.restores), "get", unread)
+    with pytest.raises(Refused, match="cannot use its own file: its disk is full"):
+        away.parts.restores.give_up(HAL, number, 1)
+
+
+def test_a_copy_is_not_wrong_because_another_is_gone(
+    away: Site, monkeypatch: pytest.MonkeyPatch
+) -> None:
+    """The copy from before its last draw, by which that draw would be audited."""
+    tests = away.parts.copy_tests
+    monkeypatch.setattr(tests, "last_draw", lambda _: SimpleNamespace(before=1))
+    register: Any = None
+    assert tests.audit(2, register, "", "") == ([], [])

@@ -34,7 +34,7 @@ if TYPE_CHECKING:
 FOLDER, START, DIGESTS = "archive", "start-here.html", "digests.txt"
 # what of the application's own file is no part of a season: secrets, and what it is set up with
 SECRET = ("person", "session", "setting")
-# what says nothing of a family: copies, whose tests are there, and what is on its way to the history
+# what says nothing of a family: copies with their tests, and what is on its way to the history
 PASSING = ("copy", "told")
 # where the rows of a table are, and its files
 LINES, FILES = "office/{}.jsonl", "office/{}-"

@@ -7,6 +7,7 @@ import json
 import os
 import pathlib
 import re
+import sqlite3
 import stat
 import tempfile
 import time
@@ -70,6 +71,11 @@ def readable() -> Iterator[None]:
     except OSError as error:
         raise Refused(f"the machine cannot be asked for copies ({plain.reason(error)})."
                       f" {plain.ADVICE}") from error
+
+
+def words_of(error: Refused | sqlite3.Error | OSError) -> str:
+    """Why something was not done, in words that name no file."""
+    return str(error) if isinstance(error, Refused) else plain.reason(error)
 
 
 def read_copy(path: pathlib.Path) -> Register:

@@ -61,7 +61,12 @@ class CopyTests:
         draw = self.last_draw(register)
         if draw is None or draw.before is None:
             return [], []
-        before = taken(self.copies.path(draw.before), os.path.join(room, "before.db"))
+        try:
+            kept = self.copies.path(draw.before)
+        except Refused:
+            # (its file is gone, which is nothing against this copy)
+            return [], []
+        before = taken(kept, os.path.join(room, "before.db"))
         is_later = draw.after != number or draw.terms.fills > 1
         lines, is_right = audited(before, path, is_later)
         return lines, [] if is_right else lines

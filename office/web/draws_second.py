@@ -3,10 +3,10 @@ Where nobody but one is left, that one may end the draw alone, and not hold it.
 """
 from office import texts
 
+from .desk import local
 from .draws_store import BEGAN
 from .history import Entry, History
 from .people import CONFIRM, PERSON, Person
-from .step_store import moment
 from .store import Store
 
 # what somebody does to another, by which they could act in both names
@@ -40,7 +40,7 @@ def made(record: History, name: str, began: str = BEGAN) -> Entry | None:
 
 def in_words(it: Entry, name: str, what: str = "this draw was begun") -> str:
     """What was done to a person."""
-    return f"{name} {MADE[it.what]} by {it.who} at {moment(it.at)}, after {what}"
+    return f"{name} {MADE[it.what]} by {it.who} at {local(it.at)}, after {what}"
 
 
 def alone_since(store: Store, record: History, name: str) -> str:

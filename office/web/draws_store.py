@@ -9,12 +9,13 @@ from register_files import Refused
 
 from office import model
 
+from .desk import local
 from .draws_terms import (
     AUDITED, CLOSED, CLOSING, ENDED, GIVEN_UP, OPENED, Draw, Terms, of_rows,
 )
 from .history import History, now
 from .people import Person
-from .step_store import StepStore, moment
+from .step_store import StepStore
 from .store import Store
 
 # the first entry of a draw in the history
@@ -71,7 +72,7 @@ class DrawStore(StepStore[Draw]):
         if draw is None or draw.state not in CLOSING:
             return ""
         done = draw.came_to(CLOSED)
-        return f"Closed for {draw.terms.numbers} by {done.who} since {moment(done.at)}."
+        return f"Closed for {draw.terms.numbers} by {done.who} since {local(done.at)}."
 
     @contextlib.contextmanager
     def moving(

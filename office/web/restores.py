@@ -11,9 +11,9 @@ from register_files import Refused
 from office import texts
 from office.model import Register
 
-from . import restores_draws, restores_rehearsal, restores_since
+from . import plain, restores_draws, restores_rehearsal, restores_since
 from .copies import RESTORE, Copies, is_same
-from .desk import Desk
+from .desk import Desk, local
 from .draws import Draws
 from .draws_second import made_since
 from .history import Entry, History
@@ -24,12 +24,14 @@ from .restores_terms import (
     ASKED, CLOSED, CONFIRMED, COPIED, DONE, GIVEN_UP, OPENED, REFUSED, RESTORED, RESTORING, SENT,
     UNTOUCHED, WAITS, Again, Restore, of_rows,
 )
+from .staging_commit import digest_of
 from .staging_rows import COMMITTED, OPEN
-from .step_store import StepStore, moment
+from .step_store import StepStore
 from .store import Store
 
-# the first entry of a restore in the history
-BEGAN = "began a restore"
+# the first entry of a restore in the history, and that before the machine is asked
+BEGAN, RESTORES = "began a restore", "restores"
+IN_TABLE = "its applications are in the table of Applications again: store them there"
 
 
 class Restores(StepStore[Restore]):
@@ -71,7 +73,7 @@ class Restores(StepStore[Restore]):
             return ""
         first = found.done[0]
         return (f"Closed for the restore of copy {found.copy} by {first.who} since"
-                f" {moment(first.at)}.")
+                f" {local(first.at)}.")
 
     def record(self, who: Person, what: str, restore: Restore, **about: object) -> None:
         """Adds a step to the history, with what there is to say of it."""
@@ -85,9 +87,10 @@ class Restores(StepStore[Restore]):
             with self.turn(number, seen, *states) as found, self.desk.lock:
                 yield found
         except sqlite3.Error as error:
-            raise Refused(f"the application cannot write its own file: {error}") from error
+            raise Refused("the application cannot use its own file:"
+                          f" {plain.reason(error)}") from error
         except OSError as error:
-            raise Refused(f"the machine does not let it: {error.strerror}") from error
+            raise Refused(f"the machine does not let it: {plain.reason(error)}") from error
 
     # what is shown
 
@@ -190,7 +193,7 @@ class Restores(StepStore[Restore]):
         with self.step(number, seen, COPIED, RESTORING) as found:
             if found.state == COPIED:
                 self.copies.register(found.copy)
-                self.record(who, "restores", found)
+                self.record(who, RESTORES, found)
                 with self.moving(found, who, RESTORING):
                     pass
                 found = self.get(number)
@@ -270,19 +273,26 @@ class Restores(StepStore[Restore]):
             found[row.entry] = restores_since.why_not(entry)
             if row.entry in there:
                 found[row.entry] = "the register has it, since a later copy was restored"
+            elif self.is_in_table(entry):
+                found[row.entry] = IN_TABLE
             elif other:
                 found[row.entry] = (f"child {child_of(other)}: {other.who} has recorded something"
-                                    f" since, at {moment(other.at)}. Record this by hand")
+                                    f" since, at {local(other.at)}. Record this by hand")
         return found
+
+    def is_in_table(self, entry: Entry) -> bool:
+        """Whether rows that an import has stored were given back to the table."""
+        rows: str = entry.about.get("import", "")
+        return bool(rows) and self.store.row(
+            "SELECT 1 FROM staged_row WHERE state=? AND sent LIKE ?", OPEN,
+            f"% {digest_of(rows.encode())}") is not None
 
 
 def restored_at(record: History, restore: Restore) -> int:
     """The entry of the history with which a restore was done; 0 where it was not."""
-    number = 0
-    for at, _ in record.restores:
-        if record.entries[at - 1].about["copy"] == restore.copy:
-            number = at
-    return number
+    asked = next((it.number for it in record.entries if it.what == RESTORES
+                  and it.about["restore"] == restore.number), len(record.entries))
+    return next((at for at, _ in record.restores if at > asked), 0)
 
 
 def child_of(entry: Entry) -> int | None:

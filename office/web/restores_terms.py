@@ -47,9 +47,12 @@ class Restore:
     done: tuple[Done, ...]
 
     def came_to(self, state: str) -> Done:
-        """Who brought it to a state last, and when; nobody where it has not been there."""
-        found = (it for it in reversed(self.done) if it.state == state)
-        return next(found, Done(state, "", "", ""))
+        """Who brought it to a state last, and when; nobody where it has not been there. (A step
+        may leave it in its state, as where something is sent once it is open.)
+        """
+        before = ("", *(it.state for it in self.done))
+        found = [it for was, it in zip(before, self.done) if it.state == state != was]
+        return found[-1] if found else Done(state, "", "", "")
 
     @property
     def is_ended(self) -> bool:

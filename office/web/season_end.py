@@ -19,7 +19,7 @@ from register_files import Refused
 from office import days, register_lists, texts
 from office.model import Register
 
-from . import archive, draws_second
+from . import archive, draws_second, numbers
 from .archive import Item
 from .copies import is_same
 from .history import now
@@ -181,8 +181,8 @@ class SeasonEnd:
         with self.lock:
             found = self.get()
             if found.version != seen:
-                raise Refused("a step was done since this page was shown. Nothing was done now: look"
-                              " at it again")
+                raise Refused("a step was done since this page was shown. Nothing was done now:"
+                              " look at it again")
             if found.phase not in (phases or ("",)):
                 raise Refused("the season is deleted, or its deletion has begun: this cannot be"
                               " done any more")
@@ -268,11 +268,11 @@ class SeasonEnd:
 
     def set_months(self, who: Person, text: str) -> None:
         """Says for how many months the office keeps a season."""
-        text = text.strip()
-        if not (text.isascii() and text.isdigit() and len(text) < 4 and int(text) <= MOST_MONTHS):
+        months = numbers.read(text.strip())
+        if not 0 <= months <= MOST_MONTHS:
             raise WrongField("months", f"a whole number from 0 to {MOST_MONTHS}")
-        self.record(who, "set how long a season is kept", months=int(text))
-        self.parts.store.set(RETENTION, str(int(text)))
+        self.record(who, "set how long a season is kept", months=months)
+        self.parts.store.set(RETENTION, str(months))
 
     def proposed(self, register: Register) -> datetime.date | None:
         """The day of deletion by the office's rule: so many months after the lists have ended."""

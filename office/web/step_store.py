@@ -3,7 +3,6 @@ state and a version, and a row for each step that was done.
 """
 import contextlib
 import dataclasses
-import datetime
 import sqlite3
 import threading
 from collections.abc import Iterator
@@ -11,16 +10,10 @@ from typing import Generic, Protocol, TypeVar
 
 from register_files import Refused
 
+from .desk import local
 from .history import History, now
 from .people import Person
 from .store import Store
-
-
-def moment(at: str) -> str:
-    """The time of a moment (UTC) by the clock of this machine; with the day if it is not today."""
-    found = datetime.datetime.fromisoformat(at).astimezone()
-    is_today = found.date() == datetime.date.today()
-    return f"{found:%H:%M}" if is_today else f"{found.day} {found:%B}, {found:%H:%M}"
 
 
 @dataclasses.dataclass(frozen=True)
@@ -90,7 +83,7 @@ class StepStore(Generic[One]):
             if found.version != seen:
                 last = found.done[-1]
                 raise Refused(f"the {self.table} has changed since this page was shown: {last.who}"
-                              f" brought it to the state '{last.state}' at {moment(last.at)}."
+                              f" brought it to the state '{last.state}' at {local(last.at)}."
                               " Nothing was done")
             if found.state not in states:
                 raise Refused(f"the {self.table} is in the state '{found.state}', in which this"

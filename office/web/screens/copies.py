@@ -5,8 +5,8 @@ import flask
 from register_files import Refused
 from werkzeug.wrappers import Response
 
-from .. import guard
-from ..copies import Copy
+from .. import guard, numbers
+from ..copies import Copy, words_of
 from ..guard import needs, parts, person
 from ..people import DRAW, READ
 from ..wording import sentence
@@ -49,10 +49,12 @@ def make() -> Answer:
     try:
         if len(purpose) > MOST_PURPOSE or not purpose.isprintable():
             raise Refused(f"the purpose is one line of up to {MOST_PURPOSE} characters")
+        if said := parts().end.closed():
+            raise Refused(said)
         guard.record("made a copy", purpose=purpose or BY_HAND)
         number = parts().copies.make(purpose or BY_HAND, person().name)
     except (Refused, sqlite3.Error) as error:
-        return list_page(sentence(str(error)), 409, purpose=purpose)
+        return list_page(sentence(words_of(error)), 409, purpose=purpose)
     return list_page(said=f"Copy {number} is made, and compared with the register.")
 
 
@@ -64,7 +66,7 @@ def test(number: int) -> Answer:
     try:
         is_right = parts().copy_tests.test(person(), number)
     except (Refused, sqlite3.Error, OSError) as error:
-        return list_page(sentence(f"copy {number} was not tested: {error}"), 409)
+        return list_page(sentence(f"copy {number} was not tested: {words_of(error)}"), 409)
     if not is_right:
         return list_page(f"Copy {number} was tested, and is not right: see below.")
     return list_page(said=f"Copy {number} was tested, and is right.")
@@ -88,9 +90,8 @@ def begin_page(number: int, reason: str = "", status: int = 200) -> Answer:
 
 def draw_of(text: str, copy: int) -> int | None:
     """The draw of the store whose copy from before it is restored, if that is why."""
-    number = int(text) if text.isascii() and text.isdigit() and len(text) < 9 else 0
     found = (it.number for it in parts().draws.listed()
-             if (it.number, it.before) == (number, copy))
+             if (it.number, it.before) == (numbers.read(text), copy))
     return next(found, None)
 
 
@@ -103,5 +104,5 @@ def begin(number: int) -> Answer:
         draw = draw_of(flask.request.form.get("draw", ""), number)
         made = parts().restores.begin(person(), number, draw)
     except (Refused, sqlite3.Error) as error:
-        return begin_page(number, sentence(f"nothing was closed: {error}"), 409)
+        return begin_page(number, sentence(f"nothing was closed: {words_of(error)}"), 409)
     return flask.redirect(flask.url_for("restores.one", number=made), 303)

@@ -11,7 +11,8 @@ from werkzeug.wrappers import Response
 
 from office.model import Register
 
-from .. import restores_since
+from .. import numbers, restores_since
+from ..copies import words_of
 from ..draws_second import made_since
 from ..guard import needs, parts, person
 from ..people import CONFIRM, DRAW, READ
@@ -148,7 +149,7 @@ def why_not(restore: Restore) -> str:
         if person().name == restore.came_to(ASKED).who or not person().may(CONFIRM):
             return f"Somebody other than {restore.came_to(ASKED).who} confirms it."
         return not_steady(restore)
-    if not restore.is_ended and not person().may(DRAW):
+    if not restore.is_ended and not person().may(DRAW if restore.state == CLOSED else CONFIRM):
         return "Your role does not do this."
     return not_steady(restore) if restore.state == CLOSED else ""
 
@@ -179,19 +180,21 @@ def is_bare(number: int) -> bool:
     return not is_said and not chosen_now() and not all(map(restores_since.why_not, entries))
 
 
+# the steps of who may restore; and those of who may confirm it. The second are all that an office
+# needs to end a restore when the person who began it can do nothing more
 Step = Callable[[Restores, int, int], None]
 OWN: dict[str, Step] = {
     "ask": lambda it, number, seen: it.ask(person(), number, seen, chosen_now()),
     "choose": lambda it, number, seen: it.choose_again(person(), number, seen),
+    "later": lambda it, number, seen: it.send_later(person(), number, seen, chosen_now()),
+}
+SECOND: dict[str, Step] = {
+    "confirm": lambda it, number, seen: it.confirm(person(), number, seen),
     "copy": lambda it, number, seen: it.copy(person(), number, seen),
     "restore": lambda it, number, seen: it.restore(person(), number, seen),
     "send": lambda it, number, seen: it.send_again(person(), number, seen),
     "open": lambda it, number, seen: it.open(person(), number, seen),
     "give-up": lambda it, number, seen: it.give_up(person(), number, seen),
-    "later": lambda it, number, seen: it.send_later(person(), number, seen, chosen_now()),
-}
-SECOND: dict[str, Step] = {
-    "confirm": lambda it, number, seen: it.confirm(person(), number, seen),
 }
 # what follows a step at once, as there is nothing to decide in between. Where it cannot be done,
 # the restore is in the state before it, and the page has its button
@@ -204,18 +207,18 @@ KEEPS_TICKS = ("ask", "later")
 def done(number: int, steps: dict[str, Step], name: str) -> Answer:
     """Does a step with what follows it at once, and shows the restore."""
     found_restore(number)
-    seen = flask.request.form.get("seen", "")
-    if name not in steps or not (seen.isascii() and seen.isdigit() and len(seen) < 9):
+    seen = numbers.read(flask.request.form.get("seen", ""))
+    if name not in steps or seen < 0:
         flask.abort(404 if name not in steps else 400)
     if name == "ask" and is_bare(number):
         return page(number, "", 409, set(), True)
     try:
-        steps[name](parts().restores, number, int(seen))
+        steps[name](parts().restores, number, seen)
         for it in FOLLOWING.get(name, ()):
-            OWN[it](parts().restores, number, found_restore(number).version)
+            SECOND[it](parts().restores, number, found_restore(number).version)
     except (Refused, sqlite3.Error) as error:
         chosen = chosen_now() if name in KEEPS_TICKS else None
-        return page(number, sentence(str(error)), 409, chosen)
+        return page(number, sentence(words_of(error)), 409, chosen)
     return flask.redirect(flask.url_for("restores.one", number=number), 303)
 
 
@@ -229,5 +232,5 @@ def step(number: int, name: str) -> Answer:
 @screen.post("/<int:number>/second/<name>")
 @needs(CONFIRM)
 def second(number: int, name: str) -> Answer:
-    """A step of a second person."""
+    """A step of who may confirm a restore."""
     return done(number, SECOND, name)
