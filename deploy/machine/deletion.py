@@ -75,6 +75,7 @@ def keep(register: Register, number: int) -> datetime.date:
         raise Wrong("ListsOpen", f"the lists of the register end on {last.isoformat()}: the day of"
                     " deletion must be later")
     files.write(place(register), f"{day.isoformat()}\n", 0o644)
+    sync(register)
     return day
 
 
@@ -89,5 +90,21 @@ def record_of(register: Register) -> dict[str, str]:
 
 
 def record(register: Register, found: dict[str, str]) -> None:
-    """Writes the record."""
+    """Writes the record, which a loss of power leaves there."""
     files.write(record_place(register), json.dumps(found, sort_keys=True) + "\n", 0o644)
+    sync(register)
+
+
+def forget(register: Register) -> None:
+    """Forgets the day."""
+    place(register).unlink(missing_ok=True)
+    sync(register)
+
+
+def sync(register: Register) -> None:
+    """Makes the names of these files durable."""
+    fd = os.open(register.settings, os.O_RDONLY | os.O_DIRECTORY | os.O_CLOEXEC)
+    try:
+        os.fsync(fd)
+    finally:
+        os.close(fd)

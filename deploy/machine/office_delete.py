@@ -76,7 +76,7 @@ def delete(register: Register, day: datetime.date) -> Result:
         empty(folder)
     found = {**found, "ended": now(), "remains": second_place(register)}
     deletion.record(register, found)
-    deletion.place(register).unlink(missing_ok=True)
+    deletion.forget(register)
     return found
 
 

@@ -279,3 +279,18 @@ def test_a_register_that_is_away_is_no_wrong_day(tmp_path: pathlib.Path) -> None
     with site(tmp_path, "http://127.0.0.1:9") as office:
         page = office.browser("jane").get("/notices/remind?day=17 March 2025")
         assert page.status_code == 503 and "The register does not answer now" in page.text
+
+
+def test_an_answer_that_is_not_understood_is_named_so(tmp_path: pathlib.Path) -> None:
+    """A withdrawal waits for it as for any other, and a reminder does not."""
+    with site(tmp_path, "http://127.0.0.1:9") as office:
+        found, _ = row_of(office, 1)
+        office.add("bo", "officer")
+        with office.parts.store.writing() as db:
+            db.execute("INSERT INTO answer (person, typed, kind, child, school, name, seen, state,"
+                       " said, after) VALUES ('bo', '2 x', '', 2, '', '', '', 'waits', '', 0)")
+        said = "bo has an answer for this child in a pile (not understood)"
+        assert found.kept(notices.LAPSE) == {2: said} and found.kept(notices.REMIND) == {}
+        found.see_none_kept(notices.REMIND, [1, 2])
+        with pytest.raises(Refused, match=re.escape(f"child 2: {said}. Nothing was recorded")):
+            found.see_none_kept(notices.LAPSE, [1, 2])

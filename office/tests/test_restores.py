@@ -25,7 +25,7 @@ from pages import Page, press
 from register_files import Refused
 
 from office.model import Register
-from office.web import copies, copy_tests, draws_again, lineage, restores, restores_again
+from office.web import copies, draws_again, lineage, restores, restores_again
 from office.web.draws_drafts import Typed
 from office.web.history import RESTORED, Entry, History
 from office.web.parts import Parts
@@ -739,7 +739,7 @@ def test_a_disk_that_is_full_is_named_and_no_file(
         raise OSError(28, "No space left on device", "/tmp/admissions-x/copy.db")
 
     with monkeypatch.context() as patch:
-        patch.setattr(copy_tests.tempfile, "TemporaryDirectory", full_room)
+        patch.setattr("office.web.copy_tests.tempfile.TemporaryDirectory", full_room)
         found = away.browser("hal", "head").post("/copies/1/test")
     assert found.status_code == 409
     assert Page(found.text).by_id["answer"] == "Copy 1 was not tested: its disk is full."

@@ -9,6 +9,7 @@ import datetime
 import hashlib
 import io
 import json
+import os
 import pathlib
 import re
 import sqlite3
@@ -28,6 +29,7 @@ from served import served
 from office import days
 from office.web import archive, history, people, season_end
 from office.web.copies import Copies
+from office.web.draws_terms import Terms
 from office.web.parts import Config, Parts
 from office.web.season_end import End, SeasonEnd
 
@@ -415,6 +417,17 @@ def test_a_season_does_not_end_within_a_restore(alone: Parts) -> None:
             step()
 
 
+def test_nothing_begins_while_a_season_is_deleted(alone: Parts) -> None:
+    """A draw or a restore sends by itself what all others may not."""
+    alone.end.store(alone.end.get(), phase=season_end.DELETING)
+    said = "The season is deleted: nothing can be recorded"
+    with pytest.raises(Refused, match=said):
+        alone.restores.begin(HAL, 1)
+    with pytest.raises(Refused, match=said):
+        alone.draws.added(HAL, Terms(1, None, 1, DAY), "begun", None, "")
+    assert not alone.draws.listed()
+
+
 # what is killed
 
 
@@ -668,7 +681,7 @@ def test_a_machine_that_was_killed_ends_what_it_has_begun(
     with monkeypatch.context() as patch:
         patch.setattr(deletion, "record", step("record", deletion.record))
         patch.setattr(office_delete, "empty", step("empty", office_delete.empty))
-        patch.setattr(pathlib.Path, "unlink", step("unlink", pathlib.Path.unlink))
+        patch.setattr(deletion, "forget", step("forget", deletion.forget))
         with pytest.raises(Killed):
             asked(place, "delete", "20260124")
     assert done == ["record", "empty", "empty", "record"][:after]
@@ -694,6 +707,28 @@ def test_a_file_of_the_machine_that_was_edited_wrong_is_named(
     answer = asked(place, "delete", "20260124")
     assert answer["error"] == "NotKept" and f"{NAME}/{name} " in answer["why"]
     assert register.file.exists()
+
+
+def test_the_record_is_durable_before_the_first_file_is_gone(
+    place: pathlib.Path, monkeypatch: pytest.MonkeyPatch
+) -> None:
+    """Its name too, which a loss of power would otherwise take back; and so is that of no day."""
+    register, done = made_files(place), list[str]()
+    settings, real, empty = os.stat(register.settings).st_ino, os.fsync, office_delete.empty
+
+    def fsync(fd: int) -> None:
+        if os.fstat(fd).st_ino == settings:
+            done.append(f"synced with {len(list(register.settings.glob('deletion-day')))} day")
+        real(fd)
+
+    def emptied(folder: pathlib.Path) -> None:
+        done.append(folder.parent.name)
+        empty(folder)
+
+    monkeypatch.setattr(os, "fsync", fsync)
+    monkeypatch.setattr(office_delete, "empty", emptied)
+    assert "ended" in asked(place, "delete", "20260124")
+    assert done == ["synced with 1 day", "lib", "backups", "synced with 1 day", "synced with 0 day"]
 
 
 def test_no_unit_that_a_deletion_stops_starts_another(monkeypatch: pytest.MonkeyPatch) -> None:

@@ -17,7 +17,7 @@ def waiting(store: Store) -> dict[int, str]:
     rows = store.rows("SELECT child, person, kind FROM answer WHERE state<>? AND child IS NOT NULL"
                       " ORDER BY number", DONE)
     return {it["child"]: f"{it['person']} has an answer for this child in a pile"
-            f" ({WORDS[it['kind']]})" for it in rows}
+            f" ({WORDS[it['kind']] if it['kind'] else 'not understood'})" for it in rows}
 
 
 class Marks:

@@ -7,6 +7,7 @@ import hashlib
 import json
 import sqlite3
 import threading
+from collections.abc import Iterable
 from typing import Any
 
 from register_files import Refused
@@ -147,9 +148,7 @@ class Notices:
             same = self.store.row("SELECT id FROM notice_row WHERE key=?", key)
             if same:
                 return int(same["id"])
-            for it in chosen:
-                if said := self.why_kept(kind, it.child):
-                    raise Refused(f"child {it.child}: {said}. Nothing was recorded")
+            self.see_none_kept(kind, [it.child for it in chosen])
             self.history.add(who.name, TITLES[kind], {
                 "day": day.isoformat(), "children": [it.child for it in chosen]})
             with self.store.writing() as db:
@@ -162,9 +161,15 @@ class Notices:
                      for at, it in enumerate(chosen)])
             return number
 
-    def why_kept(self, kind: str, child: int) -> str:
-        """Why an offer is not withdrawn now: an answer waits in a pile; or ""."""
-        return waiting(self.store).get(child, "") if kind == LAPSE else ""
+    def kept(self, kind: str) -> dict[int, str]:
+        """The children whose offer is not withdrawn now, with why: an answer waits in a pile."""
+        return waiting(self.store) if kind == LAPSE else {}
+
+    def see_none_kept(self, kind: str, children: Iterable[int]) -> None:
+        """Refuses children of whom nothing can be recorded now."""
+        kept = self.kept(kind)
+        if found := next((it for it in children if it in kept), None):
+            raise Refused(f"child {found}: {kept[found]}. Nothing was recorded")
 
     def is_running(self, number: int) -> bool:
         """Whether a row is being recorded."""
@@ -210,7 +215,7 @@ class Notices:
     def send(self, who: Person, row: Row, it: Notice) -> bool:
         """Sends one, unless its answer has come into a pile. Whether the next can be sent."""
         after = len(self.history.entries)
-        if said := self.why_kept(row.kind, it.child):
+        if said := self.kept(row.kind).get(it.child):
             self.set_state(row.number, it.place, FAILED, f"{said}. Nothing was sent.", after)
             return True
         self.set_state(row.number, it.place, SENDING, "", after)

@@ -58,8 +58,9 @@ class Parts:
         self.restores = Restores(
             self.store, self.history, self.desk, self.copies, self.draws)
         self.copy_tests = CopyTests(self.copies, self.draws)
-        self.draws.closed_by_another = self.restores.closed
         self.end = SeasonEnd(self)
+        self.draws.closed_by_another = lambda: self.end.closed() or self.restores.closed()
+        self.restores.closed_by_another = self.end.closed
         self.desk.closed = lambda: (
             self.end.closed() or self.draws.closed() or self.restores.closed())
 

@@ -4,7 +4,7 @@ leaves a restore in the state before the step or after it.
 """
 import contextlib
 import sqlite3
-from collections.abc import Iterable, Iterator
+from collections.abc import Callable, Iterable, Iterator
 
 from register_files import Refused
 
@@ -47,6 +47,8 @@ class Restores(StepStore[Restore]):
         # (so that no draw begins while a restore does)
         self.lock = draws.lock
         self.sending = Sending(store, record, desk)
+        # why no restore can begin, or ""
+        self.closed_by_another: Callable[[], str] = str
 
     def get(self, number: int) -> Restore:
         """A restore."""
@@ -111,6 +113,8 @@ class Restores(StepStore[Restore]):
         with self.lock, self.desk.lock:
             if other := self.present():
                 raise Refused(f"the restore of copy {other.copy} is in progress: it must end first")
+            if said := self.closed_by_another():
+                raise Refused(said.rstrip("."))
             if other_draw := self.draws.present():
                 raise Refused(f"{other_draw.terms.numbers} is in progress: it must end or be given"
                               " up first")

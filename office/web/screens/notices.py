@@ -80,11 +80,12 @@ def choose_page(kind: str, said: str = "", status: int = 200) -> Answer:
     picked = set(given.getlist("child")) if "ticked" in given else None
     if wrong and status == 200 and "day" in given:
         status = 400
+    kept = rows().kept(kind)
     return flask.render_template(
         "notices_choose.html", kind=kind, title=TITLES[kind], typed=typed, wrong=wrong, said=said,
         is_bad=status != 200, day=wording.weekday(day) if day else "",
         rows=[(it, is_all if picked is None else str(it.child) in picked,
-               rows().why_kept(kind, it.child), marks.of(it.child) if marks else ())
+               kept.get(it.child, ""), marks.of(it.child) if marks else ())
               for it in found]), status
 
 
@@ -103,9 +104,7 @@ def ticked(register: Register, kind: str, day: datetime.date) -> list[Due]:
                       " reminder meanwhile. Nothing was recorded")
     if not wanted:
         raise Refused("tick at least one child")
-    for it in wanted:
-        if said := rows().why_kept(kind, it):
-            raise Refused(f"child {it}: {said}. Nothing was recorded")
+    rows().see_none_kept(kind, wanted)
     chosen = set(wanted)
     return [it for number, it in found.items() if number in chosen]
 
