@@ -86,14 +86,14 @@ def now() -> str:
 
 
 def stop(register: Register) -> None:
-    """Stops for good what uses the files of a register. The desk is the last: a backup that is
-    stopped starts it.
+    """Stops for good what uses the files of a register: a backup that ends, or is stopped, starts
+    the second copy and the desk, so these follow it.
     """
     name, systemctl = register.name, tool("systemctl", "systemd")
     timers = [f"admissions-{it}@{name}.timer" for it in ("backup", "drill")]
-    jobs = [f"admissions-{it}@{name}.service" for it in ("backup", "second-copy", "drill")]
     call(systemctl, "disable", "--now", *timers)
-    call(systemctl, "stop", *jobs)
+    for it in ("backup", "second-copy", "drill"):
+        call(systemctl, "stop", f"admissions-{it}@{name}.service")
     call(systemctl, "disable", "--now", office_requests.unit_of(register))
 
 

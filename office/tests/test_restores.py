@@ -26,9 +26,12 @@ from register_files import Refused
 
 from office.model import Register
 from office.web import copies, draws_again, lineage, restores, restores_again
+from office.web.answers import Meant
+from office.web.desk import Result
 from office.web.draws_drafts import Typed
 from office.web.history import RESTORED, Entry, History
 from office.web.parts import Parts
+from office.web.piles import Piles
 from office.web.restores_terms import Restore
 from office.web.step_store import Done, StepStore
 
@@ -523,21 +526,31 @@ def full(*_: object) -> None:
     raise OSError(28, "No space left on device")
 
 
-def test_a_pile_that_is_being_recorded_stops_and_keeps_its_rest(small: Machine) -> None:
+def test_a_pile_that_is_being_recorded_stops_and_keeps_its_rest(
+    small: Machine, monkeypatch: pytest.MonkeyPatch
+) -> None:
     """The register is closed between two of its answers: those after it wait."""
     with small.office() as office:
         office.parts.copies.make("a try", "hal")
-        desk, found = office.parts.desk, []
+        office.add("jane", "officer")
+        desk, found = office.parts.desk, office.parts.restores
+        piles, real = Piles(office.parts.store, desk), desk.send
+        piles.add("jane", desk.now(), [Meant(str(it), "name_plan", it, "ELM") for it in (1, 2, 3)])
 
-        def begin() -> None:
-            found.append(office.parts.restores.begin(HAL, 1))
+        def send(*given: Any) -> Result:
+            result = real(*given)
+            if found.present() is None:
+                found.begin(HAL, 1)
+            return result
 
-        assert desk.send(JANE, NEW_NAME).is_done
-        begin()
-        result = desk.send(JANE, RAISED)
-        assert not result.is_done and "Closed for the restore" in result.said
-        rows = office.parts.restores.sending.rows(office.parts.restores.get(found[0]))
-        assert len(rows) == 1
+        monkeypatch.setattr(desk, "send", send)
+        piles.send_all(JANE, piles.of("jane"))
+        pile = piles.of("jane")
+        assert [it.state for it in pile] == ["done", "waits", "waits"]
+        assert pile[1].said.startswith("Closed for the restore of copy 1 by hal since")
+        assert not pile[2].said and piles.came["jane"] == (1, 3)
+        rows = found.sending.rows(found.get(1))
+        assert [found.sending.entry(it).about["command"]["child"] for it in rows] == [1]
 
 
 def test_a_draw_with_a_wrong_day_is_held_again_with_its_lots(small: Machine) -> None:

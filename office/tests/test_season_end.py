@@ -373,20 +373,30 @@ def test_what_came_after_the_archive_is_not_lost(
     alone.end.today = lambda: DAY
     with alone.store.writing() as db:
         db.execute("INSERT INTO school_draft (cells) VALUES ('{}')")
+        db.execute("INSERT INTO letter_set (key, who, at, asked, state, total) VALUES"
+                   " ('a', 'jane', '', '{}', 'made', 1)")
     said = "the archive lacks what was recorded here since it was made ({}): make it again"
     notes = alone.notes
 
-    def address() -> None:
-        with alone.store.writing() as db:
-            db.execute("INSERT INTO letter_address VALUES (3, '[]', 'jane', '')")
+    def done(query: str) -> Callable[[], None]:
+        def do() -> None:
+            with alone.store.writing() as db:
+                db.execute(query)
+        return do
+
+    gone = done("UPDATE letter_set SET state='gone'")
 
     changes: list[tuple[Callable[[], object], str]] = [
         (lambda: notes.add(JANE, 3, "Ada Abel", "another"), "notes of children"),
         (lambda: notes.strike(JANE, notes.of_child(3)[0], "wrong"), "notes of children"),
         (lambda: notes.remove(JANE, notes.files_of(3)[0], "wrong"), "files of children"),
-        (address, "other entries of the application")]
+        (done("UPDATE letter_set SET sent='2025-03-04'"), "other entries of the application"),
+        (done("INSERT INTO letter_address VALUES (3, '[]', 'jane', '')"),
+         "other entries of the application")]
     for change, what in changes:
         archived(alone)
+        # (the application removes the file of letters by itself)
+        gone()
         alone.end.see_due(alone.end.get())
         change()
         with pytest.raises(Refused, match=re.escape(said.format(what))):
@@ -732,23 +742,26 @@ def test_the_record_is_durable_before_the_first_file_is_gone(
 
 
 def test_no_unit_that_a_deletion_stops_starts_another(monkeypatch: pytest.MonkeyPatch) -> None:
-    """A backup that is stopped in the middle has failed, and its unit starts the desk then."""
+    """A backup that is stopped in the middle has failed, and its unit starts the desk then; one that
+    has just ended starts the second copy, too.
+    """
     units, running = ROOT / "deploy" / "systemd", set[str]()
-    desk, backup = (f"admissions{it}@{NAME}.service" for it in ("", "-backup"))
+    desk, backup, second = (
+        f"admissions{it}@{NAME}.service" for it in ("", "-backup", "-second-copy"))
     for it in ("admissions@.service", *(f"admissions-{it}@.{kind}" for it, kind in (
             ("backup", "timer"), ("backup", "service"), ("second-copy", "service"),
             ("drill", "timer"), ("drill", "service")))):
         assert (units / it).exists()
         running.add(it.replace("@", f"@{NAME}"))
-    assert "OnFailure=admissions@%i.service" in (
-        units / "admissions-backup@.service").read_text("utf-8").splitlines()
+    assert {"OnFailure=admissions@%i.service",
+            "OnSuccess=admissions@%i.service admissions-second-copy@%i.service"} <= set(
+        (units / "admissions-backup@.service").read_text("utf-8").splitlines())
 
     def call(*given: object) -> None:
         assert given[0] == "systemctl" and given[1] in ("disable", "stop")
-        for it in given[2:]:
-            if it == backup and it in running:
-                running.add(desk)
-            running.discard(str(it))
+        started = {desk, second} if backup in running.intersection(given) else set()
+        running.difference_update(map(str, given))
+        running.update(started)
 
     monkeypatch.setattr(office_delete, "tool", lambda name, _: name)
     monkeypatch.setattr(office_delete, "call", call)

@@ -36,6 +36,8 @@ FOLDER, START, DIGESTS = "archive", "start-here.html", "digests.txt"
 SECRET = ("person", "session", "setting")
 # what says nothing of a family: copies with their tests, and what is on its way to the history
 PASSING = ("copy", "told")
+# and what the application changes by itself, as when it removes the file of letters that were made
+BY_ITSELF = {"letter_set": ("state", "said", "seen", "ended", "taken")}
 # where the rows of a table are, and its files
 LINES, FILES = "office/{}.jsonl", "office/{}-"
 # the lists of a draw, of which each is a sheet
@@ -186,12 +188,15 @@ def rows_kept(made: zipfile.ZipFile, name: str) -> set[str]:
 
 
 def without_files(name: str, row: dict[str, Any]) -> str:
-    """A row as one text, without its files, whose names in an archive change with the rows before.
+    """A row as one text, without its files, whose names in an archive change with the rows before,
+    and without what changes by itself.
     """
     def is_file(it: Any) -> bool:
         return isinstance(it, bytes) or isinstance(it, str) and it.startswith(FILES.format(name))
 
-    return json.dumps({column: it for column, it in row.items() if not is_file(it)}, sort_keys=True)
+    return json.dumps({column: it for column, it in row.items()
+                       if not is_file(it) and column not in BY_ITSELF.get(name, ())},
+                      sort_keys=True)
 
 
 def content(parts: Parts, copy: int, day: datetime.date) -> Iterator[tuple[str, str, bytes]]:
