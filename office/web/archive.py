@@ -13,7 +13,7 @@ import os
 import pathlib
 import tempfile
 import zipfile
-from collections.abc import Callable, Iterator
+from collections.abc import Callable, Iterable, Iterator, Mapping
 from typing import TYPE_CHECKING, Any
 
 from register_files import Refused
@@ -38,8 +38,8 @@ SECRET = ("person", "session", "setting")
 PASSING = ("copy", "told")
 # and what the application changes by itself, as when it removes the file of letters that were made
 BY_ITSELF = {"letter_set": ("state", "said", "seen", "ended", "taken")}
-# where the rows of a table are, and its files
-LINES, FILES = "office/{}.jsonl", "office/{}-"
+# where the rows of a table are
+LINES = "office/{}.jsonl"
 # the lists of a draw, of which each is a sheet
 OF_DRAWS = (("lots", "draw"), ("round-report", "round"), ("moved", "draw"))
 CHUNK = 1 << 20
@@ -160,7 +160,7 @@ def of_store(store: Store) -> Iterator[tuple[str, str, bytes]]:
             for column in row.keys():
                 cells[column] = row[column]
                 if isinstance(row[column], bytes):
-                    cells[column] = f"{FILES.format(name)}{at}-{column}"
+                    cells[column] = f"office/{name}-{at}-{column}"
                     files.append((cells[column], row[column]))
             lines.append(json.dumps(cells, sort_keys=True, ensure_ascii=False) + "\n")
         if lines:
@@ -171,32 +171,32 @@ def of_store(store: Store) -> Iterator[tuple[str, str, bytes]]:
 
 def lacks(store: Store, path: pathlib.Path) -> list[str]:
     """The tables that have a row which an archive lacks, or has otherwise."""
+    found = []
     with zipfile.ZipFile(path) as made:
-        return [name for name in tables(store) if name not in PASSING
-                and rows_now(store, name) - rows_kept(made, name)]
+        there = set(made.namelist())
+        for name in tables(store):
+            columns = compared(store, name)
+            lines = made.read(LINES.format(name)) if LINES.format(name) in there else b""
+            kept = {packed(json.loads(it), columns) for it in lines.splitlines()}
+            marks = ", ".join(f'"{it}"' for it in columns)
+            rows = store.rows(f"SELECT {marks} FROM {name}") if name not in PASSING else []
+            if {packed(dict(it), columns) for it in rows} - kept:
+                found.append(name)
+    return found
 
 
-def rows_now(store: Store, name: str) -> set[str]:
-    """The rows of a table."""
-    return {without_files(name, dict(it)) for it in store.rows(f"SELECT * FROM {name}")}
-
-
-def rows_kept(made: zipfile.ZipFile, name: str) -> set[str]:
-    """The rows of a table that an archive has."""
-    lines = made.read(LINES.format(name)) if LINES.format(name) in made.namelist() else b""
-    return {without_files(name, json.loads(it)) for it in lines.splitlines()}
-
-
-def without_files(name: str, row: dict[str, Any]) -> str:
-    """A row as one text, without its files, whose names in an archive change with the rows before,
-    and without what changes by itself.
+def compared(store: Store, name: str) -> list[str]:
+    """The columns of a table by which its rows are compared: all but files, which have names in an
+    archive and never change, and what changes by itself.
     """
-    def is_file(it: Any) -> bool:
-        return isinstance(it, bytes) or isinstance(it, str) and it.startswith(FILES.format(name))
+    rows = store.rows("SELECT name, type FROM pragma_table_info(?)", name)
+    return [it["name"] for it in rows
+            if it["type"] != "BLOB" and it["name"] not in BY_ITSELF.get(name, ())]
 
-    return json.dumps({column: it for column, it in row.items()
-                       if not is_file(it) and column not in BY_ITSELF.get(name, ())},
-                      sort_keys=True)
+
+def packed(row: Mapping[str, Any], columns: Iterable[str]) -> str:
+    """The cells of a row as one text."""
+    return json.dumps([row.get(it) for it in columns])
 
 
 def content(parts: Parts, copy: int, day: datetime.date) -> Iterator[tuple[str, str, bytes]]:
