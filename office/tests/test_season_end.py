@@ -742,8 +742,8 @@ def test_the_record_is_durable_before_the_first_file_is_gone(
 
 
 def test_no_unit_that_a_deletion_stops_starts_another(monkeypatch: pytest.MonkeyPatch) -> None:
-    """A backup that is stopped in the middle has failed, and its unit starts the desk then; one that
-    has just ended starts the second copy, too.
+    """A backup that is stopped in the middle has failed, and its unit starts the desk then; one
+    that has just ended starts the second copy, too.
     """
     units, running = ROOT / "deploy" / "systemd", set[str]()
     desk, backup, second = (
