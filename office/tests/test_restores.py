@@ -704,12 +704,12 @@ def test_who_opened_a_restore_is_not_who_has_sent_something_later() -> None:
 def test_what_was_recorded_since_a_restore_is_counted_from_that_one(tmp_path: pathlib.Path) -> None:
     """And not from a later restore of the same copy."""
     record = History(str(tmp_path / "history.jsonl"))
-    for what, about in (
+    entries: list[tuple[str, dict[str, Any]]] = [
         ("restores", {"copy": 5, "restore": 1}), (RESTORED, {"copy": 5, "position": 0}),
         ("added", {"person": "bo"}), ("restores", {"copy": 7, "restore": 2}),
         (RESTORED, {"copy": 7, "position": 3}), ("restores", {"copy": 5, "restore": 3}),
-        (RESTORED, {"copy": 5, "position": 0}),
-    ):
+        (RESTORED, {"copy": 5, "position": 0})]
+    for what, about in entries:
         record.add("hal", what, about)
     found = [restores.restored_at(record, Restore(it, 5, "opened", 1, None, None, ()))
              for it in (1, 2, 3, 4)]

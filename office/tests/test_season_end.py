@@ -422,7 +422,9 @@ def test_a_season_does_not_end_within_a_restore(alone: Parts) -> None:
     alone.restores.added(HAL, 1, None, ())
     stops = season_end.in_progress(alone)
     assert [(it.title, it.is_stop) for it in stops] == [("A restore in progress", True)]
-    for step in (lambda: alone.end.copy(HAL, 0, ""), lambda: alone.end.see_unchanged(End(copy=1))):
+    steps: list[Callable[[], None]] = [
+        lambda: alone.end.copy(HAL, 0, ""), lambda: alone.end.see_unchanged(End(copy=1))]
+    for step in steps:
         with pytest.raises(Refused, match="a restore in progress: the restore of copy 1"):
             step()
 
