@@ -5,3 +5,4 @@ pub mod SomeStep
 pub mod History
 pub mod Imports
 pub mod NoBetterList
+pub mod Places

@@ -2,3 +2,4 @@ pub mod Steps
 pub mod History
 pub mod Imports
 pub mod NextRound
+pub mod Places

@@ -3,6 +3,7 @@ ghost use Rattle.adm_command_laws.specs.History.{DrawsKept, RoundIsRecorded};
 ghost use Rattle.adm_command_laws.specs.Imports.{ImportOnce};
 ghost use Rattle.adm_command_laws.specs.Steps.{OneStep, RepeatSafe, SomeStep, StepKeeps};
 ghost use Rattle.adm_command_laws.specs.NextRound.{RoundIsPosed, NoBetterList};
+ghost use Rattle.adm_command_laws.specs.Places.{PlacesHaveCause};
 
 use adm_match_laws::{no_gain, one_best};
 use adm_round::{allotment_fits, one_allotment, posed_without_fault};
@@ -53,6 +54,12 @@ pub fn draws_kept()
 /// child-optimal stable allocation of the round's problem on the register in which it began.
 pub fn round_is_recorded()
     ensures { RoundIsRecorded }
+{}
+
+/// A child has its place by a plan that a command named, or by a fresh outcome of a draw that the
+/// register holds. It holds of each place after any commands since the season began.
+pub fn places_have_cause()
+    ensures { PlacesHaveCause }
 {}
 
 /// An import that was accepted is accepted again, whatever accepted commands came since. It leaves
