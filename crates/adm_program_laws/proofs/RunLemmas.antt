@@ -8,14 +8,20 @@ use Rattle.sqlite_wal.proofs.LogLemmas.{SeenMayStay}
 use Rattle.sqlite_store.specs.declared.store.FileStore.{FileStore}
 use Rattle.sqlite.specs.Files.{file_state}
 use Rattle.sqlite.specs.Held.{Held}
+use Rattle.sqlite.specs.Tree.{Trees}
 use Rattle.adm_types.specs.declared.commands.Command.{Command}
 use Rattle.adm_register.specs.State.{State as Register}
+use Rattle.adm_commands.specs.History.{DrawsInOrder}
 use Rattle.adm_commands.specs.Imports.{Reaches}
-use Rattle.adm_rows.specs.Represents.{OneRegister}
+use Rattle.adm_command_laws.specs.History.{DrawsKept}
+use Rattle.adm_command_laws.specs.Places.{PlacesHaveCause}
+use Rattle.adm_crashes.proofs.RoundLemmas.{stay}
+use Rattle.adm_crashes.specs.Rounds.{RoundsAreRecorded}
+use Rattle.adm_rows.specs.Represents.{OneRegister, Represents}
 use Rattle.adm_desk.specs.Files.{IsFileOf}
 use Rattle.adm_desk.specs.declared.answer.Answer.{Answer}
 use Rattle.adm_http.specs.Bodies.{AnswersBodies}
-use Rattle.adm_program_laws.specs.SuccessiveRuns.{ProgramRun, AreAnswered, IsEffect, AreEffects, HoldsAfterRuns, RunInOrder, OneMoreRun, AllRuns, OpensAfterRuns, NeverNoRegister}
+use Rattle.adm_program_laws.specs.SuccessiveRuns.{ProgramRun, AreAnswered, IsEffect, AreEffects, IsFoundAfterRuns, HoldsAfterRuns, RunInOrder, OneMoreRun, AllRuns, PlacesAfterRuns, OpensAfterRuns, NeverNoRegister}
 use Rattle.adm_program_laws.proofs.Keeping.{each}
 use Rattle.adm_program_laws.proofs.Remaining.{reaches_more, same_register, never_none}
 
@@ -26,21 +32,42 @@ effects_more [] answered done last none is = (last, [], is, refl, ap (λ (xs : L
 effects_more (first ∷ runs) answered done last it is =
     (it.0, it.1 ++ last, it.2, effects_more runs answered it.1 last it.3 is, ap (λ (xs : List Command). xs ++ last) it.4 ∙ append_assoc it.0 it.1 last)
 
--- files of a register are those after no run
-after_none : (first : Register) (image : Image) → IsFileOf first image → HoldsAfterRuns first [] image
-after_none first image file = ∣ ([], first, refl, refl, file) ∣₁
+-- the draws of a register that a file represents are in order
+draws_in_order : (db : Trees) (r : Register) → Represents db r → DrawsInOrder r
+draws_in_order db r is =
+    let draws = is.stands.holds.formed.draws in
+    record { own = λ number draw there. (draws.each number draw there).own_number; in_order = draws.in_order }
 
-module _ {D : Type 0} (g : Ghosts D) (seen : SeenMayStay g) (one : OneRegister) (bodies : AnswersBodies {C = Held (FileStore D g)} file_state) where
+-- where `init` made the files, each place has a cause
+pub places_after_runs : PlacesHaveCause → PlacesAfterRuns
+places_after_runs law season runs image held = ∥∥₁_map held (λ w. (w.0, w.1, w.2, law season w.1.done w.0 w.1.reached))
+
+module _ {D : Type 0} (g : Ghosts D) (seen : SeenMayStay g) (one : OneRegister) (bodies : AnswersBodies {C = Held (FileStore D g)} file_state) (kept : DrawsKept) (recorded : RoundsAreRecorded) where
+  -- what commands that lead from a register leave of its rounds and draws
+  found_after : (first found : Register) (runs : List (List (Command × Answer))) (done : List Command) → AreEffects runs done → Reaches first done found → DrawsInOrder first
+      → IsFoundAfterRuns first runs found
+  found_after first found runs done effects reached ordered = record {
+    done = done;
+    effects = effects;
+    reached = reached;
+    rounds = (recorded first found done ordered reached).0;
+    draws = (stay kept done first found ordered reached).1;
+    ordered = ordered;
+  }
+
+  -- files of a register are those after no run
+  after_none : (first : Register) (image : Image) → IsFileOf first image → HoldsAfterRuns first [] image
+  after_none first image file = ∥∥₁_map file (λ w. (first, found_after first first [] [] refl refl (draws_in_order w.0 first w.2), ∣ w ∣₁))
+
   pub one_more_run : OneMoreRun g
   one_more_run first runs before after run held it =
       let did = each {g = g} seen one bodies before run.rows run.input run.output it.acts.ended it.acts.closed run.action it.acts.does in (
         did.0,
         did.1,
-        ∥∥₁_elim held squash₁ (λ was. ∥∥₁_map (did.2 was.1 was.4 it.clean after it.left) (λ now. (
-          was.0 ++ now.0,
+        ∥∥₁_elim held squash₁ (λ was. ∥∥₁_map (did.2 was.0 was.2 it.clean after it.left) (λ now. (
           now.1,
-          effects_more runs did.0 was.0 now.0 was.2 now.2,
-          reaches_more was.0 now.0 first was.1 now.1 was.3 now.3,
+          found_after first now.1 (runs ++ did.0 ∷ []) (was.1.done ++ now.0) (effects_more runs did.0 was.1.done now.0 was.1.effects now.2)
+              (reaches_more was.1.done now.0 first was.0 now.1 was.1.reached now.3) was.1.ordered,
           now.4,
         ))),
       )
@@ -62,12 +89,9 @@ module _ {D : Type 0} (g : Ghosts D) (seen : SeenMayStay g) (one : OneRegister) 
   all_runs first before after runs file it = more_runs first [] before after runs (after_none first before file) it
 
   pub opens_after_runs : OpensAfterRuns g
-  opens_after_runs first runs image held desk opened clean = ∥∥₁_map held (λ was. (
-    was.0,
-    was.2,
-    subst (λ (r : Register). Reaches first was.0 r) (sym (same_register {g = g} seen one image was.1 was.4 desk opened clean)) was.3,
-  ))
+  opens_after_runs first runs image held desk opened clean =
+      ∥∥₁_map held (λ was. subst (IsFoundAfterRuns first runs) (sym (same_register {g = g} seen one image was.0 was.2 desk opened clean)) was.1)
 
   pub never_no_register : NeverNoRegister g
   never_no_register first runs image held e closed it clean bad =
-      ∥∥₁_elim held (λ x y. absurd x) (λ was. never_none {g = g} seen one image was.1 was.4 e closed it clean bad)
+      ∥∥₁_elim held (λ x y. absurd x) (λ was. never_none {g = g} seen one image was.0 was.2 e closed it clean bad)

@@ -2,6 +2,7 @@
 use Rattle.std.specs.Prelude.{◌≡◌, ◌≤◌, ◌⊎◌, ⊤, ℕ, List, [], ◌∷◌, ◌++◌, length, take, Some, Result, Ok, Err}
 use Rattle.std.specs.Io.KnownBytes.{Appends, Consumes}
 use Rattle.std.specs.List.{AllByRecursion}
+use Rattle.std.specs.FinMap.{get}
 use Rattle.std.proofs.Common.{inl, inr}
 use Rattle.sqlite_disk.specs.declared.Disk as disk
 use Rattle.sqlite_disk.specs.declared.Files.{Files}
@@ -19,9 +20,13 @@ use Rattle.sqlite.specs.Tree.{Trees}
 use Rattle.adm_types.specs.Seasons.{SeasonFacts}
 use Rattle.adm_types.specs.declared.commands.Command.{Command}
 use Rattle.adm_types.specs.declared.commands.Command.TheVariants.{Import}
+use Rattle.adm_types.specs.declared.rows.PlaceRow.{PlaceRow}
 use Rattle.adm_types.specs.declared.rows.Row.{Row as ImportRow}
 use Rattle.adm_register.specs.State.{only_season, State as Register}
+use Rattle.adm_commands.specs.History.{DrawsInOrder, DrawsStay}
 use Rattle.adm_commands.specs.Imports.{Reaches}
+use Rattle.adm_command_laws.specs.Places.{HasCause}
+use Rattle.adm_crashes.specs.Rounds.{EachRoundRecorded}
 use Rattle.adm_rows.specs.Faults.{IsNoRegister}
 use Rattle.adm_words.specs.declared.actions.Action.{Action}
 use Rattle.adm_words.specs.declared.actions.Action.TheVariants as action
@@ -106,9 +111,26 @@ abbrev pub AreEffects : List (List (Command × Answer)) → List Command → Typ
 AreEffects [] done = done ≡ []
 AreEffects (answered ∷ runs) done = (first : List Command) × (later : List Command) × IsEffect answered first × AreEffects runs later × (done ≡ first ++ later)
 
--- The two files hold the register to which the commands that took effect in these runs, each accepted, lead from the first one.
+-- A register that may be found after runs: the one to which the commands that took effect in them, each accepted, lead from the first one. It has the best outcomes
+-- of each round among them, for the register in which it began, and the draws of the first one, which are in order as in every register.
+pub record IsFoundAfterRuns (first : Register) (runs : List (List (Command × Answer))) (found : Register) : Type 0 where
+  pub done : List Command
+  pub effects : AreEffects runs done
+  pub reached : Reaches first done found
+  pub rounds : EachRoundRecorded first done found
+  pub draws : DrawsStay first found
+  pub ordered : DrawsInOrder first
+
+-- The two files hold such a register.
 abbrev pub HoldsAfterRuns : Register → List (List (Command × Answer)) → Image → Type 0
-HoldsAfterRuns first runs image = ∥ ((done : List Command) × (found : Register) × AreEffects runs done × Reaches first done found × IsFileOf found image) ∥₁
+HoldsAfterRuns first runs image = ∥ ((found : Register) × IsFoundAfterRuns first runs found × IsFileOf found image) ∥₁
+
+-- Where `init` made the files, each place in the register that they hold comes from a plan that a command named, or from a draw that the register holds.
+abbrev pub PlacesAfterRuns : Type 0
+PlacesAfterRuns =
+    (season : SeasonFacts) (runs : List (List (Command × Answer))) (image : Image) → HoldsAfterRuns (only_season season) runs image
+    → ∥ ((found : Register) × (it : IsFoundAfterRuns (only_season season) runs found) × IsFileOf found image
+    × ((child : ℕ) (row : PlaceRow) → get found.places child ≡ Some row → HasCause it.done found child row.place)) ∥₁
 
 -- ---- runs over the files
 
@@ -170,12 +192,12 @@ module _ {D : Type 0} (g : disk.Ghosts D) where
       (first : Register) (before after : Image) (runs : List ProgramRun) → IsFileOf first before → RunInOrder before runs after
       → (answered : List (List (Command × Answer))) × AreAnswered runs answered × HoldsAfterRuns first answered after
 
-  -- A run that opens such files finds that register.
+  -- A run that opens such files finds such a register.
   abbrev pub OpensAfterRuns : Type 0
   OpensAfterRuns =
       (first : Register) (runs : List (List (Command × Answer))) (image : Image) → HoldsAfterRuns first runs image
       → (desk : DeskState (Held (FileStore D g))) → IsOpened image desk → HasCleanDisk (file_state desk.conn)
-      → ∥ ((done : List Command) × AreEffects runs done × Reaches first done desk.register) ∥₁
+      → ∥ IsFoundAfterRuns first runs desk.register ∥₁
 
   -- No run reports that such files hold none.
   abbrev pub NeverNoRegister : Type 0

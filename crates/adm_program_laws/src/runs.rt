@@ -1,7 +1,9 @@
 // The laws of runs of the program, one after another.
 ghost use Rattle.adm_program_laws.specs.NextRun.{GoesOnAfterCrash, GoesOnAfterClose};
-ghost use Rattle.adm_program_laws.specs.SuccessiveRuns.{InitMakesFile, OneMoreRun, AllRuns, OpensAfterRuns, NeverNoRegister};
+ghost use Rattle.adm_program_laws.specs.SuccessiveRuns.{InitMakesFile, OneMoreRun, AllRuns, PlacesAfterRuns, OpensAfterRuns, NeverNoRegister};
 
+use adm_command_laws::{draws_kept, places_have_cause};
+use adm_crashes::rounds_are_recorded;
 use adm_desk::Desk;
 use adm_http::bodies_are_commands;
 use adm_rows::one_register;
@@ -24,7 +26,8 @@ pub fn next_run<D: Disk + Drop, E: Disk + Drop>(desk: Desk<FileStore<D>>) -> Fil
 
 /// Any number of runs of the program over the same two files, each of which ended, or was crashed
 /// once it had opened the files: they hold the register to which the acknowledged commands of all
-/// runs lead, in order, with at most the one in flight of each run. This follows from what
+/// runs lead, in order, with at most the one in flight of each run. It has the outcomes of each of
+/// their rounds, and each draw; each place has a cause. This follows from what
 /// `run_words` states of each run, on disks of any kind, so also on ones that fail from some call
 /// on, which are the model of a crash. `run` adds one run, so that each may be over disks of a kind
 /// of its own, and `runs` any number. It does nothing.
@@ -32,10 +35,15 @@ pub fn runs_in_order<D: Disk + Drop>()
     ensures init { InitMakesFile D.Disk }
     ensures run { OneMoreRun D.Disk }
     ensures runs { AllRuns D.Disk }
+    ensures places { PlacesAfterRuns }
     ensures opened { OpensAfterRuns D.Disk }
     ensures never { NeverNoRegister D.Disk }
 {
-    // that a file represents one register, and that requests are commands, calls of the laws say
+    // that a file represents one register, that requests are commands, and what commands leave of
+    // rounds, draws and places, calls of the laws say
     one_register();
     bodies_are_commands::<FileStore<D>>();
+    draws_kept();
+    rounds_are_recorded();
+    places_have_cause();
 }
