@@ -12,7 +12,7 @@ use Rattle.adm_desk.specs.DeskState.{DeskState, Handles}
 use Rattle.adm_desk.proofs.AcknowledgedLemmas.{RunsOver, keeps}
 use Rattle.adm_crashes.specs.Steps.{IsRun, OneAfter}
 
-over_commands : {D : Type 0} (step : D → Command → Answer → D → Type 0) (old new : D) (commands : List Command) (answers : List Answer)
+pub over_commands : {D : Type 0} (step : D → Command → Answer → D → Type 0) (old new : D) (commands : List Command) (answers : List Answer)
     → IsRun step old commands answers new → RunsOver step old (zip commands answers) new
 over_commands step old new [] [] run = run
 over_commands step old new [] (a ∷ answers) run = absurd run

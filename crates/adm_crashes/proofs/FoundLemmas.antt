@@ -1,5 +1,5 @@
 -- What is found after a run of commands and a crash.
-use Rattle.std.proofs.Common.{◌≡◌, IsTrue, inl, inr, refl, sym, subst, Option, Some, None, List, Result, Ok, Err, IfOk, arith}
+use Rattle.std.proofs.Common.{IsTrue, inl, inr, sym, subst, Option, Some, None, List, Result, Ok, Err, IfOk, arith}
 use Rattle.std.specs.Prelude.{IfErr}
 use Rattle.std.proofs.Math.Logic.{∥∥₁_map}
 use Rattle.sqlite_disk.specs.declared.Disk.{Ghosts}

@@ -1,5 +1,5 @@
 -- What a start over two disks of a register finds, what it leaves where it fails, and what a close leaves.
-use Rattle.std.proofs.Common.{◌≡◌, Option, inl, inr, sym, subst}
+use Rattle.std.proofs.Common.{Option, inl, inr, sym, subst}
 use Rattle.std.proofs.Math.Logic.{∥∥₁_elim, ∥∥₁_map}
 use Rattle.sqlite_disk.specs.declared.Disk.{Ghosts}
 use Rattle.sqlite_disk.specs.declared.Files.{Files}

@@ -1,11 +1,9 @@
 -- A desk handles commands one after another.
 use Rattle.std.specs.Prelude.{◌≡◌, List, [], ◌∷◌}
-use Rattle.sqlite.specs.State.{State as Disk, HasCleanDisk}
 use Rattle.adm_types.specs.declared.commands.Command.{Command}
 use Rattle.adm_register.specs.State.{State as Register}
 use Rattle.adm_commands.specs.Imports.{Reaches}
 use Rattle.adm_desk.specs.declared.answer.Answer.{Answer}
-use Rattle.adm_desk.specs.DeskState.{DeskState, Handles}
 
 -- accepted commands, one after another, leave one register
 abbrev pub OneAfter : Type 0
@@ -18,9 +16,3 @@ IsRun step old [] [] new = new ≡ old
 IsRun {D} step old (command ∷ commands) (answer ∷ answers) new = (mid : D) × step old command answer mid × IsRun step mid commands answers new
 IsRun step old [] (answer ∷ answers) new = ⊥
 IsRun step old (command ∷ commands) [] new = ⊥
-
--- ---- for private clauses
-
--- the command is answered, and the disk was clean before where it is clean now
-abbrev pub HandlesOnDisk : {C : Type 0} → (C → Disk) → DeskState C → Command → Answer → DeskState C → Type 0
-HandlesOnDisk disk old command answer new = Handles disk old command answer new × (HasCleanDisk (disk new.conn) → HasCleanDisk (disk old.conn))

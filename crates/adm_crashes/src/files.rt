@@ -1,7 +1,7 @@
 // The two files of a register: how a desk is opened over them, and how they are closed.
 ghost use Rattle.std.specs.Prelude.{◌≡◌, false, IsTrue, Option, IfOk, IfErr};
 ghost use Rattle.sqlite_wal.specs.Reads.{AreClean};
-ghost use Rattle.sqlite.specs.Files.{file_state, image_of, IsCleanLeft};
+ghost use Rattle.sqlite.specs.Files.{file_state, image_of, IsCleanLeft, IsClosed};
 ghost use Rattle.sqlite.specs.State.{HasCleanDisk};
 ghost use Rattle.adm_types.specs.declared.commands.Command.{Command as Asked};
 ghost use Rattle.adm_register.specs.State.{State as Register};
@@ -59,6 +59,8 @@ pub fn close_files<D: Disk + Drop>(
     ensures disks { (r : Register) (work : Option Asked) → LeavesAcknowledged r work (file_state conn)
         → IfOk result (λ files. AreClean D.Disk files.log files.db → AreDisksAfter D.Disk r work files.log files.db) }
     ensures usable { IfOk result (λ files. IsTrue (D.Disk.is_usable files.log) × IsTrue (D.Disk.is_usable files.db)) }
+    // Where it fails, a crash leaves no more than before the close.
+    ensures left { IfErr result (λ e. IsClosed conn e.1) }
 {
     conn.close_files()
 }

@@ -48,14 +48,13 @@ fn answer_all<H: Handler>(
 
 impl<S: Alter> Handler for Desk<S> {
     ghost use Rattle.sqlite.specs.Held.{Held, state};
-    ghost use Rattle.adm_desk.specs.DeskState.{DeskState};
-    ghost use Rattle.adm_crashes.specs.Steps.{HandlesOnDisk};
+    ghost use Rattle.adm_desk.specs.DeskState.{DeskState, Handles};
 
     ghost View = { DeskState (Held S) };
 
     ghost view = { λ d. d };
 
-    ghost step = { HandlesOnDisk (state S.Store) };
+    ghost step = { Handles (state S.Store) };
 
     fn handle(&mut self, command: Command) -> Answer {
         Desk::handle(self, command)

@@ -12,7 +12,7 @@ use Rattle.adm_desk.specs.declared.answer.Answer.TheVariants.{Done, Refused, Mem
 use Rattle.adm_desk.specs.declared.answer.LineAnswer.{LineAnswer}
 use Rattle.adm_desk.specs.declared.answer.LineAnswer.TheVariants.{Handled, Faulty, Queried}
 use Rattle.adm_desk.specs.Lines.{AnswersLine, AnswersLines}
-use Rattle.adm_desk.specs.DeskState.{DeskState, Handles, InFlight}
+use Rattle.adm_desk.specs.DeskState.{DeskState, Handles, InFlight, WasClean}
 use Rattle.adm_commands.specs.Imports.{Reaches}
 use Rattle.adm_desk.specs.Acknowledged.{KeepsAcknowledged, acknowledged, handled, with_command}
 
@@ -48,6 +48,21 @@ over_lines {D} step old new (l ∷ lines) (Handled a ∷ answers) run =
 -- ---- what it keeps
 
 module _ {C : Type 0} (disk : C → Disk) where
+  -- no command, and so no run, forgets a wrong answer of the disk
+  handled_clean : (old new : DeskState C) (command : Command) (answer : Answer) → Handles disk old command answer new → WasClean (disk old.conn) (disk new.conn)
+  handled_clean old new command (Done reply) it = it.4
+  handled_clean old new command (Refused refusal row) it = subst (λ (s : DeskState C). WasClean (disk old.conn) (disk s.conn)) (sym it.2) (λ clean. clean)
+  handled_clean old new command Memory it = subst (λ (s : DeskState C). WasClean (disk old.conn) (disk s.conn)) (sym it.1) (λ clean. clean)
+  handled_clean old new command Failed it = it.4
+
+  pub was_clean : (old new : DeskState C) (answered : List (Command × Answer)) → RunsOver (Handles disk) old answered new → WasClean (disk old.conn) (disk new.conn)
+  was_clean old new [] run = subst (λ (s : DeskState C). WasClean (disk old.conn) (disk s.conn)) (sym run) (λ clean. clean)
+  was_clean old new ((c, a) ∷ more) run = λ clean. handled_clean old run.0 c a run.1 (was_clean run.0 new more run.2 clean)
+
+  pub lines_clean : (old new : DeskState C) (lines : List (List ℕ)) (answers : List LineAnswer) → AnswersLines (AnswersLine (Handles disk)) old lines answers new
+      → WasClean (disk old.conn) (disk new.conn)
+  lines_clean old new lines answers run = was_clean old new (handled lines answers) (over_lines (Handles disk) old new lines answers run)
+
   -- after a Failed nothing changes, and nothing is acknowledged
   pub all_failed : (old new : DeskState C) (answered : List (Command × Answer)) → old.failed ≡ true → RunsOver (Handles disk) old answered new → (new ≡ old) × (acknowledged answered ≡ [])
   all_failed old new [] dead run = (run, refl)

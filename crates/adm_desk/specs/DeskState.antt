@@ -1,7 +1,7 @@
 -- The state of a desk, and what a command may be answered.
 use Rattle.std.specs.Prelude.{◌≡◌, Bool, true, false, Ok, Err, refl}
 use Rattle.std.specs.Coded.{Coded, code_by, coded×, coded_bool}
-use Rattle.sqlite.specs.State.{State as Disk}
+use Rattle.sqlite.specs.State.{State as Disk, HasCleanDisk}
 use Rattle.adm_types.specs.declared.commands.Command.{Command}
 use Rattle.adm_types.specs.declared.commands.Reply.{Reply}
 use Rattle.adm_register.specs.State.{State as Register}
@@ -32,16 +32,22 @@ pub record InFlight (register : Register) (command : Command) (left : Disk) : Ty
   pub accepted : Accepts register command next
   pub leaves : LeavesEither register next left
 
--- A command is answered, where `disk` is what a connection's file may be.
+-- A wrong answer of the disk is not forgotten: where it is clean now, it was so before.
+abbrev pub WasClean : Disk → Disk → Type 0
+WasClean old new = HasCleanDisk new → HasCleanDisk old
+
+-- A command is answered, where `disk` is what a connection's file may be. No wrong answer of the disk is forgotten.
 -- Done: an accepted step, and all that a crash may leave represents the register after it.
 -- Refused: by the first test that fails, with the row of an import and 0 for a command without rows, and nothing changes.
 -- Memory: nothing changes.
 -- Failed: the register stays that of the acknowledged commands; from then on each answer is Failed, and the connection stays.
 abbrev pub Handles : {C : Type 0} → (C → Disk) → DeskState C → Command → Answer → DeskState C → Type 0
 Handles disk old command (Done reply) new = (old.failed ≡ false) × Step old.register command (Ok reply) new.register × (new.failed ≡ false) × LeavesOnly new.register (disk new.conn)
+    × WasClean (disk old.conn) (disk new.conn)
 Handles disk old command (Refused refusal row) new = (old.failed ≡ false) × Step old.register command (Err (record { refusal = refusal; row = row })) old.register × (new ≡ old)
 Handles disk old command Memory new = (old.failed ≡ false) × (new ≡ old)
 Handles disk old command Failed new = (new.failed ≡ true) × (new.register ≡ old.register) × (old.failed ≡ true → new ≡ old) × (old.failed ≡ false → InFlight old.register command (disk new.conn))
+    × WasClean (disk old.conn) (disk new.conn)
 
 -- ---- for private clauses
 

@@ -127,9 +127,7 @@ impl<S: Alter> Desk<S> {
     /// What it costs grows with the tables that the command changes, of which the pointers to their
     /// rows are copied; what is compared and written grows with the rows that it changes.
     pub fn handle(&mut self, command: Command) -> Answer
-        ensures handles { Handles (state S.Store) self.old command result self.new }
-        // A wrong answer of the disk is not forgotten.
-        ensures clean { HasCleanDisk (state S.Store self.new.conn) → HasCleanDisk (state S.Store self.old.conn) }
+        ensures { Handles (state S.Store) self.old command result self.new }
     {
         if self.failed {
             return Answer::Failed;

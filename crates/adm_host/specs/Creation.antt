@@ -7,6 +7,7 @@ use Rattle.sqlite_store.specs.declared.store.FileStore.{FileStore}
 use Rattle.sqlite.specs.declared.error.Error.{Error}
 use Rattle.sqlite.specs.Held.{Held}
 use Rattle.sqlite.specs.Files.{file_state}
+use Rattle.sqlite.specs.State.{HasCleanDisk}
 use Rattle.adm_types.specs.Seasons.{SeasonFacts}
 use Rattle.adm_schema.specs.Schema.{no_schema}
 use Rattle.adm_register.specs.State.{only_season}
@@ -27,10 +28,11 @@ module _ {D : Type 0} {g : disk.Ghosts D} where
   CreatesAs season found left (Err f) = (cause : CreateFault) × (f ≡ of_create cause) × LeavesOldOrNew season (file_state found) (file_state left)
       × (cause ≡ create.InUse → (found.schema ≢ no_schema) × (left ≡ found)) × (found.schema ≢ no_schema → cause ≡ create.InUse)
 
-  -- the register of the season is created over a connection, which is then closed
+  -- the register of the season is created over a connection, which is then closed; no wrong answer of the disk is forgotten
   pub record CreatesIn (found : Held (FileStore D g)) (season : SeasonFacts) (e : Result Exit Fault) (closed : Result (Files D) (Error × FileStore D g)) : Type 0 where
     pub left : Held (FileStore D g)
     pub made : CreatesAs season found left e
+    pub clean : HasCleanDisk (file_state left) → HasCleanDisk (file_state found)
     pub closes : Closes left closed
 
   -- the same over files that held this

@@ -26,6 +26,8 @@ use Rattle.adm_host.specs.declared.cause.Cause.{Cause}
 use Rattle.adm_host.specs.declared.cause.Cause.TheVariants as cause
 use Rattle.adm_host.specs.declared.connecting.OpenError.{OpenError}
 use Rattle.adm_host.specs.declared.ended.LineEnd.{LineEnd}
+use Rattle.adm_host.specs.declared.ended.Remains.{Remains}
+use Rattle.adm_host.specs.declared.ended.Remains.TheVariants.{Closed, Unopened}
 use Rattle.adm_host.specs.declared.fault.Fault.{Fault}
 use Rattle.adm_host.specs.declared.fault.Fault.TheVariants.{TooManyHolidays, YearRange, InUse, NotOurs, Version, BadRow, Disk, Memory, Read, Write, UnknownChild, UnknownSchool, NoRound, NoDraw, Listen, NotRead, Row}
 use Rattle.adm_host.specs.declared.exit.Exit.{Exit}
@@ -208,6 +210,11 @@ error_of (Err e) = Some e.0
 abbrev pub line_outcome : {D : Type 0} {g : disk.Ghosts D} → Result (LineEnd D g) (OpenError D g) → Result Exit Fault
 line_outcome (Ok e) = ending_of e.exit (error_of e.closed)
 line_outcome (Err error) = Err error.fault
+
+-- what remains of the files at its end
+abbrev pub remains_at_end : {D : Type 0} {g : disk.Ghosts D} → Result (LineEnd D g) (OpenError D g) → Remains D g
+remains_at_end (Ok e) = Closed e.closed
+remains_at_end (Err error) = Unopened error.remains
 
 -- what the arguments were read as: `init` and what prints a text end with 0 or 1, `do`, `what-if` and `import` never with 2, and `serve` with 0, 1 or 4; 2 where they are a usage error
 abbrev pub ExitsBy : Result Action WordsFault → ℕ → Type 0

@@ -32,6 +32,12 @@ module _ {D : Type 0} {g : disk.Ghosts D} where
   IsFound image c = HasCleanDisk (file_state c)
       → IsTrue (file_state c).is_open × FindsIn image (file_state c) × IsDatabase (file_state c).committed × (c.schema ≡ (file_state c).committed.schema)
 
+  -- they were not opened at all
+  abbrev pub IsUntouched : Remainder D g → Type 0
+  IsUntouched (remains.Untouched it) = ⊤
+  IsUntouched (remains.Files left) = ⊥
+  IsUntouched (remains.Connection c) = ⊥
+
   -- what remained of files that held this, where they were not opened as a register: they were not opened at all; or a clean disk has what an open of `sqlite` that
   -- fails leaves of such files; or they were opened, and a crash leaves them as they were, or in the second version for the same register
   abbrev pub LeavesAsFound : Image → Remainder D g → Type 0

@@ -8,7 +8,7 @@ ghost use Rattle.sqlite.specs.declared.error.ErrorCode.TheVariants.{CannotOpen};
 ghost use Rattle.adm_rows.specs.Represents.{IsStarted};
 ghost use Rattle.adm_host.specs.Exits.{IsOpenFault, IsDisk};
 ghost use Rattle.adm_host.specs.declared.cause.Cause.TheVariants.{Changed};
-ghost use Rattle.adm_host.specs.Found.{IsFound, LeavesAsFound};
+ghost use Rattle.adm_host.specs.Found.{IsFound, IsUntouched, LeavesAsFound};
 
 use crate::cause::{Cause, cause_of_new};
 use crate::fault::Fault;
@@ -39,6 +39,16 @@ pub struct Untouched<D: Disk> {
     disk: PhantomData<D>,
 }
 
+impl<D: Disk> OpenError<D> {
+    /// What remained of the file and its log.
+    pub fn into_remains(self) -> Remainder<D>
+        ensures { result ≡ self.remains }
+    {
+        let OpenError { fault: _, remains } = self;
+        remains
+    }
+}
+
 impl<D: Disk + Drop> Drop for OpenError<D> {
     fn drop(self) {
         let OpenError {
@@ -62,6 +72,13 @@ impl<D: Disk + Drop> Drop for Remainder<D> {
             Remainder::Connection(_conn) => {}
         }
     }
+}
+
+/// What remains of the files of a start that is used up, so that nothing opens them.
+pub fn leave_unopened<S: Start>(_start: S) -> Remainder<FileFrom<S>>
+    ensures { IsUntouched result }
+{
+    Remainder::Untouched(Untouched { disk: PhantomData })
 }
 
 /// An error before the files of a start were opened. The start is used up, so nothing opens them.

@@ -14,10 +14,12 @@ mod rows;
 mod trial;
 
 pub use cause::Cause;
-pub use connecting::{OpenError, Remainder, Untouched, before_open, changed, open_file};
+pub use connecting::{
+    OpenError, Remainder, Untouched, before_open, changed, leave_unopened, open_file,
+};
 pub use creating::init;
 pub use document::{Document, put};
-pub use ended::{CloseResult, LineEnd, before_close, close_files};
+pub use ended::{CloseResult, LineEnd, Remains, RunEnd, before_close, close_files};
 pub use exit::Exit;
 pub use fault::Fault;
 pub use found::Found;

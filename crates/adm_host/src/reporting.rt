@@ -1,12 +1,12 @@
 // What is printed of an error on the standard error, and the exit that goes with it.
 ghost use Rattle.std.specs.Prelude.{◌≡◌};
-ghost use Rattle.adm_host.specs.Exits.{exit_of_arguments, line_outcome, fault_line, exit_of_result};
+ghost use Rattle.adm_host.specs.Exits.{exit_code, exit_of_arguments, line_outcome, fault_line, exit_of_result, remains_at_end};
 ghost use Rattle.adm_wire.specs.Streams.{writer};
 ghost use Rattle.adm_host.specs.Reports.{ReportsText, ReportsOutcome, ReportsArguments, PrintsArguments};
 ghost use Rattle.adm_host.specs.declared.fault.Fault.TheVariants.{Memory};
 
 use crate::connecting::OpenError;
-use crate::ended::{LineEnd, ending};
+use crate::ended::{LineEnd, Remains, RunEnd, ending};
 use crate::exit::Exit;
 use crate::fault::{Fault, print_text};
 use adm_wire::{Output, WriteFailed};
@@ -23,17 +23,22 @@ pub fn print_memory_fault<E: Output>(errors: &mut E) -> u8
     print_fault(Err(Fault::Memory), errors).code()
 }
 
-/// The exit of a line, whose error is printed.
-pub fn end<D: Disk + Drop, E: Output>(
-    ended: Result<LineEnd<D>, OpenError<D>>,
-    errors: &mut E,
-) -> Exit
-    ensures exit { result ≡ exit_of_result (line_outcome ended) }
+/// The end of a line, whose error is printed: the exit status, and what remains of the files, as it was
+/// handed in.
+pub fn end<D: Disk, E: Output>(ended: Result<LineEnd<D>, OpenError<D>>, errors: &mut E) -> RunEnd<D>
+    ensures status { result.status ≡ exit_code (exit_of_result (line_outcome ended)) }
+    ensures remains { result.remains ≡ remains_at_end ended }
     ensures reported { ReportsOutcome (line_outcome ended) (writer E.Output errors.old errors.new) }
 {
     match ended {
-        Ok(ended) => print_fault(ending(ended), errors),
-        Err(error) => print_fault(Err(error.fault), errors),
+        Ok(LineEnd { exit, closed }) => RunEnd {
+            status: print_fault(ending(exit, &closed), errors).code(),
+            remains: Remains::Closed(closed),
+        },
+        Err(error) => RunEnd {
+            status: print_fault(Err(error.fault), errors).code(),
+            remains: Remains::Unopened(error.into_remains()),
+        },
     }
 }
 

@@ -191,7 +191,7 @@ module _ {D : Type 0} {g : disk.Ghosts D} where
   made image (action.Show file draw) rows input output e closed does = document_exit image (shown draw) output e closed does.1
 
   -- the status of an action
-  pub exits : (image : Image) (a : Action) (rows : List ℕ → Stream) (input output : Stream) (r : Result (LineEnd D g) (OpenError D g)) (x : Exit)
-      → IfOk r (λ ended. Does image a rows input output ended.exit ended.closed) → x ≡ exit_of_result (line_outcome r) → ExitsBy (Ok a) (exit_code x)
-  exits image a rows input output (Ok ended) x does reported = subst (λ (y : Exit). ExitsBy (Ok a) (exit_code y)) (sym reported) (made image a rows input output ended.exit ended.closed does)
-  exits image a rows input output (Err f) x does reported = subst (λ (y : Exit). ExitsBy (Ok a) (exit_code y)) (sym reported) (unmade a)
+  pub exits : (image : Image) (a : Action) (rows : List ℕ → Stream) (input output : Stream) (r : Result (LineEnd D g) (OpenError D g)) (n : ℕ)
+      → IfOk r (λ ended. Does image a rows input output ended.exit ended.closed) → n ≡ exit_code (exit_of_result (line_outcome r)) → ExitsBy (Ok a) n
+  exits image a rows input output (Ok ended) n does reported = subst (λ (m : ℕ). ExitsBy (Ok a) m) (sym reported) (made image a rows input output ended.exit ended.closed does)
+  exits image a rows input output (Err f) n does reported = subst (λ (m : ℕ). ExitsBy (Ok a) m) (sym reported) (unmade a)

@@ -4,4 +4,4 @@
 mod run;
 mod serving;
 
-pub use run::run_words;
+pub use run::{run_arguments, run_words};

@@ -11,12 +11,13 @@ ghost use Rattle.adm_wire.specs.Streams.{reader, writer};
 ghost use Rattle.adm_host.specs.Found.{LeavesAsFound};
 ghost use Rattle.adm_program.specs.Served.{ServesOver};
 ghost use Rattle.adm_files.specs.Runs.{Prints};
-ghost use Rattle.adm_program.specs.Arguments.{ActsOn, texts};
+ghost use Rattle.adm_program.specs.Arguments.{ActsOn, ActsWith, texts};
 
 use crate::serving::serve_connections;
 use adm_files::{answer_questions, do_lines, import, open_desk, print};
 use adm_host::{
-    Document, Fault, LineEnd, OpenError, Rows, before_open, end, init, refuse_arguments,
+    Document, Fault, LineEnd, OpenError, Remains, Rows, RunEnd, before_open, end, init,
+    leave_unopened, refuse_arguments,
 };
 use adm_types::Season;
 use adm_wire::{Input, Output};
@@ -24,11 +25,7 @@ use adm_words::{Action, action};
 use sqlite::{FileFrom, Start};
 use sqlite_disk::Disk;
 
-/// Does what the arguments say, with the program's name first, and gives the exit status: 0 done; 1
-/// an error, printed to `errors` as `fault: ` and its name; 2 a usage error; 3 an import or some
-/// line was refused, invalid or ran out of memory; 4 the store failed. What goes wrong with single
-/// connections while `serve` runs is printed to `log`, and nothing else is. `rows` opens the file
-/// that `import` reads.
+/// Does what `run_arguments` does, and gives the exit status alone: what remains of the files is let go.
 pub fn run_words<S: Start, F: Rows, I: Input, O: Output, E: Output, L: Output>(
     rt: &HostRuntime,
     arguments: &[&str],
@@ -39,17 +36,43 @@ pub fn run_words<S: Start, F: Rows, I: Input, O: Output, E: Output, L: Output>(
     errors: &mut E,
     log: &mut L,
 ) -> u8
-    ensures does { ActsOn ⟦<FileFrom<S> as Disk>⟧ S.Start arguments.entry.now (files F.Rows rows.old rows.new)
+    ensures does { ActsWith ⟦<FileFrom<S> as Disk>⟧ S.Start arguments.entry.now (files F.Rows rows.old rows.new)
         (reader I.Input input.old input.new) (writer O.Output output.old output.new) (writer E.Output errors.old errors.new) result }
     ensures status { RunsArguments (texts arguments.entry.now) result }
+    ensures log { Logs (texts arguments.entry.now) (errors_of L.Output log.old) (errors_of L.Output log.new) }
+{
+    run_arguments(rt, arguments, start, rows, input, output, errors, log).status
+}
+
+/// Does what the arguments say, with the program's name first, and gives what remains of the files and
+/// the exit status: 0 done; 1 an error, printed to `errors` as `fault: ` and its name; 2 a usage error;
+/// 3 an import or some line was refused, invalid or ran out of memory; 4 the store failed. What goes
+/// wrong with single connections while `serve` runs is printed to `log`, and nothing else is. `rows`
+/// opens the file that `import` reads.
+pub fn run_arguments<S: Start, F: Rows, I: Input, O: Output, E: Output, L: Output>(
+    rt: &HostRuntime,
+    arguments: &[&str],
+    start: S,
+    rows: &mut F,
+    input: &mut I,
+    output: &mut O,
+    errors: &mut E,
+    log: &mut L,
+) -> RunEnd<FileFrom<S>>
+    ensures does { ActsOn ⟦<FileFrom<S> as Disk>⟧ S.Start arguments.entry.now (files F.Rows rows.old rows.new)
+        (reader I.Input input.old input.new) (writer O.Output output.old output.new) (writer E.Output errors.old errors.new) result }
+    ensures status { RunsArguments (texts arguments.entry.now) result.status }
     ensures log { Logs (texts arguments.entry.now) (errors_of L.Output log.old) (errors_of L.Output log.new) }
 {
     match action(rt.alloc(), arguments) {
         Ok(action) => {
             let ended = run_action(rt, action, start, rows, input, output, log);
-            end(ended, errors).code()
+            end(ended, errors)
         }
-        Err(fault) => refuse_arguments(rt.alloc(), &fault, errors).code(),
+        Err(fault) => RunEnd {
+            status: refuse_arguments(rt.alloc(), &fault, errors).code(),
+            remains: Remains::Unopened(leave_unopened(start)),
+        },
     }
 }
 

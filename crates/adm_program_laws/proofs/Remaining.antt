@@ -10,11 +10,13 @@ use Rattle.sqlite_store.specs.declared.store.FileStore.{FileStore}
 use Rattle.sqlite_store.specs.FileStore.{recovers}
 use Rattle.sqlite_store.specs.Laws.{settled_at, stays_at}
 use Rattle.sqlite.specs.declared.error.Error.{Error}
+use Rattle.sqlite.specs.declared.file.Leftover.TheVariants as leftover
 use Rattle.sqlite.specs.Files.{HoldsDatabase, file_state}
 use Rattle.sqlite.specs.Held.{Held}
 use Rattle.sqlite.specs.Start.{FindsIn}
 use Rattle.sqlite.specs.State.{State, HasCleanDisk}
 use Rattle.sqlite.specs.Tree.{Trees}
+use Rattle.sqlite.proofs.FileLemmas.{is_something}
 use Rattle.adm_types.specs.Seasons.{SeasonFacts}
 use Rattle.adm_types.specs.declared.commands.Command.{Command}
 use Rattle.adm_register.specs.State.{only_season, State as Register}
@@ -30,16 +32,20 @@ use Rattle.sqlite_catalog.proofs.ReadLemmas.{lists_once}
 use Rattle.sqlite_trees.specs.Objects.{catalog_tree}
 use Rattle.adm_desk.specs.Acknowledged.{KeepsAcknowledged, acknowledged, in_flight, FindsAgain}
 use Rattle.adm_desk.specs.Files.{IsFileOf}
-use Rattle.adm_desk.specs.DeskState.{DeskState}
+use Rattle.adm_desk.specs.DeskState.{DeskState, WasClean}
 use Rattle.adm_desk.specs.declared.answer.Answer.{Answer}
 use Rattle.adm_desk.proofs.CrashLemmas.{each_again, opens_one, is_not_none, still_represents}
-use Rattle.adm_host.specs.Found.{Closes}
+use Rattle.adm_host.specs.Found.{Closes, LeavesAsFound}
 use Rattle.adm_files.specs.Opened.{IsNotOpened, IsOpened}
 use Rattle.adm_host.specs.Creation.{Creates, CreatesAs}
+use Rattle.adm_host.specs.declared.connecting.Remainder.{Remainder}
+use Rattle.adm_host.specs.declared.connecting.Remainder.TheVariants as remainder
+use Rattle.adm_host.specs.declared.ended.Remains.{Remains}
+use Rattle.adm_host.specs.declared.ended.Remains.TheVariants.{Closed, Unopened}
 use Rattle.adm_host.specs.declared.exit.Exit.{Exit}
 use Rattle.adm_host.specs.declared.exit.Exit.TheVariants as exit
 use Rattle.adm_host.specs.declared.fault.Fault.{Fault}
-use Rattle.adm_program_laws.specs.SuccessiveRuns.{MayRemain, IsEffect}
+use Rattle.adm_program_laws.specs.SuccessiveRuns.{MayClose, MayStay, MayRemain, IsEffect}
 
 -- commands after commands
 pub reaches_more : (xs ys : List Command) (a b c : Register) → Reaches a xs b → Reaches b ys c → Reaches a (xs ++ ys) c
@@ -59,7 +65,7 @@ effect old kept found answered run finds = by_work (in_flight answered) refl fin
     ]
 
 -- a version's schema has tables
-has_tables : (v : Version) → schema_of v ≢ no_schema
+pub has_tables : (v : Version) → schema_of v ≢ no_schema
 has_tables First = λ same. (let none : length (schema_of First).tables ≡ 0 = ap (λ (s : Schema). length s.tables) same in cc)
 has_tables Second = λ same. (let none : length (schema_of Second).tables ≡ 0 = ap (λ (s : Schema). length s.tables) same in cc)
 
@@ -75,19 +81,19 @@ uncreated : {D : Type 0} {g : Ghosts D} (season : SeasonFacts) (found left : Hel
 uncreated season found left (Ok x) made used clean db may = absurd (used made.1)
 uncreated season found left (Err f) made used clean db may = elim (made.2 clean db may) [ inl was ↦ was | inr new ↦ absurd (used new.0) ]
 
-clean_before : (old new : State) → doubt old.is_clean ≤ doubt new.is_clean → HasCleanDisk new → HasCleanDisk old
+pub clean_before : (old new : State) → doubt old.is_clean ≤ doubt new.is_clean → HasCleanDisk new → HasCleanDisk old
 clean_before old new falls clean = omega arith
 
 module _ {D : Type 0} {g : Ghosts D} where
   -- Of files that held a register: after the run they hold the one to which these commands lead, which took effect.
-  abbrev pub Leaves : Image → Result (Files D) (Error × FileStore D g) → Type 0 → List (Command × Answer) → Type 0
-  Leaves before closed Clean answered =
-      (old : Register) → IsFileOf old before → Clean → (after : Image) → MayRemain closed after
+  abbrev pub Leaves : Image → Remains D g → List (Command × Answer) → Type 0
+  Leaves before remained answered =
+      (old : Register) → IsFileOf old before → (after : Image) → MayRemain before remained after
       → ∥ ((done : List Command) × (found : Register) × IsEffect answered done × Reaches old done found × IsFileOf found after) ∥₁
 
 module _ {D : Type 0} {g : Ghosts D} (seen : SeenMayStay g) where
   -- what remains of a connection after its close holds one of the databases that an open after a crash could find before it
-  remains : (conn : Held (FileStore D g)) (closed : Result (Files D) (Error × FileStore D g)) → Closes conn closed → (after : Image) → MayRemain closed after
+  pub remains : (conn : Held (FileStore D g)) (closed : Result (Files D) (Error × FileStore D g)) → Closes conn closed → (after : Image) → MayClose closed after
       → HasCleanDisk (file_state conn) × ∥ ((db : Trees) × recovers conn.store db × HoldsDatabase after db) ∥₁
   remains conn (Ok files) closes after left =
       let copied = closes left.0 in
@@ -96,14 +102,14 @@ module _ {D : Type 0} {g : Ghosts D} (seen : SeenMayStay g) where
       (omega (arith, closes.quiet.clean, left.0), ∣ (left.1, closes.quiet.outcomes left.1 left.2, left.3) ∣₁)
 
   -- so files of the register, where each of those represents it
-  still_file : (r : Register) (conn : Held (FileStore D g)) (closed : Result (Files D) (Error × FileStore D g)) → Closes conn closed → (after : Image) → MayRemain closed after
+  pub still_file : (r : Register) (conn : Held (FileStore D g)) (closed : Result (Files D) (Error × FileStore D g)) → Closes conn closed → (after : Image) → MayClose closed after
       → (HasCleanDisk (file_state conn) → (db : Trees) → recovers conn.store db → ∥ Represents db r ∥₁) → IsFileOf r after
   still_file r conn closed closes after left each =
       let it = remains conn closed closes after left in
       ∥∥₁_elim it.1 squash₁ (λ w. ∥∥₁_map (each it.0 w.0 w.1) (λ is. (w.0, w.2, is)))
 
   -- `init` that is done
-  pub creates_file : (before after : Image) (season : SeasonFacts) (closed : Result (Files D) (Error × FileStore D g)) → Creates before season (Ok exit.Done) closed → MayRemain closed after
+  pub creates_file : (before after : Image) (season : SeasonFacts) (closed : Result (Files D) (Error × FileStore D g)) → Creates before season (Ok exit.Done) closed → MayClose closed after
       → IsFileOf (only_season season) after
   creates_file before after season closed it left =
       let created = it.creates in
@@ -125,7 +131,7 @@ module _ {D : Type 0} {g : Ghosts D} (seen : SeenMayStay g) where
         is_not_none {g = g} seen one old it.found was.0 (stands it.found was.1) it.left it.kept clean (it.none bad)
 
     -- the register was not opened
-    unopened_file : (e : Result Exit Fault) (closed : Result (Files D) (Error × FileStore D g)) → IsNotOpened before e closed → (after : Image) → MayRemain closed after → IsFileOf old after
+    unopened_file : (e : Result Exit Fault) (closed : Result (Files D) (Error × FileStore D g)) → IsNotOpened before e closed → (after : Image) → MayClose closed after → IsFileOf old after
     unopened_file e closed it after left =
         still_file old it.left closed it.closes after left (λ clean.
         let was = it.is_found (clean_before (file_state it.found) (file_state it.left) it.kept.clean clean) in
@@ -134,21 +140,40 @@ module _ {D : Type 0} {g : Ghosts D} (seen : SeenMayStay g) where
   -- ---- what the run leaves
 
   -- no command took effect
-  nothing : (before : Image) (closed : Result (Files D) (Error × FileStore D g)) (Clean : Type 0)
-      → ((old : Register) → IsFileOf old before → Clean → (after : Image) → MayRemain closed after → IsFileOf old after) → Leaves {g = g} before closed Clean []
-  nothing before closed Clean keeps old file clean after left = ∣ ([], old, inl refl, refl, keeps old file clean after left) ∣₁
+  nothing : (before : Image) (remained : Remains D g) → ((old : Register) → IsFileOf old before → (after : Image) → MayRemain before remained after → IsFileOf old after)
+      → Leaves {g = g} before remained []
+  nothing before remained keeps old file after may = ∣ ([], old, inl refl, refl, keeps old file after may) ∣₁
 
-  pub not_opened : OneRegister → (before : Image) (e : Result Exit Fault) (closed : Result (Files D) (Error × FileStore D g)) (Clean : Type 0) → IsNotOpened before e closed
-      → Leaves {g = g} before closed Clean []
-  not_opened one before e closed Clean it = nothing before closed Clean (λ old file clean after left. unopened_file one before old file e closed it after left)
+  pub not_opened : OneRegister → (before : Image) (e : Result Exit Fault) (closed : Result (Files D) (Error × FileStore D g)) → IsNotOpened before e closed → Leaves {g = g} before (Closed closed) []
+  not_opened one before e closed it = nothing before (Closed closed) (λ old file after may. unopened_file one before old file e closed it after may)
+
+  -- the run failed before it began, so the files are as an open that fails leaves them
+  stays_file : OneRegister → (before : Image) (remained : Remainder D g) → LeavesAsFound before remained → (old : Register) → IsFileOf old before → (after : Image) → MayStay before remained after
+      → IsFileOf old after
+  stays_file one before (remainder.Untouched it) found old file after same = subst (IsFileOf old) (sym same) file
+  stays_file one before (remainder.Files (leftover.Files now)) found old file after may = subst (IsFileOf old) (sym (found.1.only after (found.2 may.0 after may.1))) file
+  stays_file one before (remainder.Files (leftover.Unopened now)) found old file after may = ∥∥₁_map file (λ w. absurd (is_something before w.0 w.1 may.1))
+  stays_file one before (remainder.Files (leftover.Store store)) found old file after may =
+      ∥∥₁_map file (λ w.
+      let holds = subst (λ (image : Image). HoldsDatabase image w.0) (sym found.1.holds) w.1 in
+      let same = (found.2 may.0 may.1 may.2).1 w.0 holds in
+      (may.1, may.3, subst (λ (t : Trees). Represents t old) (sym same) w.2))
+  stays_file one before (remainder.Connection c) found old file after may =
+      let was = found.1 (clean_before (file_state found.0) (file_state c) found.2.clean may.0) in
+      let is = still_represents {g = g} seen one old found.0 was.0 (stands one before old file found.0 was.1) c found.2 may.0 c.store (λ db it. it) may.1 may.2 in
+      ∥∥₁_map is (λ it. (may.1, may.3, it))
+
+  pub not_begun : OneRegister → (before : Image) (remained : Remainder D g) → LeavesAsFound before remained → Leaves {g = g} before (Unopened remained) []
+  not_begun one before remained found = nothing before (Unopened remained) (λ old file after may. stays_file one before remained found old file after may)
 
   -- a desk kept what it acknowledged
   pub desk_kept : OneRegister → (before : Image) (desk last : DeskState (Held (FileStore D g))) (answered : List (Command × Answer)) (closed : Result (Files D) (Error × FileStore D g))
-      → IsOpened before desk → KeepsAcknowledged file_state desk last answered → Closes last.conn closed → Leaves {g = g} before closed (HasCleanDisk (file_state desk.conn)) answered
-  desk_kept one before desk last answered closed opened kept closes old file clean after left =
-      let same = same_register one before old file desk opened clean in
-      let run = subst (λ (r : Register). Reaches r (acknowledged answered) last.register) same kept.run in
+      → IsOpened before desk → WasClean (file_state desk.conn) (file_state last.conn) → KeepsAcknowledged file_state desk last answered → Closes last.conn closed
+      → Leaves {g = g} before (Closed closed) answered
+  desk_kept one before desk last answered closed opened was kept closes old file after left =
       let it = remains last.conn closed closes after left in
+      let same = same_register one before old file desk opened (was it.0) in
+      let run = subst (λ (r : Register). Reaches r (acknowledged answered) last.register) same kept.run in
       ∥∥₁_map it.1 (λ w.
       let again = each_again last.register (in_flight answered) (file_state last.conn) kept.leaves it.0 w.0 w.1 in
       let more = effect old last.register again.0 answered run again.1 in
@@ -156,10 +181,10 @@ module _ {D : Type 0} {g : Ghosts D} (seen : SeenMayStay g) where
 
   -- no register was created
   pub not_created : OneRegister → (before : Image) (season : SeasonFacts) (e : Result Exit Fault) (closed : Result (Files D) (Error × FileStore D g)) (it : Creates before season e closed)
-      → Leaves {g = g} before closed (HasCleanDisk (file_state it.found)) []
-  not_created one before season e closed it = nothing before closed (HasCleanDisk (file_state it.found)) (λ old file start after left.
+      → Leaves {g = g} before (Closed closed) []
+  not_created one before season e closed it = nothing before (Closed closed) (λ old file after left.
       still_file old it.creates.left closed it.creates.closes after left (λ clean db may.
-      let was = it.is_found start in
+      let was = it.is_found (it.creates.clean clean) in
       ∥∥₁_map (stands one before old file it.found was.1) (λ is.
       let used = has_table it.found.schema (file_state it.found).committed was.2 was.3 old is in
       let same = settled_at it.found.store seen db was.0 (uncreated season it.found it.creates.left e it.creates.made used clean db may) in

@@ -22,7 +22,7 @@ use Rattle.adm_desk.specs.Files.{IsFileOf}
 use Rattle.adm_desk.specs.declared.answer.Answer.{Answer}
 use Rattle.adm_http.specs.Bodies.{AnswersBodies}
 use Rattle.adm_program_laws.specs.SuccessiveRuns.{ProgramRun, AreAnswered, IsEffect, AreEffects, IsFoundAfterRuns, HoldsAfterRuns, RunInOrder, OneMoreRun, AllRuns, PlacesAfterRuns, OpensAfterRuns, NeverNoRegister}
-use Rattle.adm_program_laws.proofs.Keeping.{each}
+use Rattle.adm_program_laws.proofs.Keeping.{each_end}
 use Rattle.adm_program_laws.proofs.Remaining.{reaches_more, same_register, never_none}
 
 -- the effects of one run more
@@ -61,18 +61,18 @@ module _ {D : Type 0} (g : Ghosts D) (seen : SeenMayStay g) (one : OneRegister) 
 
   pub one_more_run : OneMoreRun g
   one_more_run first runs before after run held it =
-      let did = each {g = g} seen one bodies before run.rows run.input run.output it.acts.ended it.acts.closed run.action it.acts.does in (
-        did.0,
-        did.1,
-        ∥∥₁_elim held squash₁ (λ was. ∥∥₁_map (did.2 was.0 was.2 it.clean after it.left) (λ now. (
+      let did = each_end {g = g} seen one bodies before run.end.status run.rows run.input run.output run.read run.errors run.end.remains it.follows in (
+        did.answered,
+        did.are,
+        ∥∥₁_elim held squash₁ (λ was. ∥∥₁_map (did.leaves was.0 was.2 after it.left) (λ now. (
           now.1,
-          found_after first now.1 (runs ++ did.0 ∷ []) (was.1.done ++ now.0) (effects_more runs did.0 was.1.done now.0 was.1.effects now.2)
+          found_after first now.1 (runs ++ did.answered ∷ []) (was.1.done ++ now.0) (effects_more runs did.answered was.1.done now.0 was.1.effects now.2)
               (reaches_more was.1.done now.0 first was.0 now.1 was.1.reached now.3) was.1.ordered,
           now.4,
         ))),
       )
 
-  more_runs : (first : Register) (earlier : List (List (Command × Answer))) (before after : Image) (runs : List ProgramRun) → HoldsAfterRuns first earlier before → RunInOrder g before runs after
+  more_runs : (first : Register) (earlier : List (List (Command × Answer))) (before after : Image) (runs : List (ProgramRun g)) → HoldsAfterRuns first earlier before → RunInOrder g before runs after
       → (answered : List (List (Command × Answer))) × AreAnswered runs answered × HoldsAfterRuns first (earlier ++ answered) after
   more_runs first earlier before after [] held same =
       let here = subst (λ (runs : List (List (Command × Answer))). HoldsAfterRuns first runs before) (sym (append-nil earlier)) held in

@@ -1,9 +1,8 @@
 -- Runs of the program, one after another, each over what a crash may have left of the same two files.
-use Rattle.std.specs.Prelude.{◌≡◌, ◌≤◌, ◌⊎◌, ⊤, ℕ, List, [], ◌∷◌, ◌++◌, length, take, Some, Result, Ok, Err}
-use Rattle.std.specs.Io.KnownBytes.{Appends, Consumes}
+use Rattle.std.specs.Prelude.{◌≡◌, ◌≢◌, ◌≤◌, ◌⊎◌, ⊤, ℕ, IsTrue, List, [], ◌∷◌, ◌++◌, length, take, Some, Result, Ok, Err}
+use Rattle.std.specs.Io.KnownBytes.{Appends, Consumes, IsAtEnd}
 use Rattle.std.specs.List.{AllByRecursion}
 use Rattle.std.specs.FinMap.{get}
-use Rattle.std.proofs.Common.{inl, inr}
 use Rattle.sqlite_disk.specs.declared.Disk as disk
 use Rattle.sqlite_disk.specs.declared.Files.{Files}
 use Rattle.sqlite_wal.specs.Recovery.{Image}
@@ -12,10 +11,12 @@ use Rattle.sqlite_wal.specs.Reads.{AreClean}
 use Rattle.sqlite_trees.specs.View.{IsClean}
 use Rattle.sqlite_store.specs.declared.store.FileStore.{FileStore}
 use Rattle.sqlite_store.specs.FileStore.{view, recovers}
+use Rattle.sqlite_store.specs.Unopened.{state_of}
 use Rattle.sqlite.specs.declared.error.Error.{Error}
+use Rattle.sqlite.specs.declared.file.Leftover.TheVariants as leftover
 use Rattle.sqlite.specs.State.{HasCleanDisk}
 use Rattle.sqlite.specs.Held.{Held}
-use Rattle.sqlite.specs.Files.{HoldsDatabase, file_state}
+use Rattle.sqlite.specs.Files.{HoldsDatabase, IsNothing, file_state}
 use Rattle.sqlite.specs.Tree.{Trees}
 use Rattle.adm_types.specs.Seasons.{SeasonFacts}
 use Rattle.adm_types.specs.declared.commands.Command.{Command}
@@ -30,11 +31,12 @@ use Rattle.adm_crashes.specs.Rounds.{EachRoundRecorded}
 use Rattle.adm_rows.specs.Faults.{IsNoRegister}
 use Rattle.adm_words.specs.declared.actions.Action.{Action}
 use Rattle.adm_words.specs.declared.actions.Action.TheVariants as action
+use Rattle.adm_words.specs.declared.faults.WordsFault.{WordsFault}
 use Rattle.adm_wire.specs.Streams.{Stream}
 use Rattle.adm_desk.specs.Acknowledged.{acknowledged, in_flight, handled}
 use Rattle.adm_desk.specs.Files.{IsFileOf}
 use Rattle.adm_desk.specs.DeskState.{DeskState}
-use Rattle.adm_desk.specs.Lines.{answer_text, lines_of}
+use Rattle.adm_desk.specs.Lines.{answer_text, answers_text, lines_of}
 use Rattle.adm_desk.specs.Written.{IsBeginning}
 use Rattle.adm_desk.specs.declared.answer.Answer.{Answer}
 use Rattle.adm_desk.specs.declared.answer.LineAnswer.{LineAnswer}
@@ -43,59 +45,72 @@ use Rattle.adm_files.specs.Imports.{FileGives}
 use Rattle.adm_files.specs.Opened.{IsNotOpened, IsOpened}
 use Rattle.adm_host.specs.Creation.{Creates}
 use Rattle.adm_host.specs.Texts.{Puts}
+use Rattle.adm_host.specs.declared.connecting.Remainder.{Remainder}
+use Rattle.adm_host.specs.declared.connecting.Remainder.TheVariants as remainder
+use Rattle.adm_host.specs.declared.ended.Remains.{Remains}
+use Rattle.adm_host.specs.declared.ended.Remains.TheVariants.{Closed, Unopened}
+use Rattle.adm_host.specs.declared.ended.RunEnd.{RunEnd}
 use Rattle.adm_host.specs.declared.exit.Exit.{Exit}
 use Rattle.adm_host.specs.declared.exit.Exit.TheVariants as exit
 use Rattle.adm_host.specs.declared.fault.Fault.{Fault}
-use Rattle.adm_program.specs.Arguments.{Acts}
-use Rattle.adm_program.specs.Does.{Does}
+use Rattle.adm_program.specs.Arguments.{FollowsFrom}
 
--- a run: its subcommand, the streams before and after it, and its exit status
-pub record ProgramRun : Type 0 where
-  pub action : Action
+-- a run: what its arguments were read as, the streams before and after it, and its end: the exit status, and what remains of the files
+pub record ProgramRun {D : Type 0} (g : disk.Ghosts D) : Type 0 where
+  pub read : Result Action WordsFault
   pub rows : List ℕ → Stream
   pub input : Stream
   pub output : Stream
   pub errors : Stream
-  pub status : ℕ
+  pub end : RunEnd D g
 
 -- ---- the commands of a run, with their answers
 
--- the commands in the first lines that were read, and their answers, which were written but for a part of the last one
-pub record AnswersInput (input output : Stream) (answered : List (Command × Answer)) : Type 0 where
+-- The commands in the first lines that were read, one answer for each of these lines, and the answers as they were written, but for a part of the last one. Unless
+-- the run ended with an error, that is each line of the whole input, and each answer was written whole.
+pub record AnswersInput (status : ℕ) (input output : Stream) (answered : List (Command × Answer)) : Type 0 where
   pub bytes : List ℕ
   pub read : Consumes input.old input.new bytes
   pub count : ℕ
   pub answers : List LineAnswer
+  pub each : length answers ≡ length (take count (lines_of bytes))
   pub commands : answered ≡ handled (take count (lines_of bytes)) answers
   pub text : List ℕ
   pub beginning : IsBeginning answers text
   pub written : Appends output.old output.new text
+  pub all : status ≢ 1 → IsAtEnd input.new × (count ≡ length (lines_of bytes)) × (text ≡ answers_text answers)
 
--- all rows of the file as one command, and its answer, which was written, or a beginning of it
-pub record AnswersRows (file output : Stream) (answered : List (Command × Answer)) : Type 0 where
+-- all rows of the file as one command, and its answer, which was written, or where the run ended with an error perhaps a beginning of it
+pub record AnswersRows (status : ℕ) (file output : Stream) (answered : List (Command × Answer)) : Type 0 where
   pub rows : List ImportRow
   pub given : FileGives file (Ok rows)
   pub answer : Answer
   pub command : answered ≡ (Import rows, answer) ∷ []
   pub result : Result Exit Fault
   pub written : Puts (answer_text answer ++ 10 ∷ []) output result
+  pub all : status ≢ 1 → Appends output.old output.new (answer_text answer ++ 10 ∷ [])
 
--- no command was answered, and nothing was written
-abbrev pub AnswersNone : Stream → List (Command × Answer) → Type 0
-AnswersNone output answered = (answered ≡ []) × (output.new ≡ output.old)
+-- the run ended with an error, no command was answered, and nothing was written
+abbrev pub AnswersNone : ℕ → Stream → List (Command × Answer) → Type 0
+AnswersNone status output answered = (status ≡ 1) × (answered ≡ []) × (output.new ≡ output.old)
 
 -- `do` answers commands in its lines or none, `import` one of all rows or none, `serve` at most as many as it serves requests, each of which some body is, and the others none
-abbrev pub AnswersBy : Action → (List ℕ → Stream) → Stream → Stream → List (Command × Answer) → Type 0
-AnswersBy (action.Do file) rows input output answered = AnswersNone output answered ⊎ AnswersInput input output answered
-AnswersBy (action.Import file csv) rows input output answered = AnswersNone output answered ⊎ AnswersRows (rows csv.now) output answered
-AnswersBy (action.Serve file port count) rows input output answered =
+abbrev pub AnswersBy : Action → ℕ → (List ℕ → Stream) → Stream → Stream → List (Command × Answer) → Type 0
+AnswersBy (action.Do file) status rows input output answered = AnswersNone status output answered ⊎ AnswersInput status input output answered
+AnswersBy (action.Import file csv) status rows input output answered = AnswersNone status output answered ⊎ AnswersRows status (rows csv.now) output answered
+AnswersBy (action.Serve file port count) status rows input output answered =
     (length answered ≤ count) × AllByRecursion IsOfBody answered
-AnswersBy other rows input output answered = answered ≡ []
+AnswersBy other status rows input output answered = answered ≡ []
+
+-- so does a run by what its arguments were read as; by none where they are a usage error
+abbrev pub AnswersFor : Result Action WordsFault → ℕ → (List ℕ → Stream) → Stream → Stream → List (Command × Answer) → Type 0
+AnswersFor (Ok a) status rows input output answered = AnswersBy a status rows input output answered
+AnswersFor (Err fault) status rows input output answered = answered ≡ []
 
 -- these are the commands of each run, with their answers
-abbrev pub AreAnswered : List ProgramRun → List (List (Command × Answer)) → Type 0
+abbrev pub AreAnswered : {D : Type 0} {g : disk.Ghosts D} → List (ProgramRun g) → List (List (Command × Answer)) → Type 0
 AreAnswered [] [] = ⊤
-AreAnswered (run ∷ runs) (answered ∷ more) = AnswersBy run.action run.rows run.input run.output answered × AreAnswered runs more
+AreAnswered (run ∷ runs) (answered ∷ more) = AnswersFor run.read run.end.status run.rows run.input run.output answered × AreAnswered runs more
 AreAnswered [] (answered ∷ more) = ⊥
 AreAnswered (run ∷ runs) [] = ⊥
 
@@ -137,38 +152,32 @@ PlacesAfterRuns =
 module _ {D : Type 0} {g : disk.Ghosts D} where
   -- On disks that returned what was written to them, a crash at the end of the run may leave this of the two files: what it may leave of the files that were closed; or,
   -- where the close failed, as it does on disks that fail from some call on, files that hold a database which an open after a crash may find.
-  abbrev pub MayRemain : Result (Files D) (Error × FileStore D g) → Image → Type 0
-  MayRemain (Ok files) image = AreClean g files.log files.db × outcomes g files.log files.db image
-  MayRemain (Err (error, store)) image = IsClean (view store) × (db : Trees) × recovers store db × HoldsDatabase image db
+  abbrev pub MayClose : Result (Files D) (Error × FileStore D g) → Image → Type 0
+  MayClose (Ok files) after = AreClean g files.log files.db × outcomes g files.log files.db after
+  MayClose (Err (error, store)) after = IsClean (view store) × (db : Trees) × recovers store db × HoldsDatabase after db
 
-  -- where the register was opened, the disks had returned what was written to them
-  abbrev pub OpensClean : {X : Type 0} {P Q : DeskState (Held (FileStore D g)) → Type 0} → X ⊎ ((desk : DeskState (Held (FileStore D g))) × P desk × Q desk) → Type 0
-  OpensClean (inl it) = ⊤
-  OpensClean (inr it) = HasCleanDisk (file_state it.0.conn)
+  -- The same of files that held the image `before` and were not opened as a register: what was not opened is as it was; what an open of `sqlite` that failed may leave,
+  -- but for one that failed while it took over the log of a database; or files that hold a database which an open after a crash may find.
+  abbrev pub MayStay : Image → Remainder D g → Image → Type 0
+  MayStay before (remainder.Untouched it) after = after ≡ before
+  MayStay before (remainder.Files (leftover.Files files)) after = AreClean g files.log files.db × outcomes g files.log files.db after
+  MayStay before (remainder.Files (leftover.Unopened it)) after = IsTrue (state_of it).is_clean × IsNothing before × (state_of it).may_leave after
+  MayStay before (remainder.Files (leftover.Store store)) after = IsTrue (view store).is_clean × (db : Trees) × recovers store db × HoldsDatabase after db
+  MayStay before (remainder.Connection c) after = HasCleanDisk (file_state c) × (db : Trees) × recovers c.store db × HoldsDatabase after db
 
-  -- the same of each subcommand, as it opened the files
-  abbrev pub StartsClean : (image : Image) (a : Action) (rows : List ℕ → Stream) (input output : Stream) (e : Result Exit Fault) (closed : Result (Files D) (Error × FileStore D g))
-      → Does image a rows input output e closed → Type 0
-  StartsClean image (action.Init file phase year days) rows input output e closed did = HasCleanDisk (file_state did.6.found)
-  StartsClean image (action.Do file) rows input output e closed did = OpensClean did
-  StartsClean image (action.WhatIf file) rows input output e closed did = OpensClean did
-  StartsClean image (action.Import file csv) rows input output e closed did = OpensClean did.1
-  StartsClean image (action.Serve file port count) rows input output e closed did = OpensClean did.1
-  StartsClean image (action.Letter file child) rows input output e closed did = OpensClean did.1
-  StartsClean image (action.List file school) rows input output e closed did = OpensClean did.1
-  StartsClean image (action.RoundReport file round) rows input output e closed did = OpensClean did.1
-  StartsClean image (action.Pairs file school) rows input output e closed did = OpensClean did.1
-  StartsClean image (action.Show file draw) rows input output e closed did = OpensClean did.1
+  -- the same of whatever remains
+  abbrev pub MayRemain : Image → Remains D g → Image → Type 0
+  MayRemain before (Closed closed) after = MayClose closed after
+  MayRemain before (Unopened rest) after = MayStay before rest after
 
 module _ {D : Type 0} (g : disk.Ghosts D) where
-  -- One run, as `run_words` says of it, over files that held `before`, after which they hold `after`, whether it ended or a crash came.
-  pub record RunsOver (before : Image) (run : ProgramRun) (after : Image) : Type 0 where
-    pub acts : Acts g before run.action run.rows run.input run.output run.errors run.status
-    pub clean : StartsClean before run.action run.rows run.input run.output acts.ended acts.closed acts.does
-    pub left : MayRemain acts.closed after
+  -- One run, as `run_arguments` says of it, over files that held `before`: what it returned remains, and after it, whether it ended or a crash came, they hold `after`.
+  pub record RunsOver (before : Image) (run : ProgramRun g) (after : Image) : Type 0 where
+    pub follows : FollowsFrom g before run.read run.rows run.input run.output run.errors run.end
+    pub left : MayRemain before run.end.remains after
 
   -- runs, one after another
-  abbrev pub RunInOrder : Image → List ProgramRun → Image → Type 0
+  abbrev pub RunInOrder : Image → List (ProgramRun g) → Image → Type 0
   RunInOrder before [] after = after ≡ before
   RunInOrder before (run ∷ runs) after = (mid : Image) × RunsOver before run mid × RunInOrder mid runs after
 
@@ -177,19 +186,19 @@ module _ {D : Type 0} (g : disk.Ghosts D) where
   -- `init` that succeeds leaves files of the register of its season.
   abbrev pub InitMakesFile : Type 0
   InitMakesFile =
-      (before after : Image) (season : SeasonFacts) (closed : Result (Files D) (Error × FileStore D g)) → Creates before season (Ok exit.Done) closed → MayRemain closed after
+      (before after : Image) (season : SeasonFacts) (closed : Result (Files D) (Error × FileStore D g)) → Creates before season (Ok exit.Done) closed → MayClose closed after
       → IsFileOf (only_season season) after
 
   -- Where the files hold the register after some runs, they hold it after one more.
   abbrev pub OneMoreRun : Type 0
   OneMoreRun =
-      (first : Register) (runs : List (List (Command × Answer))) (before after : Image) (run : ProgramRun) → HoldsAfterRuns first runs before → RunsOver before run after
-      → (answered : List (Command × Answer)) × AnswersBy run.action run.rows run.input run.output answered × HoldsAfterRuns first (runs ++ answered ∷ []) after
+      (first : Register) (runs : List (List (Command × Answer))) (before after : Image) (run : ProgramRun g) → HoldsAfterRuns first runs before → RunsOver before run after
+      → (answered : List (Command × Answer)) × AnswersFor run.read run.end.status run.rows run.input run.output answered × HoldsAfterRuns first (runs ++ answered ∷ []) after
 
   -- Any number of runs over files of a register leave files of the one after all their commands that took effect.
   abbrev pub AllRuns : Type 0
   AllRuns =
-      (first : Register) (before after : Image) (runs : List ProgramRun) → IsFileOf first before → RunInOrder before runs after
+      (first : Register) (before after : Image) (runs : List (ProgramRun g)) → IsFileOf first before → RunInOrder before runs after
       → (answered : List (List (Command × Answer))) × AreAnswered runs answered × HoldsAfterRuns first answered after
 
   -- A run that opens such files finds such a register.

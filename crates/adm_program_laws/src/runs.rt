@@ -28,7 +28,7 @@ pub fn next_run<D: Disk + Drop, E: Disk + Drop>(desk: Desk<FileStore<D>>) -> Fil
 /// once it had opened the files: they hold the register to which the acknowledged commands of all
 /// runs lead, in order, with at most the one in flight of each run. It has the outcomes of each of
 /// their rounds, and each draw; each place has a cause. This follows from what
-/// `run_words` states of each run, on disks of any kind, so also on ones that fail from some call
+/// `run_arguments` states of each run, on disks of any kind, so also on ones that fail from some call
 /// on, which are the model of a crash. `run` adds one run, so that each may be over disks of a kind
 /// of its own, and `runs` any number. It does nothing.
 pub fn runs_in_order<D: Disk + Drop>()

@@ -64,6 +64,8 @@ pub fn create<S: Alter>(
     ensures in_use { result ≡ Err CreateFault.InUse → (conn.old.schema ≢ no_schema) × (conn.new ≡ conn.old) }
     ensures taken { conn.old.schema ≢ no_schema → result ≡ Err CreateFault.InUse }
     ensures err { OnErr result (LeavesOldOrNew season.now (state S.Store conn.old) (state S.Store conn.new)) }
+    // A wrong answer of the disk is not forgotten.
+    ensures clean { HasCleanDisk (state S.Store conn.new) → HasCleanDisk (state S.Store conn.old) }
 {
     if !creation::is_empty(conn.schema()) {
         return Err(CreateFault::InUse);

@@ -1,4 +1,4 @@
-use Rattle.std.proofs.Common.{◌∙◌, ◌≡◌, ◌+◌, ap, sym, length, [], ◌∷◌, ◌++◌, vec_len, rules, length-append}
+use Rattle.std.proofs.Common.{◌∙◌, ◌≡◌, ◌+◌, ap, sym, [], ◌∷◌, ◌++◌, vec_len, rules, length-append}
 use Rattle.std.proofs.lemmas.List.{append_assoc}
 use Rattle.adm_crashes.proofs.Runs.{Run-more}
 use Rattle.adm_crashes.proofs.handler.answer_all.Goals as goal

@@ -10,6 +10,7 @@ returns-in-Ok g c =
     record {
       left = c.create.new.conn;
       made = (refl, c.in-Ok.ensures.unused, c.in-Ok.ensures.ok);
+      clean = c.create.ensures.clean;
       closes = c.close_files.ensures;
     }
 
@@ -18,5 +19,6 @@ returns-in-Err g c =
     record {
       left = c.create.new.conn;
       made = (c.in-Err.fault, c.from.ensures, c.in-Err.ensures.err, λ e. c.in-Err.ensures.in_use (ap Err e), λ used. same_Err _ _ (Err c.in-Err.fault) refl (c.in-Err.ensures.taken used));
+      clean = c.create.ensures.clean;
       closes = c.close_files-in-Err.ensures;
     }
