@@ -1,2 +1,3 @@
 pub mod NextRun
 pub mod SuccessiveRuns
+pub mod Birth
