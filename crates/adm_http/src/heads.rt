@@ -22,14 +22,14 @@ pub(crate) const BODY_LIMIT: u64 = 1_048_576;
 
 /// A method that is served.
 #[derive(Clone, Copy)]
-pub(crate) enum Verb {
+pub enum Verb {
     Get,
     Post,
 }
 
 /// What a head decides.
 #[derive(Drop)]
-pub(crate) enum Verdict {
+pub enum Verdict {
     /// This status, and no more.
     Reject(StatusCode),
     /// The route is for this method alone.
@@ -42,7 +42,7 @@ pub(crate) enum Verdict {
 
 /// What the bytes of a request are so far.
 #[derive(Drop)]
-pub(crate) enum Judgement {
+pub enum Judgement {
     /// A whole head: its length, and what it decides.
     Whole(usize, Verdict),
     /// No head, and none can come.

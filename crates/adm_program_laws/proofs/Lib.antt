@@ -4,3 +4,4 @@ pub mod Remaining
 pub mod RunLemmas
 pub mod Nothing
 pub mod BirthLemmas
+pub mod ServingLemmas

@@ -1,3 +1,4 @@
 pub mod NextRun
 pub mod SuccessiveRuns
 pub mod Birth
+pub mod Exchanges

@@ -3,6 +3,8 @@
 
 mod birth;
 mod runs;
+mod serving;
 
 pub use birth::first_runs;
 pub use runs::{next_run, runs_in_order};
+pub use serving::served_is_kept;
