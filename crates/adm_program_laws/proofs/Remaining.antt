@@ -17,6 +17,7 @@ use Rattle.sqlite.specs.Start.{FindsIn}
 use Rattle.sqlite.specs.State.{State, HasCleanDisk}
 use Rattle.sqlite.specs.Tree.{Trees}
 use Rattle.sqlite.proofs.FileLemmas.{is_something}
+use Rattle.sqlite.proofs.Theorems.{opens_again}
 use Rattle.adm_types.specs.Seasons.{SeasonFacts}
 use Rattle.adm_types.specs.declared.commands.Command.{Command}
 use Rattle.adm_register.specs.State.{only_season, State as Register}
@@ -98,8 +99,13 @@ module _ {D : Type 0} {g : Ghosts D} (seen : SeenMayStay g) where
   remains conn (Ok files) closes after left =
       let copied = closes left.0 in
       (copied.was_clean, ∥∥₁_map (copied.left after left.1).both (λ holds. ((file_state conn).committed.trees, stays_at conn.store seen copied.was_open, holds)))
-  remains conn (Err (error, store)) closes after left =
-      (omega (arith, closes.quiet.clean, left.0), ∣ (left.1, closes.quiet.outcomes left.1 left.2, left.3) ∣₁)
+  remains conn (Err (error, store)) closes after left = (
+    omega (arith, closes.quiet.clean, left.0),
+    elim left.1 [
+      | inl may ↦ ∥∥₁_map (opens_again store may.0 (closes.sound left.0) after may.1) (λ w. (w.0, closes.quiet.outcomes w.0 w.1, w.2))
+      | inr it ↦ ∣ (it.0, closes.quiet.outcomes it.0 it.1, it.2) ∣₁
+    ],
+  )
 
   -- so files of the register, where each of those represents it
   pub still_file : (r : Register) (conn : Held (FileStore D g)) (closed : Result (Files D) (Error × FileStore D g)) → Closes conn closed → (after : Image) → MayClose closed after

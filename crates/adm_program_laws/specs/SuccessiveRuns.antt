@@ -10,7 +10,7 @@ use Rattle.sqlite_wal.specs.Files.{outcomes}
 use Rattle.sqlite_wal.specs.Reads.{AreClean}
 use Rattle.sqlite_trees.specs.View.{IsClean}
 use Rattle.sqlite_store.specs.declared.store.FileStore.{FileStore}
-use Rattle.sqlite_store.specs.FileStore.{view, recovers}
+use Rattle.sqlite_store.specs.FileStore.{state, view, recovers}
 use Rattle.sqlite_store.specs.Unopened.{state_of}
 use Rattle.sqlite.specs.declared.error.Error.{Error}
 use Rattle.sqlite.specs.declared.file.Leftover.TheVariants as leftover
@@ -150,11 +150,15 @@ PlacesAfterRuns =
 -- ---- runs over the files
 
 module _ {D : Type 0} {g : disk.Ghosts D} where
+  -- where its tables are numbered, what a crash may leave of the store; or files that hold a database which an open after a crash may find
+  abbrev pub MayHold : FileStore D g → Image → Type 0
+  MayHold store after = (IsTrue (view store).is_numbered × (state store).may_leave after) ⊎ ((db : Trees) × recovers store db × HoldsDatabase after db)
+
   -- On disks that returned what was written to them, a crash at the end of the run may leave this of the two files: what it may leave of the files that were closed; or,
-  -- where the close failed, as it does on disks that fail from some call on, files that hold a database which an open after a crash may find.
+  -- where the close failed, as it does on disks that fail from some call on, this of the store that remains.
   abbrev pub MayClose : Result (Files D) (Error × FileStore D g) → Image → Type 0
   MayClose (Ok files) after = AreClean g files.log files.db × outcomes g files.log files.db after
-  MayClose (Err (error, store)) after = IsClean (view store) × (db : Trees) × recovers store db × HoldsDatabase after db
+  MayClose (Err (error, store)) after = IsClean (view store) × MayHold store after
 
   -- The same of files that held the image `before` and were not opened as a register: what was not opened is as it was; what an open of `sqlite` that failed may leave,
   -- but for one that failed while it took over the log of a database; or files that hold a database which an open after a crash may find.
