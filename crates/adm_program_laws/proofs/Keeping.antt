@@ -52,7 +52,7 @@ use Rattle.adm_host.specs.declared.fault.Fault.TheVariants as fault
 use Rattle.adm_program.specs.Arguments.{FollowsFrom}
 use Rattle.adm_program.specs.Does.{Does, shown}
 use Rattle.adm_program.specs.Served.{ServesAs}
-use Rattle.adm_program_laws.specs.SuccessiveRuns.{AnswersInput, AnswersRows, AnswersNone, AnswersBy, AnswersFor}
+use Rattle.adm_program_laws.specs.SuccessiveRuns.{AnswersInput, AnswersRows, AnswersNone, AnswersBy, AnswersFor, ProgramRun}
 use Rattle.adm_program_laws.proofs.Remaining.{Leaves, not_opened, not_begun, desk_kept, not_created}
 
 -- ---- lines
@@ -210,58 +210,58 @@ module _ {D : Type 0} {g : disk.Ghosts D} where
       → status ≡ 1
   unopened_status image status e closed is it = error_status status e closed is (subst (λ (y : Result Exit Fault). IsErr y) (sym it.reported) refl)
 
-  module _ (seen : SeenMayStay g) (one : OneRegister) (bodies : AnswersBodies {C = Held (FileStore D g)} file_state) (image : Image) (status : ℕ) (rows : List ℕ → Stream) (input output : Stream) where
+  module _ (seen : SeenMayStay g) (one : OneRegister) (bodies : AnswersBodies {C = Held (FileStore D g)} file_state) (image : Image) (this : ProgramRun g) where
     -- the commands of the run, with their answers, and what it leaves
     pub record KeepsRun (read : Result Action WordsFault) (remained : Remains D g) : Type 0 where
       pub answered : List (Command × Answer)
-      pub are : AnswersFor read status rows input output answered
+      pub are : AnswersFor read this answered
       pub leaves : Leaves {g = g} image remained answered
 
-    module _ (e : Result Exit Fault) (closed : Closed g) (exits : status ≡ exit_code (exit_of_result (ending_of e (error_of closed)))) where
+    module _ (e : Result Exit Fault) (closed : Closed g) (exits : this.end.status ≡ exit_code (exit_of_result (ending_of e (error_of closed)))) where
       -- a register was not opened
-      unopened : (a : Action) → AnswersBy a status rows input output [] → IsNotOpened image e closed → KeepsRun (Ok a) (remains.Closed closed)
+      unopened : (a : Action) → AnswersBy a this [] → IsNotOpened image e closed → KeepsRun (Ok a) (remains.Closed closed)
       unopened a none it = record { answered = []; are = none; leaves = not_opened seen one image e closed it }
 
       -- a desk that was opened is as it was
-      unchanged : (a : Action) → AnswersBy a status rows input output [] → (desk last : Desk g) → IsOpened image desk → last ≡ desk → Closes last.conn closed → KeepsRun (Ok a) (remains.Closed closed)
+      unchanged : (a : Action) → AnswersBy a this [] → (desk last : Desk g) → IsOpened image desk → last ≡ desk → Closes last.conn closed → KeepsRun (Ok a) (remains.Closed closed)
       unchanged a none desk last opened same closes = record {
         answered = [];
         are = none;
         leaves = desk_kept seen one image desk last [] closed opened (stays_clean image desk opened last same) (keeps_none image desk opened last same) closes;
       }
 
-      no_answer : output.new ≡ output.old → IsNotOpened image e closed → AnswersNone status output []
-      no_answer unwritten it = (unopened_status image status e closed exits it, refl, unwritten)
+      no_answer : this.output.new ≡ this.output.old → IsNotOpened image e closed → AnswersNone this.end.status this.output []
+      no_answer unwritten it = (unopened_status image this.end.status e closed exits it, refl, unwritten)
 
       -- an error of a run of lines is one of its end
-      run_status : (ran : Result Run RunFault) → e ≡ of_lines ran → IsErr ran → status ≡ 1
+      run_status : (ran : Result Run RunFault) → e ≡ of_lines ran → IsErr ran → this.end.status ≡ 1
       run_status (Ok ran) reported err = absurd (false≢true err)
-      run_status (Err f) reported err = error_status status e closed exits (subst (λ (y : Result Exit Fault). IsErr y) (sym reported) refl)
+      run_status (Err f) reported err = error_status this.end.status e closed exits (subst (λ (y : Result Exit Fault). IsErr y) (sym reported) refl)
 
       -- the text of a document was printed, or none
-      printed : (a : Action) → AnswersBy a status rows input output [] → (wanted : Document) → Prints image wanted output e closed → KeepsRun (Ok a) (remains.Closed closed)
+      printed : (a : Action) → AnswersBy a this [] → (wanted : Document) → Prints image wanted this.output e closed → KeepsRun (Ok a) (remains.Closed closed)
       printed a none wanted (inl it) = unopened a none it.0
       printed a none wanted (inr (desk, opened, it)) = unchanged a none desk desk opened refl it.1
 
-      pub each : (a : Action) → Does image a rows input output e closed → KeepsRun (Ok a) (remains.Closed closed)
+      pub each : (a : Action) → Does image a this.rows this.input this.output e closed → KeepsRun (Ok a) (remains.Closed closed)
       each (action.Init file phase year days) did = record { answered = []; are = refl; leaves = not_created seen one image did.2 e closed did.6 }
       each (action.Do file) (inl it) = unopened (action.Do file) (inl (no_answer it.1.1 it.0)) it.0
       each (action.Do file) (inr (desk, opened, it)) =
-          let kept = kept_lines image desk opened it.after input output status it.run it.ends (run_status it.run it.reported) in
+          let kept = kept_lines image desk opened it.after this.input this.output this.end.status it.run it.ends (run_status it.run it.reported) in
           record { answered = kept.answered; are = inr kept.are; leaves = desk_kept seen one image desk it.after kept.answered closed opened kept.clean kept.kept it.closes }
       each (action.WhatIf file) (inl it) = unopened (action.WhatIf file) refl it.0
       each (action.WhatIf file) (inr (desk, opened, it)) =
-          unchanged (action.WhatIf file) refl desk it.after opened (kept_questions image desk opened it.after input output it.run it.ends) it.closes
+          unchanged (action.WhatIf file) refl desk it.after opened (kept_questions image desk opened it.after this.input this.output it.run it.ends) it.closes
       each (action.Import file csv) (unread, inl it) = unopened (action.Import file csv) (inl (no_answer it.1 it.0)) it.0
       each (action.Import file csv) (unread, inr (desk, opened, inl it)) =
-          let failed = error_status status e closed exits (subst (λ (y : Result Exit Fault). IsErr y) (sym it.1) refl) in
+          let failed = error_status this.end.status e closed exits (subst (λ (y : Result Exit Fault). IsErr y) (sym it.1) refl) in
           unchanged (action.Import file csv) (inl (failed, refl, it.3)) desk desk opened refl it.4
       each (action.Import file csv) (unread, inr (desk, opened, inr it)) =
-          let kept = kept_rows image desk opened status it.after (rows csv.now) output e it.ends (error_status status e closed exits) in
+          let kept = kept_rows image desk opened this.end.status it.after (this.rows csv.now) this.output e it.ends (error_status this.end.status e closed exits) in
           record { answered = kept.answered; are = kept.are; leaves = desk_kept seen one image desk it.after kept.answered closed opened kept.clean kept.kept it.closes }
       each (action.Serve file port count) (unread, inl it) = unopened (action.Serve file port count) (omega arith, tt) it.0
       each (action.Serve file port count) (unread, inr (desk, opened, it)) =
-          let leads = kept_served image desk opened bodies it.after port count output e it.ends in
+          let leads = kept_served image desk opened bodies it.after port count this.output e it.ends in
           let run = over_each (Handles file_state) desk it.after leads.0 leads.3 in
           record {
             answered = leads.0;
@@ -275,7 +275,7 @@ module _ {D : Type 0} {g : disk.Ghosts D} where
       each (action.Show file draw) (unread, it) = printed (action.Show file draw) refl (shown draw) it
 
     -- an action that failed before it began answers no command
-    none_by : (a : Action) → status ≡ 1 → output.new ≡ output.old → AnswersBy a status rows input output []
+    none_by : (a : Action) → this.end.status ≡ 1 → this.output.new ≡ this.output.old → AnswersBy a this []
     none_by (action.Do file) is same = inl (is, refl, same)
     none_by (action.Import file csv) is same = inl (is, refl, same)
     none_by (action.Serve file port count) is same = (omega arith, tt)
@@ -283,7 +283,7 @@ module _ {D : Type 0} {g : disk.Ghosts D} where
 
     -- whatever the arguments were read as
     pub each_end : (read : Result Action WordsFault) (errors : Stream) (remained : Remains D g)
-        → FollowsFrom g image read rows input output errors (record { status = status; remains = remained }) → KeepsRun read remained
+        → FollowsFrom g image read this.rows this.input this.output errors (record { status = this.end.status; remains = remained }) → KeepsRun read remained
     each_end (Ok a) errors (remains.Closed closed) it = each it.ended closed it.exits a it.does
     each_end (Ok a) errors (remains.Unopened left) it = record { answered = []; are = none_by a it.exits it.unwritten; leaves = not_begun {g = g} seen one image left it.left }
     each_end (Err fault) errors (remains.Closed closed) it = absurd it.1

@@ -61,7 +61,7 @@ module _ {D : Type 0} (g : Ghosts D) (seen : SeenMayStay g) (one : OneRegister) 
 
   pub one_more_run : OneMoreRun g
   one_more_run first runs before after run held it =
-      let did = each_end {g = g} seen one bodies before run.end.status run.rows run.input run.output run.read run.errors run.end.remains it.follows in (
+      let did = each_end {g = g} seen one bodies before run run.read run.errors run.end.remains it.follows in (
         did.answered,
         did.are,
         ∥∥₁_elim held squash₁ (λ was. ∥∥₁_map (did.leaves was.0 was.2 after it.left) (λ now. (

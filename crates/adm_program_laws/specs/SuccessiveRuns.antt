@@ -95,22 +95,22 @@ abbrev pub AnswersNone : ℕ → Stream → List (Command × Answer) → Type 0
 AnswersNone status output answered = (status ≡ 1) × (answered ≡ []) × (output.new ≡ output.old)
 
 -- `do` answers commands in its lines or none, `import` one of all rows or none, `serve` at most as many as it serves requests, each of which some body is, and the others none
-abbrev pub AnswersBy : Action → ℕ → (List ℕ → Stream) → Stream → Stream → List (Command × Answer) → Type 0
-AnswersBy (action.Do file) status rows input output answered = AnswersNone status output answered ⊎ AnswersInput status input output answered
-AnswersBy (action.Import file csv) status rows input output answered = AnswersNone status output answered ⊎ AnswersRows status (rows csv.now) output answered
-AnswersBy (action.Serve file port count) status rows input output answered =
+abbrev pub AnswersBy : {D : Type 0} {g : disk.Ghosts D} → Action → ProgramRun g → List (Command × Answer) → Type 0
+AnswersBy (action.Do file) run answered = AnswersNone run.end.status run.output answered ⊎ AnswersInput run.end.status run.input run.output answered
+AnswersBy (action.Import file csv) run answered = AnswersNone run.end.status run.output answered ⊎ AnswersRows run.end.status (run.rows csv.now) run.output answered
+AnswersBy (action.Serve file port count) run answered =
     (length answered ≤ count) × AllByRecursion IsOfBody answered
-AnswersBy other status rows input output answered = answered ≡ []
+AnswersBy other run answered = answered ≡ []
 
 -- so does a run by what its arguments were read as; by none where they are a usage error
-abbrev pub AnswersFor : Result Action WordsFault → ℕ → (List ℕ → Stream) → Stream → Stream → List (Command × Answer) → Type 0
-AnswersFor (Ok a) status rows input output answered = AnswersBy a status rows input output answered
-AnswersFor (Err fault) status rows input output answered = answered ≡ []
+abbrev pub AnswersFor : {D : Type 0} {g : disk.Ghosts D} → Result Action WordsFault → ProgramRun g → List (Command × Answer) → Type 0
+AnswersFor (Ok a) run answered = AnswersBy a run answered
+AnswersFor (Err fault) run answered = answered ≡ []
 
 -- these are the commands of each run, with their answers
 abbrev pub AreAnswered : {D : Type 0} {g : disk.Ghosts D} → List (ProgramRun g) → List (List (Command × Answer)) → Type 0
 AreAnswered [] [] = ⊤
-AreAnswered (run ∷ runs) (answered ∷ more) = AnswersFor run.read run.end.status run.rows run.input run.output answered × AreAnswered runs more
+AreAnswered (run ∷ runs) (answered ∷ more) = AnswersFor run.read run answered × AreAnswered runs more
 AreAnswered [] (answered ∷ more) = ⊥
 AreAnswered (run ∷ runs) [] = ⊥
 
@@ -197,7 +197,7 @@ module _ {D : Type 0} (g : disk.Ghosts D) where
   abbrev pub OneMoreRun : Type 0
   OneMoreRun =
       (first : Register) (runs : List (List (Command × Answer))) (before after : Image) (run : ProgramRun g) → HoldsAfterRuns first runs before → RunsOver before run after
-      → (answered : List (Command × Answer)) × AnswersFor run.read run.end.status run.rows run.input run.output answered × HoldsAfterRuns first (runs ++ answered ∷ []) after
+      → (answered : List (Command × Answer)) × AnswersFor run.read run answered × HoldsAfterRuns first (runs ++ answered ∷ []) after
 
   -- Any number of runs over files of a register leave files of the one after all their commands that took effect.
   abbrev pub AllRuns : Type 0
