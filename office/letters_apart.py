@@ -21,14 +21,15 @@ import sys
 import tempfile
 import threading
 import warnings
-from collections.abc import Callable
+from collections.abc import Callable, Sequence
 from typing import TYPE_CHECKING, Any
 
 import register_files
 from register_files import Refused
 
-from . import inputs, letter_fields, letter_pdf
-from .letter_fields import Letter
+from . import book, inputs, letter_fields, letter_pdf
+from .book import Page
+from .letter_fields import Cell, Letter
 from .served_copy import PR_SET_PDEATHSIG
 
 if TYPE_CHECKING:
@@ -128,6 +129,14 @@ def whole(parts: list[str], path: str, title: str, running: Running | None = Non
     ran({"what": "whole", "parts": parts, "path": path, "title": title}, {}, running)
 
 
+def merge(
+    rows: Sequence[Sequence[Cell]], purpose: str, path: str, running: Running | None = None,
+) -> None:
+    """Makes the workbook of a mail merge: all cells are texts."""
+    cells = [["" if it is None else str(it) for it in row] for row in rows]
+    ran({"what": "merge", "cells": cells, "purpose": purpose, "path": path}, {}, running)
+
+
 def made(source: Source, work: dict[str, Any], path: str, running: Running | None = None) -> Made:
     """What a work has made of a template."""
     given = {**work, "path": path, "name": source.name, "template": source.text,
@@ -204,8 +213,11 @@ def main() -> None:
     tempfile.tempdir = asked["scratch"]
     try:
         found = WORKS[asked["what"]](asked)
-    except (Refused, OSError) as error:
+    except Refused as error:
         found = {"refused": str(error)}
+    except OSError as error:
+        # (the text of an OSError has the path, which says nothing to an officer)
+        found = {"refused": f"a file cannot be written: {error.strerror or error}"}
     except MemoryError:
         found = {"refused": f"{asked.get('name', 'the file')}: the letters take too much memory"}
     except Exception as error:  # pylint: disable=broad-except
@@ -268,6 +280,14 @@ def join(asked: dict[str, Any]) -> dict[str, Any]:
     return {}
 
 
+def write_merge(asked: dict[str, Any]) -> dict[str, Any]:
+    """Writes the workbook of a mail merge."""
+    page = Page("letters", asked["purpose"], asked["cells"], {}, True)
+    with open(asked["path"], "xb") as file:
+        file.write(book.data([page], asked["purpose"]))
+    return {}
+
+
 WORKS: dict[str, Callable[[dict[str, Any]], dict[str, Any]]] = {
-    "letters": make_letters, "again": laid_out, "whole": join,
+    "letters": make_letters, "again": laid_out, "whole": join, "merge": write_merge,
 }

@@ -1,4 +1,5 @@
 """Which draws a letter announces, and whether their audit agrees: until then letters are drafts."""
+import contextlib
 import hashlib
 import json
 
@@ -62,12 +63,21 @@ class Audits:
                 and not it.audit.get("wrong", True)]
         return found | {it for it in numbers - found if is_agreed(register, held, it)}
 
+    def before(self, number: int) -> int | None:
+        """The last copy from before a draw. One that is gone, or cannot be read, keeps nobody from
+        the others.
+        """
+        for it in self.copies.listed():
+            with contextlib.suppress(Refused):
+                if len(self.copies.register(it.number).draws) == number - 1:
+                    return it.number
+        return None
+
     def audit(self, who: Person, register: Register, number: int) -> tuple[bool, str]:
         """Audits a draw that was not held here: by a copy from before it and a copy made now.
         Whether it agrees, and what was found.
         """
-        before = next((it.number for it in self.copies.listed()
-                       if len(self.copies.register(it.number).draws) == number - 1), None)
+        before = self.before(number)
         if before is None:
             raise Refused(f"there is no copy from before draw {number} here, so it cannot be"
                           " audited: letters that announce it stay drafts")

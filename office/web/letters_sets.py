@@ -4,8 +4,10 @@ restart, kept as a file until they are taken or a day has passed, and recorded a
 import dataclasses
 import datetime
 import json
+import logging
 import os
 import pathlib
+import secrets
 import shutil
 import sqlite3
 import threading
@@ -15,13 +17,12 @@ from typing import Any
 
 from register_files import Refused
 
-from office import book, days, inputs, letter_fields, letters, letters_apart, printed, texts
-from office.book import Page
+from office import days, inputs, letter_fields, letters, letters_apart, printed, texts
 from office.letter_fields import Letter, Writer
 from office.letters_apart import Form, Running
 from office.model import Register
 
-from . import flags, letters_sender, letters_whom
+from . import flags, letters_sender, letters_whom, plain
 from .copies import Copies
 from .desk import Desk
 from .history import History, now
@@ -45,6 +46,8 @@ FILES = {PDF: "letters.pdf", MERGE: "letters.xlsx"}
 SNAPSHOT = "letters.json"
 # the folder beside that of the sets that has what people previewed
 PREVIEWS = "previews"
+ENDED_BEFORE = "these letters were ended"
+BROKEN = "something went wrong in the application. Tell whoever maintains it"
 
 
 class Twice(Refused):
@@ -134,8 +137,10 @@ class Sets:
             row["sent"] or "", row["sent_by"] or "")
 
     def listed(self) -> list[Set]:
-        """All sets that are kept or were sent, the last first."""
-        self.sweep()
+        """All sets that are kept or were sent, the last first. What waits goes on, if it does not
+        already.
+        """
+        self.wake()
         rows = self.store.rows("SELECT * FROM letter_set ORDER BY id DESC LIMIT 100")
         return [self.of_row(row) for row in rows]
 
@@ -163,15 +168,18 @@ class Sets:
 
     def ask(self, who: Person, key: str, asked: Asked) -> int:
         """Asks for a set, and begins to make it. The same form makes one set, however often it is
-        sent; and so does the same question while its set is not made yet.
+        sent; and so does the same question while its set is not made yet. A form that was changed
+        and sent again makes another set.
         """
         text = json.dumps(dataclasses.asdict(asked))
         with self.lock:
             same = self.store.row(
-                "SELECT id FROM letter_set WHERE key=? OR asked=? AND state IN (?, ?)",
-                key, text, WAITS, RUNS)
+                "SELECT id FROM letter_set WHERE asked=? AND (key=? OR state IN (?, ?))",
+                text, key, WAITS, RUNS)
             if same:
                 return int(same["id"])
+            if not key or self.store.row("SELECT 1 FROM letter_set WHERE key=?", key):
+                key = secrets.token_urlsafe(12)
             self.see_room()
             self.history.add(who.name, "made letters", {
                 "for": asked.words, "children": asked.children, "kind": asked.kind,
@@ -267,7 +275,9 @@ class Sets:
         """Begins to make what waits, unless that is going on."""
         self.sweep()
         with self.lock:
-            if self.thread is None and self.next() is not None:
+            # (one that the store has failed is gone without a word)
+            is_working = self.thread is not None and self.thread.is_alive()
+            if not is_working and self.next() is not None:
                 self.thread = threading.Thread(target=self.work, daemon=True)
                 self.thread.start()
 
@@ -300,24 +310,36 @@ class Sets:
     def make(self, number: int) -> None:
         """Makes a set, or stores why it is not made."""
         try:
-            self.change(number, "state=?", RUNS)
-            found = self.get(number)
+            found = self.begun(number)
             self.room(number).mkdir(mode=0o700, exist_ok=True)
             rows = self.snapshot(found)
             self.write(self.get(number), rows)
             state, said = MADE, ""
-        except (Refused, OSError) as error:
+        except Refused as error:
             state, said = FAILED, str(error)
         except sqlite3.ProgrammingError:
+            # (the application has ended)
             raise
-        except Exception as error:  # pylint: disable=broad-except
-            state, said = FAILED, f"the letters were not made: {type(error).__name__}: {error}"
+        except (OSError, sqlite3.Error) as error:
+            state, said = FAILED, f"{plain.reason(error)}. {plain.ADVICE}"
+            logging.getLogger(__name__).exception("letters of set %d", number)
+        except Exception:  # pylint: disable=broad-except
+            state, said = FAILED, BROKEN
+            logging.getLogger(__name__).exception("letters of set %d", number)
         with self.lock:
             is_ended = self.get(number).state == ENDED
             if not is_ended:
                 self.change(number, "state=?, said=?, ended=?", state, said, now())
             if is_ended or state == FAILED:
                 self.clear(number)
+
+    def begun(self, number: int) -> Set:
+        """A set that is being made from now on, unless somebody has ended it."""
+        with self.lock:
+            if not self.get(number).is_open:
+                raise Refused(ENDED_BEFORE)
+            self.change(number, "state=?", RUNS)
+            return self.get(number)
 
     def clear(self, number: int) -> None:
         """Removes the file of a set, and what was stored of letters that were not sent."""
@@ -383,7 +405,7 @@ class Sets:
         path = self.room(found.number) / FILES[PDF]
         new = self.fresh(path)
         letters_apart.whole(parts, new, "Letters", self.running[found.number])
-        os.rename(new, path)
+        finish(new, path)
         for it in parts:
             os.unlink(it)
 
@@ -402,7 +424,7 @@ class Sets:
         if path.is_file() and there and there["many"] == len(rows):
             return str(path)
         if self.get(found.number).state != RUNS:
-            raise Refused("these letters were ended")
+            raise Refused(ENDED_BEFORE)
         source = dataclasses.replace(
             self.templates.source(self.templates.get(found.asked.template, found.asked.version)),
             values=self.sender.values(found.asked.sender))
@@ -411,7 +433,7 @@ class Sets:
         made = letters_apart.letters(
             source, given, found.asked.date, Form(found.is_draft, found.asked.is_double), new,
             self.running[found.number])
-        os.rename(new, path)
+        finish(new, path)
         self.keep(found, [(at, letter.child, row[1], row[2], text) for at, (letter, _), row, text
                           in zip(places, given, rows, made.texts)])
         return str(path)
@@ -438,15 +460,19 @@ class Sets:
             found.is_draft) else found.asked.words
         path = self.room(found.number) / FILES[MERGE]
         new = self.fresh(path)
-        with open(new, "xb") as file:
-            file.write(book.data([Page("letters", purpose, cells, {}, True)], purpose))
-        os.rename(new, path)
+        letters_apart.merge(cells, purpose, new, self.running[found.number])
+        finish(new, path)
         self.keep(found, [(at, letter.child, row[1], row[2], row[0]) for at, (letter, row)
                           in enumerate(zip(made, rows))])
 
     def sweep(self) -> None:
         """Removes the files that nobody will take any more."""
-        moment = datetime.datetime.now(datetime.timezone.utc)
+        # (no set begins meanwhile, whose folder would belong to none of those that are known)
+        with self.lock:
+            self.swept(datetime.datetime.now(datetime.timezone.utc))
+
+    def swept(self, moment: datetime.datetime) -> None:
+        """The same, as of a moment."""
         for row in self.store.rows("SELECT * FROM letter_set WHERE state IN (?, ?, ?)", MADE,
                                    FAILED, ENDED):
             if is_over(row, moment):
@@ -517,8 +543,14 @@ def in_words(day: str) -> str:
 def put(path: pathlib.Path, text: str) -> None:
     """Writes a file in one step."""
     new = path.with_suffix(".new")
-    with open(new, "w", encoding="utf-8") as file:
-        file.write(text)
-        file.flush()
+    new.write_text(text, "utf-8")
+    finish(str(new), path)
+
+
+def finish(new: str, path: pathlib.Path) -> None:
+    """Gives a file that is written its name, once it is on the disk: the store says that it is
+    there.
+    """
+    with open(new, "rb") as file:
         os.fsync(file.fileno())
     os.rename(new, path)

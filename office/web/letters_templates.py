@@ -99,10 +99,11 @@ class Templates:
 
     def get(self, number: int, version: int) -> Version:
         """A version."""
-        found = next((it for it in self.versions(number) if it.version == version), None)
-        if found is None:
+        row = self.store.row("SELECT * FROM letter_version JOIN letter_template ON id=template"
+                             " WHERE template=? AND version=?", number, version)
+        if row is None:
             raise Refused("there is no such template")
-        return found
+        return version_of(row)
 
     def listed(self) -> list[Version]:
         """The last versions of all templates: the one of the program, and then by name."""
@@ -112,8 +113,12 @@ class Templates:
 
     def source(self, found: Version) -> Source:
         """A version with its pictures."""
-        rows = {it["digest"]: it["data"] for it in self.store.rows("SELECT * FROM letter_picture")}
-        pictures = {name: bytes(rows[digest]) for name, digest in found.pictures.items()}
+        pictures = {}
+        for name, digest in found.pictures.items():
+            row = self.store.row("SELECT data FROM letter_picture WHERE digest=?", digest)
+            if row is None:
+                raise Refused(f"the picture {name} of {found.called} is not kept")
+            pictures[name] = bytes(row["data"])
         return Source(found.name, found.text, pictures)
 
     def save(

@@ -5,7 +5,7 @@ import collections
 import dataclasses
 import datetime
 import urllib.parse
-from collections.abc import Callable, Iterable, Mapping
+from collections.abc import Callable, Mapping
 
 from register_files import Refused
 from werkzeug.datastructures import MultiDict
@@ -14,7 +14,7 @@ from office import days, model, texts
 from office.model import Register
 
 from . import list_choice, worklists
-from .draws_terms import AUDITED, OPENED, Draw
+from .draws_store import DrawStore
 from .history import History
 from .letters_audits import announced
 from .store import Store
@@ -169,15 +169,13 @@ class Lists:
                                " AND copy IS NOT NULL ORDER BY id LIMIT 1", whom.value)
         return datetime.date.fromisoformat(whom.value), found["copy"] if found else None
 
-    def draw(self, whom: Whom, held: Iterable[Draw]) -> int | None:
+    def draw(self, register: Register, whom: Whom, held: DrawStore) -> int | None:
         """The copy from before the draw of which letters tell, by which they name a place that a
         child has given up for one that it prefers.
         """
         if whom.kind not in (OFFERS, PART):
             return None
-        number = int(whom.value)
-        return next((it.before for it in held if it.state in (AUDITED, OPENED)
-                     and it.terms.first <= number < it.terms.first + it.terms.fills), None)
+        return held.copy_before(register.draws[int(whom.value) - 1])
 
     def words(self, register: Register, whom: Whom) -> str:
         """Whom it names, as a heading has it."""
@@ -231,13 +229,16 @@ class Lists:
 
     def earlier(self, where: str) -> dict[tuple[int, str], str]:
         """Who has sent or made which letters, in words."""
-        found = {}
-        for it in self.store.rows(f"SELECT child, about, letter_set.* FROM letter JOIN letter_set"
-                                  f" ON set_id=letter_set.id WHERE {where}"):
+        said, found = dict[int, str](), {}
+        # (each set once: what was asked for has all its children, and so has each of its letters)
+        for it in self.store.rows(f"SELECT id, who, sent, sent_by FROM letter_set WHERE {where}"):
             day = it["sent"] and days.in_words(datetime.date.fromisoformat(it["sent"]))
-            found[it["child"], it["about"]] = (
-                f"sent on {day}, by {it['sent_by']}" if day else
-                f"made by {it['who']}, and not recorded as sent")
+            said[it["id"]] = (f"sent on {day}, by {it['sent_by']}" if day else
+                              f"made by {it['who']}, and not recorded as sent")
+        for it in self.store.rows(f"SELECT child, about, set_id FROM letter WHERE set_id IN"
+                                  f" (SELECT id FROM letter_set WHERE {where}) ORDER BY set_id"):
+            if it["set_id"] in said:
+                found[it["child"], it["about"]] = said[it["set_id"]]
         return found
 
 

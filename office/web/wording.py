@@ -8,6 +8,8 @@ from office.model import Draw, Place, Preference, Register
 from office.days import NOTICE
 
 FOREVER = "This cannot be undone: the school is not offered to the child again."
+# what is wrong with what was typed for a day
+NOT_A_DAY = "a day as 17 March 2025 or 17/3/2025"
 # what came of a school of a child's list
 STATES = {
     model.LEFT: "declined, lapsed or left", model.BEFORE: "before the first round",

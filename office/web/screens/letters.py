@@ -33,7 +33,6 @@ TYPES = {
 }
 # how often the page of a set that is being made looks again, in seconds
 LOOKS_AGAIN = 5
-WRONG_DAY = "a day as 17 March 2025 or 17/3/2025"
 
 
 @screen.record_once
@@ -124,7 +123,7 @@ def whom_page(given: MultiDict[str, str], said: str = "", status: int = 200) -> 
         rows=[(it, is_ticked(it, picked)) for it in rows], given=given,
         orders=[(name, words) for name, (words, _) in ORDERS.items()],
         templates=sets().templates.listed(), day=given.get("day_of_letters", today().isoformat()),
-        wrong_day="" if typed_day(given, "day_of_letters") else WRONG_DAY,
+        wrong_day="" if typed_day(given, "day_of_letters") else wording.NOT_A_DAY,
         lacks_place=lists().withdrawal(found)[0] and not lists().withdrawal(found)[1],
         key=given.get("key") or secrets.token_urlsafe(12)), status
 
@@ -171,7 +170,7 @@ def asked_in(form: MultiDict[str, str]) -> Asked:
         raise Refused("choose a template")
     template = sets().templates.get(numbers.read(number), numbers.read(version))
     withdrawn, copy = lists().withdrawal(found)
-    copy = copy or lists().draw(found, parts().draws.listed())
+    copy = copy or lists().draw(register, found, parts().draws)
     words = lists().words(register, found)
     if len(picked) < len(there):
         words = f"{words}, {len(picked)} of {len(there)}"

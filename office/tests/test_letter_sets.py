@@ -1,0 +1,266 @@
+"""Sets of letters without a register: what ends, fails, comes twice or meets a sweep; and that what
+is read of the store does not grow with all that was sent before.
+"""
+import dataclasses
+import io
+import logging
+import os
+import pathlib
+import threading
+import time
+import tracemalloc
+from collections.abc import Callable, Iterator
+from typing import Any
+from unittest import mock
+
+import openpyxl
+import pytest
+from register_files import Refused
+
+from office import letters_apart
+from office.letters_apart import Running
+from office.web import letters_audits, letters_sets, people
+from office.web.history import History
+from office.web.letters_audits import Audits
+from office.web.letters_sets import Asked, Sets
+from office.web.letters_templates import Templates
+from office.web.letters_whom import Lists
+from office.web.store import Store
+
+JANE = people.Person("jane", "officer")
+ASKED = Asked("Offers", [1, 2], 1, 1, "2025-03-03", "pdf")
+# long ago, of a set that nobody looks for
+BEFORE = "2025-03-03T09:00:00.000+00:00"
+
+
+class Office:
+    """The sets of an application whose register does not answer."""
+
+    def __init__(self, folder: pathlib.Path) -> None:
+        self.store = Store(str(folder / "office.db"))
+        self.history = History(str(folder / "history.jsonl"))
+        self.desk = mock.MagicMock()
+        self.desk.settle.side_effect = Refused("the register does not answer now")
+        self.templates = Templates(self.store, self.history)
+        assert self.templates.standard() == 1
+        self.sets = Sets(self.store, self.history, self.desk, mock.MagicMock(), self.templates,
+                         mock.MagicMock(), folder / "letters")
+
+    def add(self, state: str, **columns: object) -> int:
+        """A set in a state."""
+        asked = letters_sets.json.dumps(dataclasses.asdict(ASKED))
+        names = {"key": os.urandom(8).hex(), "who": "jane", "at": letters_sets.now(),
+                 "asked": asked, "state": state, "total": 2, **columns}
+        with self.store.writing() as db:
+            made = db.execute(
+                f"INSERT INTO letter_set ({', '.join(names)}) VALUES"
+                f" ({', '.join('?' * len(names))})", tuple(names.values()))
+        return made.lastrowid or 0
+
+    def make(self, number: int) -> letters_sets.Set:
+        """A set after its turn, in this thread."""
+        self.sets.running[number] = Running()
+        self.sets.make(number)
+        return self.sets.get(number)
+
+
+@pytest.fixture(name="office")
+def office_fixture(tmp_path: pathlib.Path) -> Iterator[Office]:
+    """The sets of an application."""
+    found = Office(tmp_path)
+    yield found
+    found.store.close()
+    found.history.close()
+
+
+def waited(is_there: Callable[[], bool]) -> None:
+    """Returns when something is so."""
+    end = time.monotonic() + 60
+    while not is_there():
+        assert time.monotonic() < end
+        time.sleep(0.01)
+
+
+def test_a_set_that_was_ended_before_its_turn_stays_ended(office: Office) -> None:
+    """The turn was given to it already, and nothing is made of it."""
+    number = office.add(letters_sets.ENDED)
+    assert office.make(number).state == letters_sets.ENDED
+    office.desk.settle.assert_not_called()
+    assert not office.sets.room(number).exists()
+
+
+def test_letters_go_on_after_the_store_has_failed(office: Office) -> None:
+    """The thread that made them ended with the error: another one goes on."""
+    stored = office.sets.change
+    silent = mock.patch.object(threading, "excepthook", lambda _: None)
+    with silent, mock.patch.object(
+            office.sets, "change", side_effect=Refused("the disk is full")):
+        one = office.sets.ask(JANE, "one", ASKED)
+        waited(lambda: not (office.sets.thread and office.sets.thread.is_alive()))
+        assert office.sets.get(one).state == letters_sets.WAITS
+    assert office.sets.change == stored
+    other = office.sets.ask(JANE, "two", dataclasses.replace(ASKED, words="Others"))
+    waited(lambda: office.sets.get(other).state == letters_sets.FAILED)
+    assert office.sets.get(one).state == letters_sets.FAILED
+    assert office.sets.get(one).said == "the register does not answer now"
+
+
+def test_what_failed_is_said_without_a_path_or_a_name_of_the_program(
+    office: Office, caplog: pytest.LogCaptureFixture,
+) -> None:
+    """The log has the rest."""
+    for error, said in (
+        (PermissionError(13, "Permission denied", "/var/lib/x/letters/1"), "permission denied"),
+        (OSError(28, "No space left on device", "/var/lib/x"), "its disk is full"),
+        (KeyError("child 17"), "something went wrong in the application"),
+    ):
+        office.desk.settle.side_effect = error
+        with caplog.at_level(logging.ERROR):
+            found = office.make(office.add(letters_sets.WAITS))
+        assert found.state == letters_sets.FAILED and found.said.startswith(said), found.said
+        assert "/" not in found.said and "Error" not in found.said and "17" not in found.said
+        assert found.said.endswith("ell whoever maintains it")
+        assert type(error).__name__ in caplog.text
+
+
+def test_a_form_that_was_changed_makes_another_set(office: Office) -> None:
+    """As one to which a browser went back: its key was used for other children."""
+    with mock.patch.object(office.sets, "wake"):
+        one = office.sets.ask(JANE, "key", ASKED)
+        assert office.sets.ask(JANE, "key", ASKED) == one
+        other = office.sets.ask(JANE, "key", dataclasses.replace(ASKED, children=[3]))
+        assert other != one and office.sets.get(other).asked.children == [3]
+        keyless = [office.sets.ask(JANE, "", dataclasses.replace(ASKED, children=[it]))
+                   for it in (4, 5)]
+    assert [office.sets.get(it).asked.children for it in keyless] == [[4], [5]]
+
+
+def test_a_sweep_leaves_the_folder_of_a_set_that_begins_meanwhile(office: Office) -> None:
+    """Which sets there are, and which folders, is of one moment."""
+    looked, rows = threading.Event(), office.store.rows
+    begun: list[int] = []
+
+    def slow(query: str, *values: object) -> Any:
+        found = rows(query, *values)
+        if query.startswith("SELECT id FROM letter_set WHERE state IN (?, ?, ?)"):
+            looked.set()
+            # (long enough for a set to begin, if it may)
+            time.sleep(0.3)
+        return found
+
+    def begin() -> None:
+        assert looked.wait(60)
+        begun.append(office.sets.ask(JANE, "key", ASKED))
+        office.sets.room(begun[0]).mkdir()
+
+    silent = [mock.patch.object(office.sets, it) for it in ("wake", "see_room")]
+    with mock.patch.object(office.store, "rows", slow), silent[0], silent[1]:
+        other = threading.Thread(target=begin)
+        other.start()
+        office.sets.sweep()
+        other.join()
+    assert begun and office.sets.room(begun[0]).is_dir()
+
+
+def test_who_has_a_letter_is_known_without_the_children_of_each_set(office: Office) -> None:
+    """With ten sets of 2,000 letters, each of which names all its children, a page takes no more
+    than their results.
+    """
+    many = 2000
+    asked = letters_sets.json.dumps(
+        {**dataclasses.asdict(ASKED), "children": list(range(1, many + 1))})
+    for at in range(1, 11):
+        number = office.add(letters_sets.MADE, asked=asked, sent="2025-03-03", sent_by="hal",
+                            recorded=BEFORE)
+        with office.store.writing() as db:
+            db.executemany(
+                "INSERT INTO letter (set_id, place, child, about, words, html)"
+                " VALUES (?, ?, ?, ?, '', x'')",
+                [(number, it, it + 1, f"draw {at} A offered") for it in range(many)])
+    tracemalloc.start()
+    found = Lists(office.store, office.history).earlier("sent IS NOT NULL")
+    _, most = tracemalloc.get_traced_memory()
+    tracemalloc.stop()
+    assert len(found) == 10 * many
+    assert found[many, "draw 10 A offered"] == "sent on 3 March 2025, by hal"
+    # (some 10 MB; with what was asked for beside each letter it is more than 200)
+    assert most < 40_000_000, most
+
+
+def test_of_two_letters_that_were_sent_the_last_is_named(office: Office) -> None:
+    """A draft and a set that is not made are no letters that were made."""
+    for state, columns in (("made", {}), ("made", {"who": "hal"}), ("made", {"is_draft": 1}),
+                           ("failed", {"who": "gwyn"})):
+        number = office.add(state, **columns)
+        with office.store.writing() as db:
+            db.execute("INSERT INTO letter (set_id, place, child, about, words, html)"
+                       " VALUES (?, 0, 7, 'draw 1 none', '', x'')", (number,))
+    lists = Lists(office.store, office.history)
+    assert lists.earlier("sent IS NULL AND state='made' AND is_draft=0") == {
+        (7, "draw 1 none"): "made by hal, and not recorded as sent"}
+    assert not lists.earlier("sent IS NOT NULL")
+
+
+def test_a_version_of_a_template_reads_its_own_pictures_alone(office: Office) -> None:
+    """Of all that were ever saved with a template."""
+    with office.store.writing() as db:
+        for name in ("old", "new"):
+            db.execute("INSERT INTO letter_picture VALUES (?, ?)", (name, name.encode()))
+        db.execute("INSERT INTO letter_template (id, name) VALUES (7, 'Mine')")
+        for version, pictures in ((1, '{"a.png": "old"}'), (2, '{"a.png": "new"}')):
+            db.execute("INSERT INTO letter_version VALUES (7, ?, 'x', ?, 'hal', ?)",
+                       (version, pictures, BEFORE))
+    with mock.patch.object(office.store, "rows", wraps=office.store.rows) as read:
+        found = office.templates.source(office.templates.get(7, 1))
+    assert found.pictures == {"a.png": b"old"}
+    asked = [call.args for call in read.mock_calls if "letter_picture" in call.args[0]]
+    assert asked == [("SELECT data FROM letter_picture WHERE digest=?", "old")]
+
+
+def test_an_audit_passes_over_a_copy_that_is_gone(office: Office) -> None:
+    """And over one from after the draw: it is by the last of those from before it, which is that of
+    number 3, and by the one that is made now.
+    """
+    draws, read = {6: 3, 5: 3, 3: 2, 2: 2}, list[str]()
+    copies = mock.MagicMock()
+    copies.listed.return_value = [mock.Mock(number=it) for it in (5, 4, 3, 2)]
+    copies.make.return_value, copies.path.side_effect = 6, lambda number: number
+
+    def register(number: int) -> Any:
+        if number not in draws:
+            raise Refused(f"there is no copy {number}")
+        return mock.Mock(draws=[None] * draws[number])
+
+    copies.register.side_effect = register
+    with mock.patch.object(letters_audits, "outcome_of", lambda *_: "as it was"), (
+            mock.patch.object(letters_audits.rehearsal, "rows_of", read.append)), (
+            mock.patch.object(letters_audits.audit, "audit", lambda *_: (["agrees"], True))):
+        found = Audits(office.store, mock.MagicMock(), copies)
+        assert found.audit(JANE, mock.Mock(), 3) == (True, "agrees")
+    assert read == ["3", "6"]
+
+
+def test_a_mail_merge_is_written_by_a_process_that_can_be_ended(tmp_path: pathlib.Path) -> None:
+    """It takes long, and the application goes on meanwhile. Its cells are texts, of which a
+    spreadsheet runs none.
+    """
+    path = tmp_path / "letters.xlsx"
+    letters_apart.merge([["child", "name", "offered"], [17, "=1+1", None]], "Offers", str(path))
+    page = openpyxl.load_workbook(io.BytesIO(path.read_bytes())).active
+    assert [[it.value for it in row] for row in page.iter_rows()] == [
+        ["child", "name", "offered"], ["17", "=1+1", None]]
+    assert page["B2"].data_type == "s"
+    ended = Running()
+    ended.end()
+    with pytest.raises(Refused):
+        letters_apart.merge([["child"], [1]], "Offers", str(tmp_path / "other.xlsx"), ended)
+    assert not (tmp_path / "other.xlsx").exists()
+
+
+def test_a_process_that_cannot_write_names_no_path(tmp_path: pathlib.Path) -> None:
+    """A file that is there already."""
+    path = tmp_path / "letters.xlsx"
+    path.touch()
+    with pytest.raises(Refused) as error:
+        letters_apart.merge([["child"], [1]], "Offers", str(path))
+    assert str(error.value) == "a file cannot be written: File exists"
