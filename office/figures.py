@@ -36,13 +36,11 @@ from typing import Any
 
 from register_files import Refused
 
-from . import charts, criteria, days, figure_counts, model, pages, rounds, sheet
+from . import charts, criteria, days, figure_counts, model, pages, rounds, sheet, texts
 from .figure_counts import LOWER, NONE, Figures, School, What
 from .run import Progress
 from .withheld import LEAST, MEANING, WITHHELD
 
-NTH = ("first", "second", "third", "fourth", "fifth", "sixth", "seventh", "eighth", "ninth",
-       "tenth")
 MOST_BARS = 40
 MAP_TEXT = (
     "A map with a triangle and the code of each school. {cells} squares of {side} metres are"
@@ -74,7 +72,7 @@ def percent(found: Figures, key: What, value: int) -> float | None:
 
 def name_of(what: int | str) -> str:
     """A row of the preferences."""
-    return "no place" if isinstance(what, str) else f"{NTH[what - 1]} preference"
+    return "no place" if isinstance(what, str) else f"{texts.nth(what)} preference"
 
 
 def keys_of(*years: Figures | None) -> list[int | str]:

@@ -9,6 +9,8 @@ LONGEST = 60
 # ends of lines, control characters, and those that turn the direction of the text around them
 UNSHOWN = re.compile("[\x00-\x1f\x7f-\x9f\u2028\u2029\u200e\u200f\u202a-\u202e\u2066-\u2069\ufeff]")
 CONTROL = re.compile("[\x00-\x1f\x7f-\x9f]")
+ORDINALS = ("first", "second", "third", "fourth", "fifth", "sixth", "seventh", "eighth", "ninth",
+            "tenth")
 # with these a cell begins that a spreadsheet runs, also in their wide forms
 RUN = tuple("=+-@\t\r\n\uff1d\uff0b\uff0d\uff20")
 
@@ -88,6 +90,11 @@ def metres(east: int, north: int) -> int:
 def count(number: int, one: str, many: str | None = None) -> str:
     """A number with its noun."""
     return f"{number:,} {one if number == 1 else many or one + 's'}"
+
+
+def nth(number: int) -> str:
+    """Which one of a list in words, from the first to the tenth: as many as a child has schools."""
+    return ORDINALS[number - 1]
 
 
 def listed(items: Iterable[str]) -> str:

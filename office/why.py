@@ -58,8 +58,6 @@ TURNED_DOWN = "its family had declined the place there, or not answered its offe
 LEFT = "its family had left the waiting list there"
 EITHER = ("its family had declined the place there, not answered its offer in time, or left the"
           " waiting list")
-ORDINALS = ("first", "second", "third", "fourth", "fifth", "sixth", "seventh", "eighth", "ninth",
-            "tenth")
 # a number of a school: of those before the child by their class, or another one by its name
 Counted = str | tuple[str, int]
 
@@ -171,7 +169,7 @@ def counted(seen: Round, number: int, found: School) -> School:
 
 def nth(preference: int) -> str:
     """A preference in words."""
-    return f"{ORDINALS[preference - 1]} preference"
+    return f"{texts.nth(preference)} preference"
 
 
 def hidden_of(found: School) -> set[Counted]:

@@ -2,7 +2,6 @@
 the explanation of a child in one of them.
 """
 import dataclasses
-import functools
 import pathlib
 
 from register_files import Refused
@@ -68,19 +67,10 @@ def kept_before(parts: Parts, draw: model.Draw) -> pathlib.Path | None:
 
 def before(parts: Parts, draw: model.Draw) -> Register:
     """The register from before a round."""
-    path = kept_before(parts, draw)
-    if path is None:
+    number = parts.draws.copy_before(draw)
+    if number is None or kept_before(parts, draw) is None:
         raise Refused(NO_COPY)
-    state = path.stat()
-    return read(str(path), state.st_size, state.st_mtime_ns)
-
-
-@functools.lru_cache(maxsize=1)
-def read(path: str, _size: int, _changed: int) -> Register:
-    """The register of a copy. One is kept, since the children of a draw are looked at one after
-    another.
-    """
-    return model.read_stored(path, called=COPY)
+    return dataclasses.replace(parts.copies.register(number), name=COPY)
 
 
 @dataclasses.dataclass(frozen=True)

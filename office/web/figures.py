@@ -11,13 +11,11 @@ from typing import Any
 
 from register_files import Refused
 
-from office import charts, criteria, figure_counts, figures
+from office import charts, criteria, figure_counts, figures, texts
 from office.figure_counts import LOWER, NONE, Figures, What
 from office.model import Register
 from office.withheld import LEAST, is_small
 
-from .draws import Draws
-from .draws_terms import OPENED
 from .history import now
 from .store import Store
 
@@ -76,8 +74,8 @@ def what_is(found: Figures, key: What, flags: Mapping[int, str]) -> tuple[str, s
     code = str(more[0])
     if kind == "applied":
         at = number(more[1])
-        nth = figures.NTH[at - 1] if at < LOWER else "lower"
-        return code, f"applications as {nth} preference"
+        which = texts.nth(at) if at < LOWER else "lower"
+        return code, f"applications as {which} preference"
     if kind == "class":
         words = criteria.in_words(found.schools[code], number(more[1]), flags)
         return code, f"offers to children {words}"
@@ -173,13 +171,6 @@ def made_of(row: sqlite3.Row) -> Made:
     """The figures of a row."""
     return Made(row["number"], row["who"], row["made"], row["digest"], json.loads(row["about"]),
                 row["taken_by"], row["taken"])
-
-
-def own_copy(draws: Draws, register: Register, round_: int) -> int | None:
-    """The number of the application's own copy from right before a round that it held."""
-    draw = next((it for it in register.rounds if it.round == round_), None)
-    return next((it.before for it in draws.listed() if draw and it.before and it.state == OPENED
-                 and it.terms.school is None and it.terms.first == draw.number), None)
 
 
 def made(sources: Sources, flags: dict[int, str]) -> tuple[bytes, dict[str, Any]]:

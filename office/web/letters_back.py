@@ -5,11 +5,13 @@ from register_files import Refused
 
 from office import texts
 
+from .desk import NAMES
 from .history import History
 from .letters_sets import Set, Sets
 from .people import Person
 
-NOTICES = {"remind": "a reminder", "lapse": "a withdrawal"}
+# what is recorded of a child after the letter from which its days count
+NOTICES = ("remind", "lapse")
 MOST_REASON = 200
 
 
@@ -39,7 +41,7 @@ def noticed(history: History, children: set[int], since: str) -> str:
     for it in history.done():
         command = it.about.get("command", {})
         if it.at > since and command.get("cmd") in NOTICES and command.get("child") in children:
-            return f"{NOTICES[command['cmd']]} was recorded for child {command['child']} since"
+            return f"{NAMES[command['cmd']]} was recorded for child {command['child']} since"
     return ""
 
 

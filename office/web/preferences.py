@@ -12,8 +12,7 @@ from office.rules import LIMITS
 
 from .children import day_warnings
 from .staging_form import PREFERENCES
-from .what_if import NOT_A_DAY
-from .wording import day_of
+from .wording import NOT_A_DAY, day_of
 
 Command = dict[str, Any]
 STAYS = ("An application that is stored cannot be changed: no school is added to it, and the order"

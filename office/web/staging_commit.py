@@ -83,9 +83,9 @@ class Commit:
     @property
     def counts(self) -> Counts:
         """What would be stored, in numbers."""
-        closing = self.register.days[0]
         found = [it.row.fields for it in self.rows]
-        in_time = sum((days.read(it["day"]) or closing) <= closing for it in found)
+        applied = [day for it in found if (day := days.read(it["day"]))]
+        in_time = sum(map(self.register.is_in_time, applied))
         first = collections.Counter(it["preferences"].partition(";")[0] for it in found)
         return Counts(
             len(found), in_time, len(found) - in_time,

@@ -9,7 +9,7 @@ from office import days, worklists
 from office.model import Register
 from office.register_lists import Cell, Rows
 
-from .wording import day_of, draw_in_words, weekday
+from .wording import NOT_A_DAY, day_of, draw_in_words, weekday
 
 # those that are lines for a terminal
 ELSEWHERE = ("amend",)
@@ -95,7 +95,7 @@ def options(
             text = text or today.isoformat()
             day = day_of(text)
             values[it], words = day, weekday(day) if day else ""
-            wrong = "" if day else "a day as 17 March 2025 or 17/3/2025"
+            wrong = "" if day else NOT_A_DAY
         elif it == "child" and text:
             values[it], wrong = child_of(register, text)
             words = register.children[values[it]].name if not wrong else ""

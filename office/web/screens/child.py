@@ -79,7 +79,7 @@ def shown(register: Register, number: int) -> dict[str, Any]:
         "child": child, "register": register, "listed": listed(register, number),
         "place": wording.place(register, place), "deadline": wording.deadline(place),
         "applied": application.day if application else None,
-        "is_late": application is not None and application.day > register.days[0],
+        "is_late": application is not None and not register.is_in_time(application.day),
         "facts": children.facts_of(child, flags.flag_words),
     }
 
@@ -127,7 +127,7 @@ def day_typed() -> tuple[datetime.date, str, str]:
     if text is None:
         return today(), today().isoformat(), ""
     found = wording.day_of(text)
-    return found or today(), text, "" if found else "a day as 17 March 2025 or 17/3/2025"
+    return found or today(), text, "" if found else wording.NOT_A_DAY
 
 
 @screen.get(f"/<int:number>/<{NAMES}:name>")

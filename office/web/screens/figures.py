@@ -40,8 +40,7 @@ def index(said: str, wrong: str = "", typed: str = "") -> str:
     """The first page."""
     register = parts().desk.register()
     rounds = [(it, f"{draw_in_words(it)}, {days.in_words(it.day)}",
-               figures.own_copy(parts().draws, register, it.round or 0))
-              for it in reversed(register.rounds)]
+               parts().draws.copy_before(it)) for it in reversed(register.rounds)]
     return flask.render_template(
         "figures.html", rows=kept().listed(), rounds=rounds, said=said, wrong=wrong, typed=typed,
         copy=figures.COPY, last=figures.LAST, last_copy=figures.LAST_COPY)
@@ -62,15 +61,15 @@ def given(field: str, called: str) -> Register | None:
 def sources(typed: str) -> Sources:
     """What the figures that were asked for are made of."""
     register = parts().desk.now()
-    number = next((it.round for it in register.rounds if str(it.round) == typed), None)
-    if not number:
+    held = next((it for it in register.rounds if str(it.round) == typed), None)
+    if held is None or held.round is None:
         raise Refused("choose a round that was held")
     if is_given("last_copy") and not is_given("last"):
         raise Refused(f"{figures.LAST_COPY} needs {figures.LAST} beside it")
     copy = given("copy", figures.COPY)
-    if copy is None and (own := figures.own_copy(parts().draws, register, number)):
+    if copy is None and (own := parts().draws.copy_before(held)):
         copy = dataclasses.replace(parts().copies.register(own), name=figures.COPY)
-    return Sources(register, number, copy, given("last", figures.LAST),
+    return Sources(register, held.round, copy, given("last", figures.LAST),
                    given("last_copy", figures.LAST_COPY))
 
 
@@ -82,7 +81,7 @@ def make() -> Answer:
     try:
         page, about = figures.made(sources(typed), flags.present())
     except Refused as error:
-        return index("", f"Nothing was made: {sentence(str(error))}", typed), 422
+        return index("", sentence(f"Nothing was made: {error}"), typed), 422
     number = kept().add(person().name, page, about)
     made = found(number)
     guard.record("made figures", of=made.title, number=number, digest=made.digest,
