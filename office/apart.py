@@ -18,8 +18,9 @@ from . import inputs
 MOST_MEMORY = 2_000 * inputs.MB
 # wall-clock seconds, for a machine that does much else
 MOST_SECONDS = 4 * inputs.SECONDS
-# so many are at work at once: the others wait
-AT_ONCE = threading.BoundedSemaphore(2)
+# so many are at work at once; another one waits for so many seconds, so that the threads that serve
+# all screens do not all wait here
+AT_ONCE, MOST_WAIT = threading.BoundedSemaphore(2), MOST_SECONDS
 HERE = os.path.dirname(os.path.abspath(__file__))
 BEGIN = ("import sys; places, name = sys.argv[1:-1], sys.argv[-1]; sys.path[:0] = places;"
          " import importlib; importlib.import_module(name).main()")
@@ -39,14 +40,17 @@ def done(module: str, what: str, asked: dict[str, Any], data: bytes) -> bytes:
     """
     places = [os.path.dirname(HERE), os.path.dirname(os.path.abspath(register_files.__file__))]
     late = Refused(f"{what} takes more than {inputs.SECONDS} seconds")
+    if not AT_ONCE.acquire(timeout=MOST_WAIT):
+        raise Refused(f"{what} has not begun, as others take long: try again in a minute")
     try:
-        with AT_ONCE:
-            ran = subprocess.run(
-                [sys.executable, "-I", "-B", "-c", BEGIN, *places, module],
-                input=json.dumps(asked).encode() + b"\n" + data,
-                capture_output=True, check=False, timeout=MOST_SECONDS)
+        ran = subprocess.run(
+            [sys.executable, "-I", "-B", "-c", BEGIN, *places, module],
+            input=json.dumps(asked).encode() + b"\n" + data,
+            capture_output=True, check=False, timeout=MOST_SECONDS)
     except subprocess.TimeoutExpired as error:
         raise late from error
+    finally:
+        AT_ONCE.release()
     if ran.returncode in (-signal.SIGXCPU, -signal.SIGKILL):
         raise late
     if ran.returncode:
@@ -59,5 +63,7 @@ def given() -> tuple[dict[str, Any], bytes]:
     seconds = inputs.SECONDS + 10
     resource.setrlimit(resource.RLIMIT_AS, (MOST_MEMORY, MOST_MEMORY))
     resource.setrlimit(resource.RLIMIT_CPU, (seconds, seconds))
+    # (a core would have what somebody sent)
+    resource.setrlimit(resource.RLIMIT_CORE, (0, 0))
     asked, _, data = sys.stdin.buffer.read().partition(b"\n")
     return dict(json.loads(asked)), data

@@ -12,7 +12,7 @@ from typing import Any
 
 from register_files import Refused
 
-from . import texts
+from . import days, texts
 
 # what a cell has, as it is given; a text of the form YYYY-MM-DD is a day
 Value = str | int | float | datetime.date | None
@@ -22,7 +22,7 @@ WIDEST, WIDEST_UPRIGHT, FILLED, LINE = 60, 125, 18, 130
 # what no workbook can hold: control characters, halves of pairs, and two that are no characters
 UNWRITABLE = re.compile("[\x00-\x08\x0b\x0c\x0e-\x1f\ud800-\udfff\ufffe\uffff]")
 DAY = re.compile(r"[0-9]{4}-[0-9]{2}-[0-9]{2}")
-HEAD_COLOUR, LINE_COLOUR = "FFDDDDDD", "FF999999"
+HEAD_COLOUR, LINE_COLOUR, LINED = "FFDDDDDD", "FF999999", "lined"
 
 
 @dataclasses.dataclass
@@ -50,8 +50,9 @@ def library() -> ModuleType:
 
 def value_of(value: Value) -> Value:
     """A value as a cell has it: days of texts as days."""
-    if isinstance(value, str) and DAY.fullmatch(value):
-        return datetime.date.fromisoformat(value)
+    # (a name may have the form of a day, and be none)
+    if isinstance(value, str) and DAY.fullmatch(value) and (day := days.read(value)):
+        return day
     return UNWRITABLE.sub("\ufffd", value) if isinstance(value, str) else value
 
 
@@ -68,6 +69,7 @@ def fill(page: Any, rows: Iterable[Iterable[Value]], is_text: bool) -> None:
             if value is None or value == "":
                 continue
             cell = page.cell(at, column)
+            cell.style = LINED
             cell.value = value
             if isinstance(value, str):
                 cell.data_type = "s"
@@ -96,10 +98,10 @@ def set_out(page: Any, given: Page, title: str, styles: Any) -> None:
         if width == WIDEST:
             for cell in page[letter]:
                 cell.alignment = styles.Alignment(wrap_text=True, vertical="top")
-    line = styles.Side(style="thin", color=LINE_COLOUR)
     for row in page.iter_rows():
         for cell in row:
-            cell.border = styles.Border(bottom=line, left=line, right=line)
+            if not cell.has_style:
+                cell.style = LINED
     for cell in page[1]:
         cell.font = styles.Font(bold=True)
         cell.fill = styles.PatternFill("solid", start_color=HEAD_COLOUR)
@@ -116,12 +118,22 @@ def set_out(page: Any, given: Page, title: str, styles: Any) -> None:
     page.oddFooter.center.text = "&A, page &P of &N"
 
 
+def lined(styles: Any) -> Any:
+    """The style of all cells, with lines around them. (The lots of a round have 140,000 cells: with
+    a border for each of them a workbook takes four times as long.)
+    """
+    line = styles.Side(style="thin", color=LINE_COLOUR)
+    border = styles.Border(bottom=line, left=line, right=line)
+    return styles.NamedStyle(LINED, font=styles.fonts.DEFAULT_FONT, border=border)
+
+
 def data(pages: list[Page], title: str) -> bytes:
     """The bytes of a workbook of these pages. Where there are several, the first sheet lists
     them."""
     library_ = library()
     made = library_.Workbook()
     made.remove(made.active)
+    made.add_named_style(lined(library_.styles))
     # (a title may have what somebody typed, of which a workbook takes no control characters)
     title = texts.visible(title)
     made.properties.title, made.properties.creator = title, "admissions"

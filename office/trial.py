@@ -110,7 +110,7 @@ class Trial:
             progress.at(1)
             if after and self.plain.outcomes[self.number] != after.outcomes.get(self.number):
                 raise Refused(f"the round of {before.name} does not have the outcome of"
-                              f" {after.name}: run admissions-audit on them")
+                              f" {after.name}: an audit of both says where they differ")
             path = os.path.join(room, "changed.db")
             self.changed, _ = trial_registers.held_round(
                 program, path, before, schools, self.day, lots)

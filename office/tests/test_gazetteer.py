@@ -1,11 +1,15 @@
 """Gazetteers: files as authorities have them, of any form; each row that cannot be used is named;
 one replaces another whole; and points by latitude and longitude are by the published formulas.
 """
+import hashlib
 import io
 import math
+import os
+import pathlib
 import threading
 import time
 from collections.abc import Callable, Iterator
+from typing import Any
 
 import gazetteers
 import pytest
@@ -13,11 +17,14 @@ from applications import ORIGIN, Browser, Site, office_over
 from conftest import school
 from gazetteers import PATH, csv_of, read_in, receive, said, zipped
 from pages import Page
+from register_files import Refused
 from staged import workbook
 
 from office.web import gazetteer_rows, points, uploads
-from office.web.gazetteer import SETTING, Gazetteer, Lookup, Summary
+from office.web.gazetteer import GIVEN, SETTING, Gazetteer, Lookup, Summary
+from office.web.history import History
 from office.web.staging_tools import Tools
+from office.web.store import Store
 
 # in the middle of a town, by which swapped columns are seen
 TOWN = [{**school("OAK", east=430100), "north": 210200},
@@ -441,6 +448,35 @@ def test_a_file_that_fails_leaves_the_one_before(
     assert found.status_code == 409 and "No space left" in said(found)
     assert find(office, "100023336956") == (430000, 210000)
     assert not [it for it in gazetteer(office).folder.iterdir() if it.name.startswith(".new")]
+
+
+def test_a_file_that_ends_in_the_middle_never_has_the_name_of_another(
+        tmp_path: pathlib.Path, monkeypatch: pytest.MonkeyPatch) -> None:
+    """The application ends at each step at which a name is given, while another file is there: what
+    is there then is whole, or nothing is.
+    """
+    store = Store(str(tmp_path / "office.db"))
+    history = History(str(tmp_path / "history.jsonl"))
+    replace = os.replace
+    for at in (1, 2):
+        folder, calls = tmp_path / str(at), list[object]()
+        made = Gazetteer(folder, store, history)
+        made.receive("jane", "old.csv", io.BytesIO(DATA))
+
+        def ended(*given: Any, last: int = at, calls: list[object] = calls) -> None:
+            calls.append(given)
+            if len(calls) == last:
+                raise OSError(28, "No space left on device")
+            replace(*given)
+
+        with monkeypatch.context() as patch, pytest.raises(Refused):
+            patch.setattr("office.web.gazetteer.os.replace", ended)
+            made.receive("jane", "new.csv", io.BytesIO(csv_of(HEAD, "5,a,AB1 2CD,430000,210000")))
+        given = Gazetteer(folder, store, history).given()
+        data = (folder / GIVEN).read_bytes() if given else b""
+        assert given is None or given.digest == hashlib.sha256(data).hexdigest(), given
+    store.close()
+    history.close()
 
 
 def test_an_authority_of_300_000_addresses_is_read_in(

@@ -2,6 +2,7 @@
 is read of the store does not grow with all that was sent before.
 """
 import dataclasses
+import datetime
 import io
 import logging
 import os
@@ -19,12 +20,14 @@ from register_files import Refused
 
 from office import letters_apart
 from office.letters_apart import Running
-from office.web import letters_audits, letters_sets, people
+from office.model import Draw
+from office.web import letters_audits, letters_sets, letters_whom, people
+from office.web.draws_store import DrawStore
 from office.web.history import History
 from office.web.letters_audits import Audits
 from office.web.letters_sets import Asked, Sets
 from office.web.letters_templates import Templates
-from office.web.letters_whom import Lists
+from office.web.letters_whom import Lists, Whom
 from office.web.store import Store
 
 JANE = people.Person("jane", "officer")
@@ -199,6 +202,25 @@ def test_of_two_letters_that_were_sent_the_last_is_named(office: Office) -> None
     assert lists.earlier("sent IS NULL AND state='made' AND is_draft=0") == {
         (7, "draw 1 none"): "made by hal, and not recorded as sent"}
     assert not lists.earlier("sent IS NOT NULL")
+
+
+def test_letters_of_a_draw_are_by_its_own_copy_alone(office: Office) -> None:
+    """Draw 1 was held here on 3 March, and then by another way on another day, or as a fill: of
+    that one no copy is known.
+    """
+    with office.store.writing() as db:
+        db.execute("INSERT INTO copy (number, purpose, asked) VALUES (7, 'before draw 1', ?)",
+                   (BEFORE,))
+        db.execute("INSERT INTO draw (first, school, fills, day, state, version, copy_before)"
+                   " VALUES (1, NULL, 1, '2025-03-03', 'opened', 9, 7)")
+    lists, held = Lists(office.store, office.history), DrawStore(office.store, office.history)
+    for round_, school, day, copy in (
+        (1, None, 3, 7), (1, None, 4, None), (None, "OAK", 3, None),
+    ):
+        register = mock.Mock(draws=[Draw(1, round_, school, datetime.date(2025, 3, day))])
+        for kind in (letters_whom.OFFERS, letters_whom.PART):
+            assert lists.draw(register, Whom(kind, "1"), held) == copy, (school, day)
+        assert lists.draw(register, Whom(letters_whom.REMINDED, "2025-03-17"), held) is None
 
 
 def test_a_version_of_a_template_reads_its_own_pictures_alone(office: Office) -> None:

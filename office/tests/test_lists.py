@@ -2,18 +2,20 @@
 by an address, and the views that a person saves. What is expected is worked out by hand.
 """
 import csv
+import datetime
 import html.parser
 import io
 import urllib.parse
 import zipfile
 from collections.abc import Iterator
 from typing import Any
+from unittest import mock
 
 import openpyxl
 import pytest
 from applications import ROUND, Browser, Site, child, office_over, town
 
-from office import texts
+from office import book, texts
 from office.register_lists import Rows
 from office.web import list_choice
 
@@ -250,6 +252,32 @@ def test_a_view_needs_a_name_that_can_be_read(browser: Browser, title: str) -> N
     assert found.status_code == 422 and "A name has 1 to 80 characters" in found.text
     assert Table(found.text).rows == [["3", CYD, "31 October 2024", "B", "offered"]]
     assert "Saved views" not in browser.get("/lists/").text
+
+
+def test_a_name_in_the_form_of_a_day_is_no_error_of_a_workbook() -> None:
+    """A day is a day; what is none, or none that the register takes, is a text."""
+    rows: Rows = [["name"], ["2025-03-03"], ["2025-02-30"], ["0000-00-00"]]
+    data = book.data([book.Page("children", "all", rows)], "All")
+    cells = [it.value for it in openpyxl.load_workbook(io.BytesIO(data)).active["A"]]
+    assert cells == ["name", datetime.datetime(2025, 3, 3), "2025-02-30", "0000-00-00"]
+
+
+def test_a_workbook_has_one_border_for_all_its_cells(monkeypatch: pytest.MonkeyPatch) -> None:
+    """A list of 20,000 rows is made while others wait: its cells share their style, and each has
+    its lines, its form of a day, or the mark of a text that a spreadsheet would run.
+    """
+    made = mock.Mock(side_effect=openpyxl.styles.Border)
+    monkeypatch.setattr(openpyxl.styles, "Border", made)
+    rows: Rows = [["name", "day"], ["=1+1", "2025-03-03"], *[["Bo", None]] * 500]
+    page = openpyxl.load_workbook(io.BytesIO(
+        book.data([book.Page("children", "all", rows)], "All"))).active
+    assert made.call_count == 1
+    for cell in (it for row in page.iter_rows() for it in row):
+        assert [getattr(cell.border, it).style for it in ("left", "right", "bottom")] == (
+            ["thin"] * 3), cell.coordinate
+    assert page["A2"].quotePrefix and not page["A3"].quotePrefix
+    assert page["B2"].number_format == "yyyy-mm-dd" and page["A1"].font.b
+    assert (page["A2"].font.name, page["A2"].font.sz, page["A2"].font.b) == ("Calibri", 11, False)
 
 
 def test_words_are_those_of_the_command(browser: Browser) -> None:

@@ -13,6 +13,7 @@ from typing import Any
 import pytest
 from applications import ORIGIN, Browser, Site, office_over, town
 from pages import Page, press
+from register_files import Refused
 
 from office.web import notes
 from office.web.people import Person
@@ -90,6 +91,22 @@ def test_a_note_is_added_struck_out_and_stays_readable(office: Site, jane: Brows
     about = [it.about for it in office.parts.history.entries if it.what == "added a note"][-1]
     digest = hashlib.sha256("Asked for <b>help</b>.\nSecond line \u202egnp".encode()).hexdigest()
     assert about == {"child": 1, "note": kept[0].number, "digest": digest}
+
+
+def test_a_note_is_typed_once_also_where_it_cannot_be_stored(
+    office: Site, jane: Browser, monkeypatch: pytest.MonkeyPatch,
+) -> None:
+    """A history or a store that takes nothing more: the text is there, to be sent again."""
+    def full(*_: object) -> None:
+        raise Refused("the history cannot be written (No space left on device)")
+
+    monkeypatch.setattr(office.parts.history, "add", full)
+    found = note(jane, "The father rang\non Monday.")
+    page = Page(found.text)
+    assert found.status_code == 409 and counts(office) == (0, 0)
+    assert page.said() == (
+        "Nothing was stored: the history cannot be written (No space left on device).")
+    assert "The father rang\non Monday.</textarea>" in found.text
 
 
 @pytest.mark.parametrize("text, said", (

@@ -11,6 +11,7 @@ import sqlite3
 import tempfile
 from collections.abc import Callable, Iterator
 from typing import Any
+from unittest import mock
 
 import pytest
 from applications import Site, site
@@ -19,7 +20,9 @@ from pages import Page
 from register_files import Refused
 from werkzeug.datastructures import FileStorage
 
-from office.web import copies, plain, rehearsal, uploads
+from office.web import copies, plain, rehearsal, trials, uploads, what_if
+from office.web.people import Person
+from office.web.trials import Asked, Run
 
 # what no text for an officer has
 FORBIDDEN = re.compile(
@@ -130,6 +133,26 @@ FORMS = {
     "/people/": {"what": "add", "name": "new.person", "role": "reader"},
     "/schools/new/": {"school": "ASH", "name": "Ash School", "pan": "30"},
 }
+
+
+def test_what_holds_a_round_again_is_said_plainly(
+    office: Site, monkeypatch: pytest.MonkeyPatch,
+) -> None:
+    """Where the program is not there, and where it says something of its own registers."""
+    monkeypatch.setenv("ADMISSIONS", "")
+    monkeypatch.setenv("PATH", "")
+    asked = Asked(mock.MagicMock(), None, {}, [], {})
+    with pytest.raises(Refused) as error:
+        office.parts.trials.begin(Person("jane", "officer"), asked)
+    assert is_plain(str(error.value)) and plain.ADVICE in str(error.value), error.value
+    with pytest.raises(Refused) as error, what_if.turn():
+        pass
+    assert is_plain(str(error.value)) and plain.ADVICE in str(error.value), error.value
+    run = Run(1, "jane", "", [], mock.MagicMock())
+    said = "it was not made: /tmp/admissions-trial-x/plain.db is no register"
+    monkeypatch.setattr(trials, "Trial", mock.MagicMock(side_effect=Refused(said)))
+    trials.work(run, asked)
+    assert run.is_over.is_set() and run.refused == "it was not made: a file is no register"
 
 
 @pytest.mark.parametrize("error", [

@@ -4,6 +4,7 @@ one import, of what was shown and nothing else.
 import datetime
 import io
 import pathlib
+import resource
 import sqlite3
 import threading
 from collections.abc import Callable, Iterator
@@ -284,6 +285,29 @@ def test_a_sheet_that_takes_too_long_ends_alone(monkeypatch: pytest.MonkeyPatch)
     monkeypatch.setattr(apart, "BEGIN", "raise SystemExit(3)")
     with pytest.raises(Refused, match="reading a.csv was not possible: it ended with status 3"):
         sheet_apart.read("a.csv", csv_of(), None, "")
+
+
+def test_a_sheet_waits_for_others_and_not_for_ever(monkeypatch: pytest.MonkeyPatch) -> None:
+    """The threads that serve all screens do not all wait for two sheets."""
+    monkeypatch.setattr(apart, "MOST_WAIT", 0.01)
+    with apart.AT_ONCE, apart.AT_ONCE:
+        with pytest.raises(Refused, match="reading a.csv has not begun, as others take long"):
+            sheet_apart.read("a.csv", csv_of(), None, "")
+    assert sheet_apart.read("a.csv", csv_of(), None, "").rows
+
+
+def test_a_process_that_is_ended_leaves_no_core(monkeypatch: pytest.MonkeyPatch) -> None:
+    """It would have what somebody sent, where the machine keeps cores."""
+    monkeypatch.setattr(apart, "BEGIN", apart.BEGIN.replace(
+        "import importlib; importlib.import_module(name).main()",
+        "import resource; from office import apart; apart.given();"
+        " print(*resource.getrlimit(resource.RLIMIT_CORE))"))
+    before = resource.getrlimit(resource.RLIMIT_CORE)
+    resource.setrlimit(resource.RLIMIT_CORE, (before[1], before[1]))
+    try:
+        assert apart.done("any", "a try", {}, b"") == b"0 0\n"
+    finally:
+        resource.setrlimit(resource.RLIMIT_CORE, before)
 
 
 def test_a_workbook_is_read_in_any_thread(office: Site, screens: Screens) -> None:

@@ -12,6 +12,7 @@ import pytest
 from applications import ROUND, SCHOOLS, Browser, Site, child, town
 from explained import after_round
 from pages import Page, press
+from register_files import Refused
 
 from office import trial
 from office.web import trials, what_if
@@ -255,6 +256,19 @@ def test_a_lot_that_was_not_drawn_leaves_it_open(
         page = Page(rita.get("/children/2/what-if/1?day=31/10/2024&what=day").text)
         assert "between a place at Alpha (A), its first preference, and no place." in page.said()
         assert "lots, which were not drawn" in page.said()
+
+
+def test_who_waits_too_long_for_an_answer_is_asked_to_try_again(
+    monkeypatch: pytest.MonkeyPatch,
+) -> None:
+    """The threads that serve all screens do not all wait for what two have asked for."""
+    monkeypatch.setattr(what_if, "MOST_WAIT", 0.01)
+    with what_if.turn(), what_if.turn():
+        with pytest.raises(Refused) as error, what_if.turn():
+            pass
+        assert str(error.value) == "others are being worked out: try again in a minute"
+    with what_if.turn():
+        pass
 
 
 def test_so_many_trials_are_kept(office: Site, monkeypatch: pytest.MonkeyPatch) -> None:

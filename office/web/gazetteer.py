@@ -199,6 +199,8 @@ class Gazetteer:
             given = Given(name, digest.hexdigest(), size, who, now())
             self.history.add(who, "received a gazetteer", {
                 "file": name, "bytes": size, "digest": given.digest})
+            # (whenever this ends, a file that is there never has the name of another one)
+            (self.folder / GIVEN).unlink(missing_ok=True)
             with self.new_file() as about:
                 about.write_text(json.dumps(dataclasses.asdict(given)), "utf-8")
                 os.replace(about, self.folder / ABOUT)

@@ -5,7 +5,6 @@ import dataclasses
 import threading
 from collections.abc import Iterator, Mapping
 
-import register_files as files
 from register_files import Refused
 
 from office import book, trial
@@ -15,6 +14,7 @@ from office.rules import LIMITS
 from office.trial import Trial
 from office.trial_registers import Program
 
+from . import plain
 from . import schools as cells_of_schools
 from .history import now
 from .people import Person
@@ -83,7 +83,7 @@ class Trials:
                 raise Refused(f"a trial of {present.who} is under way: {WAIT}")
             self.last += 1
             run = Run(self.last, who.name, now(), asked.words,
-                      Program(files.program(), MOST_SECONDS))
+                      Program(plain.program(), MOST_SECONDS))
             self.runs[run.number] = run
             for number in list(self.runs)[:-KEPT]:
                 del self.runs[number]
@@ -116,7 +116,7 @@ def work(run: Run, asked: Asked) -> None:
             list(held.criterion_rows()), list(held.child_rows()),
             trial.page(held, asked.words, is_drawn))
     except Refused as error:
-        run.refused = str(error)
+        run.refused = plain.said(str(error))
     except Exception:
         # (a thread that ends so would leave a trial that never ends)
         run.refused = BROKEN

@@ -1,11 +1,11 @@
 """What a round that was held would have given a child by another list, or by an application of
 another day: what was typed, what is wrong with it, and the answer in words.
 """
+import contextlib
 import dataclasses
 import threading
-from collections.abc import Mapping, Sequence
+from collections.abc import Iterator, Mapping, Sequence
 
-import register_files as files
 from register_files import Refused
 
 from office import texts, what_if
@@ -13,15 +13,27 @@ from office.model import Draw, Register
 from office.trial_registers import Program
 from office.why import nth
 
-from . import explanations
+from . import explanations, plain
 from .parts import Parts
-from .wording import day_of, weekday
+from .wording import NOT_A_DAY, day_of, weekday
 
 # wall-clock seconds; a day in time of a late application holds two rounds anew
 MOST_SECONDS = 120
-# so many are worked out at once
-AT_ONCE = threading.BoundedSemaphore(2)
-NOT_A_DAY = "a day as 17 March 2025 or 17/3/2025"
+# so many are worked out at once; another one waits for so many seconds, so that the threads that
+# serve all screens do not all wait here
+AT_ONCE, MOST_WAIT = threading.BoundedSemaphore(2), 20
+BUSY = "others are being worked out: try again in a minute"
+
+
+@contextlib.contextmanager
+def turn() -> Iterator[Program]:
+    """The program for one answer, once it is its turn; or a refusal where that takes too long."""
+    if not AT_ONCE.acquire(timeout=MOST_WAIT):
+        raise Refused(BUSY)
+    try:
+        yield Program(plain.program(), MOST_SECONDS)
+    finally:
+        AT_ONCE.release()
 
 
 class NotThere(Refused):
@@ -87,8 +99,7 @@ def typed(found: Setting, given: Mapping[str, str]) -> Typed:
 
 def by_list(found: Setting, codes: Sequence[str]) -> list[str]:
     """The answer to another list, in sentences."""
-    with AT_ONCE:
-        program = Program(files.program(), MOST_SECONDS)
+    with turn() as program:
         school = what_if.by_list(program, found.before, found.after, found.child, codes)
     had = found.after.outcomes[found.draw.number][found.child]
     listed = ", ".join(codes) or "no school of its list"
@@ -105,8 +116,7 @@ def by_day(found: Setting, text: str) -> tuple[list[str], str]:
     day = day_of(text)
     if day is None:
         return [], NOT_A_DAY
-    with AT_ONCE:
-        program = Program(files.program(), MOST_SECONDS)
+    with turn() as program:
         span = what_if.by_day(program, found.before, found.after, found.child, day)
     applied = found.before.applications[found.child].day
     said = [f"By an application of {weekday(day)}: {found.got(span.best)}."]

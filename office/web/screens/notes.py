@@ -36,7 +36,7 @@ def page(number: int, said: str = "", wrong: Unfit | None = None, status: int = 
     return flask.render_template(
         "notes.html", child=child, notes=parts().notes.of_child(number),
         files=parts().notes.files_of(number), said=said, is_bad=status != 200,
-        text=flask.request.form.get("text", "") if wrong else "",
+        text=flask.request.form.get("text", "") if status != 200 else "",
         wrong={wrong.field: sentence(str(wrong))} if wrong else {}, most_note=MOST_NOTE,
         most_file=MOST_FILE // inputs.MB, most_files=MOST_FILES, ends=ENDS), status
 
@@ -55,6 +55,8 @@ def add(number: int) -> Answer:
         parts().notes.add(person(), number, child.name, flask.request.form.get("text", ""))
     except Unfit as error:
         return page(number, "Nothing was stored: see the field that is marked.", error, UNFIT)
+    except Refused as error:
+        return page(number, sentence(f"Nothing was stored: {error}"), None, DIFFERS)
     return done(number, "note")
 
 
