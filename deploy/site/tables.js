@@ -11,10 +11,11 @@ function order(one, other, sign) {
   return sign * (typeof one === "number" && typeof other === "number" ? one - other : collator.compare(one, other));
 }
 
-// A field of CSV. A spreadsheet would take a text that begins with one of these signs for a formula: an apostrophe before it prevents that
+// A field of CSV. A spreadsheet would take a text that begins with one of these signs, also in their wide forms, for a formula: an apostrophe
+// before it prevents that
 function csvField(value) {
   let text = value === null || value === undefined ? "" : String(value);
-  if (typeof value !== "number" && /^[=+\-@\t\r]/.test(text)) text = "'" + text;
+  if (typeof value !== "number" && /^[=+\-@\t\r\n\uff1d\uff0b\uff0d\uff20]/.test(text)) text = "'" + text;
   return /[",\r\n]/.test(text) ? `"${text.replaceAll('"', '""')}"` : text;
 }
 
