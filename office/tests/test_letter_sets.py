@@ -4,6 +4,7 @@ is read of the store does not grow with all that was sent before.
 import dataclasses
 import datetime
 import io
+import json
 import logging
 import os
 import pathlib
@@ -18,12 +19,12 @@ import openpyxl
 import pytest
 from register_files import Refused
 
-from office import letters_apart
+from office import audit, letters_apart
 from office.letters_apart import Running
 from office.model import Draw
-from office.web import letters_audits, letters_sets, letters_whom, people
+from office.web import letters_audits, letters_sets, letters_whom, people, rehearsal
 from office.web.draws_store import DrawStore
-from office.web.history import History
+from office.web.history import History, now
 from office.web.letters_audits import Audits
 from office.web.letters_sets import Asked, Sets
 from office.web.letters_templates import Templates
@@ -51,8 +52,8 @@ class Office:
 
     def add(self, state: str, **columns: object) -> int:
         """A set in a state."""
-        asked = letters_sets.json.dumps(dataclasses.asdict(ASKED))
-        names = {"key": os.urandom(8).hex(), "who": "jane", "at": letters_sets.now(),
+        asked = json.dumps(dataclasses.asdict(ASKED))
+        names = {"key": os.urandom(8).hex(), "who": "jane", "at": now(),
                  "asked": asked, "state": state, "total": 2, **columns}
         with self.store.writing() as db:
             made = db.execute(
@@ -170,7 +171,7 @@ def test_who_has_a_letter_is_known_without_the_children_of_each_set(office: Offi
     than their results.
     """
     many = 2000
-    asked = letters_sets.json.dumps(
+    asked = json.dumps(
         {**dataclasses.asdict(ASKED), "children": list(range(1, many + 1))})
     for at in range(1, 11):
         number = office.add(letters_sets.MADE, asked=asked, sent="2025-03-03", sent_by="hal",
@@ -192,9 +193,8 @@ def test_who_has_a_letter_is_known_without_the_children_of_each_set(office: Offi
 
 def test_of_two_letters_that_were_sent_the_last_is_named(office: Office) -> None:
     """A draft and a set that is not made are no letters that were made."""
-    for state, columns in (("made", {}), ("made", {"who": "hal"}), ("made", {"is_draft": 1}),
-                           ("failed", {"who": "gwyn"})):
-        number = office.add(state, **columns)
+    for number in (office.add("made"), office.add("made", who="hal"),
+                   office.add("made", is_draft=1), office.add("failed", who="gwyn")):
         with office.store.writing() as db:
             db.execute("INSERT INTO letter (set_id, place, child, about, words, html)"
                        " VALUES (?, 0, 7, 'draw 1 none', '', x'')", (number,))
@@ -255,8 +255,8 @@ def test_an_audit_passes_over_a_copy_that_is_gone(office: Office) -> None:
 
     copies.register.side_effect = register
     with mock.patch.object(letters_audits, "outcome_of", lambda *_: "as it was"), (
-            mock.patch.object(letters_audits.rehearsal, "rows_of", read.append)), (
-            mock.patch.object(letters_audits.audit, "audit", lambda *_: (["agrees"], True))):
+            mock.patch.object(rehearsal, "rows_of", read.append)), (
+            mock.patch.object(audit, "audit", lambda *_: (["agrees"], True))):
         found = Audits(office.store, mock.MagicMock(), copies)
         assert found.audit(JANE, mock.Mock(), 3) == (True, "agrees")
     assert read == ["3", "6"]

@@ -43,7 +43,6 @@ FIELDS = (
     Field("signs", "Who signs", "as School Admissions, Exampleshire County Council",
           is_needed=True),
 )
-PARAGRAPHS = ("opening", "closing")
 
 
 class WrongFields(Refused):

@@ -36,11 +36,6 @@ class Choice:
     order: str = ""
     is_down: bool = False
 
-    @property
-    def is_filtered(self) -> bool:
-        """Whether some rows are left out."""
-        return bool(self.words or self.at or self.state)
-
     def address(self) -> dict[str, str | list[str]]:
         """The same in an address."""
         found: dict[str, str | list[str]] = {
