@@ -268,7 +268,8 @@ def test_a_workbook_has_one_border_for_all_its_cells(monkeypatch: pytest.MonkeyP
     """
     made = mock.Mock(side_effect=openpyxl.styles.Border)
     monkeypatch.setattr(openpyxl.styles, "Border", made)
-    rows: Rows = [["name", "day"], ["=1+1", "2025-03-03"], *[["Bo", None]] * 500]
+    rows: Rows = [["name", "day"], ["=1+1", "2025-03-03"]]
+    rows += [["Bo", None] for _ in range(500)]
     page = openpyxl.load_workbook(io.BytesIO(
         book.data([book.Page("children", "all", rows)], "All"))).active
     assert made.call_count == 1
