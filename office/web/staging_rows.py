@@ -48,10 +48,14 @@ class Staged:
         return f"form {self.number}" if self.is_form else f"row {self.number} of {self.file_name}"
 
     @property
+    def has_given_point(self) -> bool:
+        """Whether its point is that of its file."""
+        return self.point.source == FILE and not self.is_form
+
+    @property
     def point_words(self) -> str:
         """Where its point came from."""
-        is_given = self.point.source == FILE and not self.is_form
-        return f"from {self.file_name}" if is_given else self.point.words
+        return f"from {self.file_name}" if self.has_given_point else self.point.words
 
     @property
     def point_shown(self) -> str:
