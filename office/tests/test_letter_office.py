@@ -137,22 +137,24 @@ def test_a_refused_template_is_shown_beside_the_version_in_use(office: Site) -> 
     assert 'id="differences"' not in head.get(path).text
 
 
-def test_a_question_stands_before_the_record(office: Site) -> None:
+def test_what_is_recorded_as_sent_is_beside_the_button(office: Site) -> None:
     """How many, of which draw, of which date; the day is that of the letters unless it is to come,
-    and is today's then.
+    and is today's then. Not before somebody has taken the file.
     """
     jane = office.browser("jane")
     path = made(jane, asked(jane, "offers", "1", child=["1", "2"]))
-    assert f'id="record" href="{path}/record"' in jane.get(path).text
-    page = page_of(jane, f"{path}/record")
-    for part in ("2 letters: Offers: round 1 of 3 March 2025, 2 of 5", "round 1: 2 letters",
-                 "<dd>3 March 2025</dd>", "Yes, record 2 letters as sent"):
+    page = page_of(jane, path)
+    for part in ("Letters: Offers: round 1 of 3 March 2025, 2 of 5", "round 1: 2 letters",
+                 "<dd>3 March 2025</dd>", ">Record 2 letters as sent</button>"):
         assert part in page, part
-    assert hidden(jane.get(f"{path}/record"), "day") == "2025-03-03"
+    assert hidden(jane.get(path), "day") == "2025-03-03"
+    found = jane.post(f"{path}/record", {"day": "3 March 2025", "count": "2"})
+    assert found.status_code == 400 and "Nobody has taken the file" in found.text
+    assert count(office, "letter_set WHERE sent IS NOT NULL") == 0
     today = datetime.date.today()
     later = (today + datetime.timedelta(days=3)).isoformat()
     path = made(jane, asked(jane, "offers", "1", child=["1"], day_of_letters=later))
-    assert hidden(jane.get(f"{path}/record"), "day") == today.isoformat()
+    assert hidden(jane.get(path), "day") == today.isoformat()
     found = jane.post(f"{path}/record", {"day": "someday", "count": "1"})
     assert found.status_code == 400 and 'value="someday"' in found.text
     assert 'id="day-error"' in found.text
@@ -160,7 +162,8 @@ def test_a_question_stands_before_the_record(office: Site) -> None:
 
 def record(browser: Browser, path: str, **more: str) -> None:
     """Records a set as sent."""
-    many = hidden(browser.get(f"{path}/record"), "count")
+    assert browser.get(f"{path}/file").status_code == 200
+    many = hidden(browser.get(path), "count")
     found = browser.post(f"{path}/record", {"day": "3 March 2025", "count": many, **more})
     assert found.status_code == 303, found.text
 

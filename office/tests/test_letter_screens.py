@@ -97,7 +97,8 @@ def recorded(
     browser: Browser, path: str, day: str = "3 March 2025", **more: str,
 ) -> tuple[int, str]:
     """The status and the page after 'Record as sent'."""
-    many = hidden(browser.get(f"{path}/record"), "count")
+    browser.get(f"{path}/file")
+    many = hidden(browser.get(path), "count")
     found = browser.post(f"{path}/record", {"day": day, "count": many, **more})
     return found.status_code, found.text
 
@@ -214,7 +215,7 @@ def test_a_file_is_kept_for_a_day_and_an_hour_after_it_was_taken(office: Site) -
     assert letter_pages(jane, one)
     assert jane.get(f"{other}/file").status_code == 409
     with store.writing() as db:
-        db.execute("UPDATE letter_set SET ended=?, taken=NULL WHERE id=1", (ago[25],))
+        db.execute("UPDATE letter_set SET ended=? WHERE id=1", (ago[25],))
     jane.get("/letters/")
     assert jane.get(f"{one}/file").status_code == 409
     assert list((office.parts.config.folder / "letters").iterdir()) == []

@@ -13,7 +13,7 @@ from applications import Browser, Site, site
 from conftest import child
 from draw_site import JANE
 from letter_site import (
-    NAMES, after_round, asked, audited, beside, count, hidden, letter_pages, made,
+    NAMES, after_round, asked, audited, beside, count, hidden, letter_pages, made, waited,
 )
 from register_files import Refused
 
@@ -97,6 +97,51 @@ def withdrawn(jane: Browser, office: Site, address: str) -> None:
         text = letter_pages(jane, made(jane, form))[0]
         assert "The place at Elm has ended" in text
         assert "our offer of 3 March 2025, of which we reminded you on 17 March 2025" in text
+
+
+def test_the_letters_of_a_row_are_made_by_themselves(office: Site, address: str) -> None:
+    """On the page of the row: taken there, and recorded there as sent, which is not done before
+    they were taken. One set for a row, however often it is looked at.
+    """
+    jane = office.browser("jane")
+    row = confirmed(jane, "remind", shown(jane, "remind", "17 March 2025", [2, 3])).location
+    page = waited(jane, row)
+    place = re.search(r'href="(/letters/sets/[0-9]+)/file">Take the file: 2 letters<', page)
+    assert place and "made, not recorded as sent" in page
+    assert "reminder of 17 March 2025: 2 letters" in page
+    path, given = place[1], {"day": "17 March 2025", "count": hidden(jane.get(row), "count")}
+    found = jane.post(f"{path}/record", given)
+    assert found.status_code == 400 and "Nobody has taken the file" in found.text
+    for number, text in zip((2, 3), letter_pages(jane, path)):
+        assert NAMES[number] in text
+        assert "We offered this place on 3 March 2025 and reminded you on 17 March 2025" in text
+    jane.post(row)
+    assert count(office, "letter_set") == 1
+    assert jane.post(f"{path}/record", given).status_code == 303
+    assert "sent on 17 March 2025, by jane" in jane.get(row).text
+    assert jane.get("/letters/whom?whom=row&value=1").text.count(
+        "sent on 17 March 2025, by jane") == 2
+    # those of withdrawals name the place that has ended; and a reader only sees that they are made
+    beside(office, address, [{"cmd": "accept", "child": 3, "school": "ELM"}])
+    row = confirmed(jane, "lapse", shown(jane, "lapse", "31 March 2025", [2])).location
+    page = waited(jane, row)
+    assert "Take the file: 1 letter<" in page and "withdrawal of 31 March 2025: 1 letter" in page
+    place = re.search(r'href="(/letters/sets/[0-9]+)/file"', page)
+    assert place and "The place at Elm has ended" in letter_pages(jane, place[1])[0]
+    seen = office.browser("rita", "reader").get(row).text
+    assert "made, not recorded as sent" in seen and "Take the file" not in seen
+
+
+def test_letters_that_nobody_can_send_are_not_made_by_themselves(office: Site) -> None:
+    """Where the office's address is not typed yet they would have that of the example."""
+    with office.parts.store.writing() as db:
+        db.execute("DELETE FROM letter_sender")
+    jane = office.browser("jane")
+    row = confirmed(jane, "remind", shown(jane, "remind", "17 March 2025", [2, 3])).location
+    page = waited(jane, row)
+    assert "2 of 2 reminders recorded" in page and count(office, "letter_set") == 0
+    assert "not made by themselves, as the office’s address is not typed yet" in page
+    assert 'id="letters" href="/letters/whom?whom=row&amp;value=1"' in page
 
 
 def test_what_changed_meanwhile_is_not_recorded(office: Site, address: str) -> None:

@@ -111,6 +111,12 @@ class Templates:
         rows = self.store.rows("SELECT id FROM letter_template ORDER BY name<>?, name", STANDARD)
         return [it for row in rows if (it := self.last(row["id"]))]
 
+    def usual(self) -> Version:
+        """The template that is chosen where nobody has chosen another one: of those that the office
+        has made the last by name, or the one of the program.
+        """
+        return self.listed()[-1]
+
     def source(self, found: Version) -> Source:
         """A version with its pictures."""
         pictures = {}

@@ -82,6 +82,12 @@ class Notices:
     children: tuple[int, ...]
     copy: int | None
 
+    @property
+    def words(self) -> str:
+        """What was recorded, as a heading has it."""
+        what = "Reminders" if self.kind == "remind" else "Withdrawals"
+        return f"{what} of {days.in_words(self.day)}"
+
 
 def read(given: Mapping[str, str]) -> Whom:
     """Whom a form or an address names."""
@@ -184,9 +190,7 @@ class Lists:
             what = "Offers" if whom.kind == OFFERS else "All who took part"
             return f"{what}: {draw_in_words(draw)} of {days.in_words(draw.day)}"
         if whom.kind == ROW:
-            row = self.row(whom.value)
-            what = "Reminders" if row.kind == "remind" else "Withdrawals"
-            return f"{what} of {days.in_words(row.day)}"
+            return self.row(whom.value).words
         if whom.kind in (REMINDED, WITHDRAWN):
             day = days.in_words(datetime.date.fromisoformat(whom.value))
             return f"{whom.kind.capitalize()} on {day}"

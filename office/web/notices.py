@@ -7,7 +7,7 @@ import hashlib
 import json
 import sqlite3
 import threading
-from collections.abc import Iterable
+from collections.abc import Callable, Iterable
 from typing import Any
 
 from register_files import Refused
@@ -115,8 +115,13 @@ def digest(kind: str, day: datetime.date, chosen: list[Due], marks: Marks) -> st
 class Notices:
     """The rows of one application, and which of them is being recorded."""
 
-    def __init__(self, store: Store, record: History, desk: Desk, copies: Copies) -> None:
+    def __init__(
+        self, store: Store, record: History, desk: Desk, copies: Copies,
+        letters: Callable[[Person, int], None],
+    ) -> None:
         self.store, self.history, self.desk, self.copies = store, record, desk, copies
+        # has the letters of a row made
+        self.letters = letters
         self.lock = threading.RLock()
         self.running: dict[int, threading.Thread] = {}
 
@@ -189,7 +194,7 @@ class Notices:
 
     def send_all(self, who: Person, number: int) -> None:
         """Copies the register where that was not done, and sends one after another, until the end
-        or until nothing can be sent.
+        or until nothing can be sent. The letters of those that are done follow.
         """
         try:
             self.settle(number)
@@ -206,11 +211,20 @@ class Notices:
             for it in row.notices:
                 if it.state == WAITS and not self.send(who, row, it):
                     return
+            if self.get(number).count(DONE):
+                self.write(who, number)
         except Refused as error:
             self.change(number, "said=?", str(error))
         except sqlite3.ProgrammingError:
             # (the application has ended)
             return
+
+    def write(self, who: Person, number: int) -> None:
+        """Has the letters of a row made. What is recorded stays so where they cannot be."""
+        try:
+            self.letters(who, number)
+        except Refused as error:
+            raise Refused(f"The letters were not made: {error}.") from error
 
     def send(self, who: Person, row: Row, it: Notice) -> bool:
         """Sends one, unless its answer has come into a pile. Whether the next can be sent."""

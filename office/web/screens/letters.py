@@ -122,7 +122,8 @@ def whom_page(given: MultiDict[str, str], said: str = "", status: int = 200) -> 
         has_sender=bool(sets().sender.number),
         rows=[(it, is_ticked(it, picked)) for it in rows], given=given,
         orders=[(name, words) for name, (words, _) in ORDERS.items()],
-        templates=sets().templates.listed(), day=given.get("day_of_letters", today().isoformat()),
+        templates=sets().templates.listed(), usual=sets().templates.usual(),
+        day=given.get("day_of_letters", today().isoformat()),
         wrong_day="" if typed_day(given, "day_of_letters") else wording.NOT_A_DAY,
         lacks_place=lists().withdrawal(found)[0] and not lists().withdrawal(found)[1],
         key=given.get("key") or secrets.token_urlsafe(12)), status
@@ -145,7 +146,7 @@ def make() -> Answer:
     form = flask.request.form
     try:
         asked = asked_in(form)
-        number = sets().ask(person(), form.get("key", "")[:40], asked)
+        number = sets().ask(person(), f"form {form.get('key', '')[:40]}", asked)
     except Refused as error:
         return whom_page(form, sentence(str(error)), 400)
     return flask.redirect(flask.url_for("letters.one", number=number), 303)
@@ -194,15 +195,24 @@ def one(number: int) -> Answer:
     return set_page(number)
 
 
-def set_page(number: int, said: str = "", status: int = 200, reason: str = "") -> Answer:
-    """The page of a set."""
+def set_page(
+    number: int, said: str = "", status: int = 200, reason: str = "", day: str = "",
+    wrong: str = "",
+) -> Answer:
+    """The page of a set, with what was typed."""
     found = set_of(number)
-    template = sets().templates.get(found.asked.template, found.asked.version)
     return flask.render_template(
-        "letters_set.html", it=found, said=said, is_bad=status != 200, template=template,
-        looks_again=LOOKS_AGAIN, may_record=may_record(found), reason=reason,
+        "letters_set.html", it=found, said=said, is_bad=status != 200, template=template_of(found),
+        looks_again=LOOKS_AGAIN, recording=recording(found, day, wrong), reason=reason,
         rests=letters_back.rests(sets(), found) if found.sent else "",
         has_example=sets().has_example(found), children=letters_of(number)), status
+
+
+def template_of(found: Set) -> str:
+    """By what the letters of a set are made."""
+    if found.asked.kind != letters_sets.PDF:
+        return "mail merge"
+    return sets().templates.get(found.asked.template, found.asked.version).called
 
 
 def letters_of(number: int) -> list[sqlite3.Row]:
@@ -215,6 +225,17 @@ def may_record(found: Set) -> bool:
     """Whether the letters of a set can be recorded as sent."""
     is_there = found.state in (letters_sets.MADE, letters_sets.GONE) and found.made > 0
     return is_there and not found.sent and not found.is_draft and not sets().has_example(found)
+
+
+def recording(found: Set, day: str = "", wrong: str = "") -> dict[str, Any]:
+    """What is read before the letters of a set are recorded as sent: about what how many are, and
+    who has the same already; with the day that was typed. Nothing where they cannot be recorded.
+    """
+    if not may_record(found):
+        return {}
+    about = collections.Counter(it["words"].partition(":")[0] for it in letters_of(found.number))
+    return {"day": day or min(found.asked.date, today()).isoformat(), "wrong": wrong,
+            "about": sorted(about.items()), "doubled": sets().again(found.number)}
 
 
 @screen.get("/sets/<int:number>/file")
@@ -238,43 +259,23 @@ def end(number: int) -> Answer:
     return flask.redirect(flask.url_for("letters.show"), 303)
 
 
-@screen.get("/sets/<int:number>/record")
-@needs(RECORD)
-def ask_record(number: int) -> Answer:
-    """Asks whether the letters of a set were sent, and when."""
-    found = set_of(number)
-    if not may_record(found):
-        return flask.redirect(flask.url_for("letters.one", number=number), 303)
-    return record_page(found, min(found.asked.date, today()).isoformat())
-
-
-def record_page(
-    found: Set, day: str, said: str = "", status: int = 200, wrong: str = "",
-) -> Answer:
-    """The question with what was typed: how many letters, about what, and of which date."""
-    about = collections.Counter(it["words"].partition(":")[0] for it in letters_of(found.number))
-    return flask.render_template(
-        "letters_record.html", it=found, said=said, is_bad=status != 200, day=day, wrong=wrong,
-        about=sorted(about.items()), doubled=sets().again(found.number)), status
-
-
 @screen.post("/sets/<int:number>/record")
 @needs(RECORD)
 def record(number: int) -> Answer:
     """Records that the letters of a set were sent."""
     form = flask.request.form
-    found = set_of(number)
+    set_of(number)
     typed, count = form.get("day", ""), form.get("count", "")
     day = wording.day_of(typed)
     if day is None or day > today():
-        return record_page(found, typed, "Nothing was recorded: see the day.", 400,
-                           "the day on which they were sent, as 17 March 2025, and not one that is"
-                           " to come")
+        return set_page(number, "Nothing was recorded: see the day.", 400, "", typed,
+                        "the day on which they were sent, as 17 March 2025, and not one that is"
+                        " to come")
     try:
         sets().record(person(), number, day, numbers.read(count),
                       form.get("agreed") == "yes")
     except Twice as error:
-        return record_page(found, typed, sentence(str(error)), 409)
+        return set_page(number, sentence(str(error)), 409, "", typed)
     except Refused as error:
         return set_page(number, sentence(str(error)), 400)
     return flask.redirect(flask.url_for("letters.one", number=number), 303)

@@ -13,13 +13,14 @@ from office import days, texts
 from office.days import NOTICE
 from office.model import Register
 
-from .. import children, notices, numbers, wording
+from .. import children, letters_rows, notices, numbers, wording
 from ..guard import needs, parts, person
 from ..notice_marks import Marks
 from ..notices import LAPSE, REMIND, Due, Notices
-from ..people import READ, RECORD
+from ..people import READ, RECORD, Person
 from ..piles import DONE
 from ..wording import sentence
+from . import letters
 
 screen = flask.Blueprint("notices", __name__, url_prefix="/notices")
 Answer = str | Response | tuple[str, int]
@@ -32,8 +33,12 @@ LOOKS_AGAIN = 5
 
 def rows() -> Notices:
     """The rows of this application."""
-    found = parts()
-    made = Notices(found.store, found.history, found.desk, found.copies)
+    found, sets, lists = parts(), letters.sets(), letters.lists()
+
+    def write(who: Person, number: int) -> None:
+        letters_rows.ask(sets, lists, who, number, today())
+
+    made = Notices(found.store, found.history, found.desk, found.copies, write)
     return cast(Notices, flask.current_app.extensions.setdefault("notices", made))
 
 
@@ -180,9 +185,13 @@ def one(number: int) -> Answer:
             flask.abort(404)
         return flask.render_template("failed.html", reason=sentence(str(error)), status=503), 503
     names = {it.number: it.name for it in parts().desk.register().children.values()}
+    made = letters_rows.of_row(letters.sets(), number)
     return flask.render_template(
         "notices_row.html", row=row, title=TITLES[row.kind], what=WHAT[row.kind], names=names,
-        done=row.count(DONE), is_running=is_running, looks_again=LOOKS_AGAIN)
+        done=row.count(DONE), is_running=is_running,
+        looks_again=LOOKS_AGAIN, it=made, recording=letters.recording(made) if made else {},
+        template=letters.template_of(made) if made else "",
+        has_sender=bool(letters.sets().sender.number))
 
 
 @screen.post("/rows/<int:number>")
