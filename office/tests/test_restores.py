@@ -216,8 +216,9 @@ def test_a_copy_is_restored_and_what_is_ticked_is_sent_again(small: Machine) -> 
         since = text_of(room.hal.get(f"/restores/{number}").text, "since")
         assert "1 entry" in since and "data corrected" in since
         room.press(room.hal, number, "ask")
-        room.press(room.jane, number, "confirm")
-        room.press(room.hal, number, "open")
+        assert room.press(room.jane, number, "confirm").status_code == 303
+        # (nothing that was ticked was refused: it is open by itself)
+        assert room.state(number) == "opened" and not office.parts.desk.closed()
         before.see(room.now())
         assert {it.number for it in office.parts.history.done()} == {
             at[it] for it in ("amend", "raise_pan", "add_child", "apply", "import")}
@@ -566,13 +567,16 @@ def test_a_draw_with_a_wrong_day_is_held_again_with_its_lots(small: Machine) -> 
         sent(office, (JANE, {"cmd": "accept", "child": 4, "school": had[4]}),
              (JANE, {"cmd": "accept", "child": 3, "school": had[3]}), (JANE, ADDED))
         other = office.parts.history.entries[-6].number
-        page = room.hal.get(f"/draws/{number}").text
-        assert f'href="/copies/1/restore?draw={number}"' in html.unescape(page)
-        restore = room.begin(1, draw=number)
+        opened = Page(room.hal.get(f"/draws/{number}").text)
+        found = press(room.hal, "/copies/1/restore", opened,
+                      "This draw was wrong: close for all others, to restore copy 1")
+        restore = int(found.headers["Location"].rsplit("/", 1)[1])
         rows = office.parts.restores.sending.rows(office.parts.restores.get(restore))
         entries = {office.parts.history.entries[it.entry - 1].about["command"]["cmd"]: it
                    for it in rows}
-        assert [it.is_chosen for it in rows] == [False, True, True, True]
+        # (the copy has no offer yet that could be accepted)
+        assert [(it.is_chosen, it.state) for it in rows] == [
+            (False, "waits"), (False, "later"), (False, "later"), (True, "waits")]
         assert room.press(room.hal, restore, "ask", (entries["round"].entry,)).status_code == 409
         ticked = entries["accept"].entry, entries["add_child"].entry
         room.press(room.hal, restore, "ask", ticked)
@@ -595,6 +599,52 @@ def test_a_draw_with_a_wrong_day_is_held_again_with_its_lots(small: Machine) -> 
         assert room.press(room.hal, restore, "later", ticked[:1]).status_code == 303
         places = room.now().places
         assert (places[3].kind, places[4].kind) == ("accepted", "offered")
+
+
+def test_an_answer_to_an_undone_offer_waits_until_the_draw_is_held_again(small: Machine) -> None:
+    """Nothing is ticked then, and nobody is asked whether that is meant; the register is open by
+    itself; the draw begins again on the page of the restore; and its own page leads back to what
+    waits.
+    """
+    with small.office() as office:
+        room = Room(office)
+        brought(office, begun(office), "opened")
+        school = room.now().places[3].school
+        sent(office, (JANE, {"cmd": "accept", "child": 3, "school": school}))
+        entry = room.since()["accept"]
+        restore = room.begin(1, draw=1)
+        path = f"/restores/{restore}"
+        page = Page(room.hal.get(path).text)
+        row = page.tables["since"][2]
+        assert row[0] == "later" and row[3].startswith("child 3 ") and "refuses it" in row[3]
+        assert f"again-{entry}" not in page.stops
+        assert press(room.hal, path, page, "Ask to restore copy 1").status_code == 303
+        seen = " ".join(room.jane.get(path).text.split())
+        assert "0 entries are sent again, and 1 entry is not. 1 entry waits until" in seen
+        assert press(room.jane, path, Page(seen), "Restore copy 1").status_code == 303
+        assert room.state(restore) == "opened" and not office.parts.desk.closed()
+        assert room.now().draws == [] and not room.now().places
+
+        found = press(room.hal, path, Page(room.hal.get(path).text), "Begin draw 1: a round again",
+                      day="4 March 2025")
+        number = int(found.headers["Location"].rsplit("/", 1)[1])
+        assert str(office.parts.draws.get(number).terms.day) == "2025-03-04"
+        assert "Begin draw 1: a round again" not in Page(room.hal.get(path).text).buttons()
+        brought(office, number, "lots")
+        sup = office.browser("sup", "supervisor")
+        whole = sup.get(f"/lots/{number}").text
+        assert "Seal the lots of draw 1" in Page(whole).buttons()
+        assert "10 lots were sealed in the draw that this one repeats" in whole
+        assert "Lots, page 1 of 1" in Page(sup.get(f"/lots/{number}?page=1").text).tables
+        brought(office, number, "opened")
+        assert not room.now().places[3].kind == "accepted"
+        page = Page(room.hal.get(f"/draws/{number}").text)
+        assert "1 entry that came after the draw was held first" in page.by_id["unsent"]
+        assert f"{path}#since" in page.stops
+        page = Page(room.hal.get(path).text)
+        assert press(room.hal, path, page, "Send what is ticked").status_code == 303
+        assert room.now().places[3].kind == "accepted"
+        assert "unsent" not in Page(room.hal.get(f"/draws/{number}").text).by_id
 
 
 def held_again(room: Room, lots: dict[tuple[str, int], list[int]]) -> None:

@@ -4,7 +4,7 @@ leaves a restore in the state before the step or after it.
 """
 import contextlib
 import sqlite3
-from collections.abc import Callable, Iterable, Iterator
+from collections.abc import Callable, Iterable, Iterator, Mapping, Sequence
 
 from register_files import Refused
 
@@ -19,10 +19,11 @@ from .draws_second import made_since
 from .history import Entry, History
 from .people import Person
 from .restores_again import Sending
+from .restores_rehearsal import WOULD
 from .restores_since import Difference
 from .restores_terms import (
-    ASKED, CLOSED, CONFIRMED, COPIED, DONE, GIVEN_UP, OPENED, REFUSED, RESTORED, RESTORING, SENT,
-    UNTOUCHED, WAITS, Again, Restore, of_rows,
+    ASKED, CLOSED, CONFIRMED, COPIED, DONE, GIVEN_UP, LATER, OPENED, REFUSED, RESTORED, RESTORING,
+    SENT, UNTOUCHED, WAITS, Again, Restore, of_rows,
 )
 from .staging_commit import digest_of
 from .staging_rows import COMMITTED, OPEN
@@ -108,7 +109,8 @@ class Restores(StepStore[Restore]):
 
     def begin(self, who: Person, copy: int, draw: int | None = None) -> int:
         """Closes the register for all others to restore a copy, which must be whole. What is in
-        flight is ended first. All that came since is chosen where a draw was wrong, but for draws.
+        flight is ended first. Where a draw was wrong all that came since is chosen but for draws,
+        and for what the copy refuses: that rests on the draw, and is for later.
         """
         with self.lock, self.desk.lock:
             if other := self.present():
@@ -122,19 +124,30 @@ class Restores(StepStore[Restore]):
             self.desk.settle()
             self.desk.now()
             found = self.since(copy)
+            came = self.tried(copy, found) if draw else {}
             self.history.add(who.name, BEGAN, {"copy": copy, **({"draw": draw} if draw else {})})
-            return self.added(who, copy, draw, found)
+            return self.added(who, copy, draw, found, came)
 
-    def added(self, who: Person, copy: int, draw: int | None, found: Iterable[Entry]) -> int:
-        """Adds a restore, and returns its number."""
+    def tried(self, copy: int, found: Sequence[Entry]) -> dict[int, str]:
+        """What would become of each entry that can be sent again, in words."""
+        return restores_rehearsal.tried(
+            self.copies.path(copy), [it for it in found if not restores_since.why_not(it)])
+
+    def added(self, who: Person, copy: int, draw: int | None, found: Iterable[Entry],
+              came: Mapping[int, str]) -> int:
+        """Adds a restore, and returns its number. `came` is what would become of entries."""
         with self.store.writing() as db:
             number = db.execute(
                 "INSERT INTO restore (copy, state, version, draw) VALUES (?, ?, 0, ?)",
                 (copy, CLOSED, draw)).lastrowid or 0
-            db.executemany(
-                "INSERT INTO again (restore, entry, is_chosen, state) VALUES (?, ?, ?, ?)",
-                [(number, it.number, int(draw is not None and not restores_since.why_not(it)),
-                  WAITS) for it in found])
+            for it in found:
+                said = came.get(it.number, "")
+                is_chosen = said == WOULD
+                db.execute(
+                    "INSERT INTO again (restore, entry, is_chosen, state, said)"
+                    " VALUES (?, ?, ?, ?, ?)",
+                    (number, it.number, int(is_chosen), LATER if said and not is_chosen else WAITS,
+                     said))
             with self.moving(self.get(number), who, CLOSED):
                 pass
         return number
@@ -231,6 +244,15 @@ class Restores(StepStore[Restore]):
             with self.moving(found, who, OPENED, f"{done} of {all_of} sent again.") as db:
                 mark_staged(db, rows)
 
+    def open_whole(self, who: Person, number: int) -> None:
+        """Opens the register by itself where all that was chosen is stored: there is nothing to
+        decide. What was refused is read by somebody first.
+        """
+        found = self.get(number)
+        done, all_of = self.counts(self.sending.rows(found))
+        if found.state == SENT and done == all_of:
+            self.open(who, number, found.version)
+
     def give_up(self, who: Person, number: int, seen: int) -> None:
         """Ends a restore before the register was touched, and opens it."""
         with self.step(number, seen, *UNTOUCHED, RESTORING) as found:
@@ -266,7 +288,7 @@ class Restores(StepStore[Restore]):
 
     def later(self, restore: Restore) -> dict[int, str]:
         """What was not stored again, by its entry: why it cannot be sent now, or ""."""
-        rows = [it for it in self.sending.rows(restore) if it.state in (WAITS, REFUSED)]
+        rows = [it for it in self.sending.rows(restore) if it.state in (WAITS, LATER, REFUSED)]
         there, end = self.history.lineage(), restored_at(self.history, restore)
         since = {child_of(it): it for it in self.history.done()
                  if it.number > end and "again" not in it.about}

@@ -10,7 +10,7 @@ from .desk import LOST, UNSENT, Desk, Result
 from .history import ANSWER, SENDS, Entry, History
 from .people import Person
 from .records import came_of, ends_of
-from .restores_terms import DONE, REFUSED, SENDING, WAITS, Again, Restore, again_of
+from .restores_terms import DONE, LATER, REFUSED, SENDING, WAITS, Again, Restore, again_of
 from .store import Store
 
 # so long one request of a browser waits for it; the next one goes on
@@ -35,12 +35,15 @@ class Sending:
         return self.history.entries[row.entry - 1]
 
     def choose(self, restore: Restore, chosen: Mapping[int, str]) -> None:
-        """Keeps which of them are to be sent, and what would become of each."""
+        """Keeps which of them are to be sent, and what would become of each. What is for later
+        stays so unless it is chosen.
+        """
         with self.store.writing() as db:
             db.executemany(
-                "UPDATE again SET is_chosen=?, said=? WHERE restore=? AND entry=?",
-                [(int(it.entry in chosen), chosen.get(it.entry, ""), restore.number, it.entry)
-                 for it in self.rows(restore)])
+                "UPDATE again SET is_chosen=?, state=?, said=? WHERE restore=? AND entry=?",
+                [(int(it.entry in chosen), WAITS, chosen.get(it.entry, ""), restore.number,
+                  it.entry) for it in self.rows(restore)
+                 if it.entry in chosen or it.state != LATER])
 
     def change(self, restore: Restore, row: Again, query: str, *values: object) -> None:
         """Stores what became of one."""

@@ -14,8 +14,9 @@ IN_ORDER = (CLOSED, ASKED, CONFIRMED, COPIED, RESTORING, RESTORED, SENT, OPENED)
 ENDED = (OPENED, GIVEN_UP)
 # before the register is touched
 UNTOUCHED = IN_ORDER[:4]
-# what came since the copy: it was not sent yet, is being sent, is stored, or was refused
-WAITS, SENDING, DONE, REFUSED = "waits", "sending", "done", "refused"
+# what came since the copy: it was not sent yet; rests on the draw that was wrong, and is sent once
+# that is held again; is being sent, is stored, or was refused
+WAITS, LATER, SENDING, DONE, REFUSED = "waits", "later", "sending", "done", "refused"
 
 
 @dataclasses.dataclass(frozen=True)
@@ -96,5 +97,6 @@ STEPS = (
          " can read it."),
     Step(SENT, "Sent again",
          "What was ticked is sent in its first order. What the register refuses is shown."),
-    Step(OPENED, "Open for all", "Everybody can record again."),
+    Step(OPENED, "Open for all",
+         "Everybody can record again. Where all that was ticked is stored this follows by itself."),
 )

@@ -10,7 +10,7 @@ from werkzeug.wrappers import Response
 from office import days, texts
 from office.model import Register
 
-from .. import draws_again, draws_checks, draws_outcome, explanations, numbers
+from .. import draws_again, draws_checks, draws_outcome, explanations, numbers, restores_terms
 from ..draws import Draws, held_in, next_state
 from ..draws_lots import sheet_of
 from ..draws_second import alone_since, made_since
@@ -135,13 +135,30 @@ def draw_page(number: int, reason: str = "", status: int = 200) -> Answer:
         is_opened=draw.state == OPENED, halted="" if reason else draw.trouble,
         before=parts().draws.given_up_before(draw), is_explained=is_explained(draw, register),
         repeats=found_draw(draw.repeats) if draw.repeats else None,
-        may_undo=draw.state == OPENED and bool(draw.before),
+        may_undo=draw.state == OPENED and bool(draw.before), unsent=unsent_of(draw),
     ), status
 
 
 def action_of(draw: Draw, state: str) -> str:
     """The request of the next button, or ""."""
     return AGAIN if state and draw.state in FOLLOWED else ACTIONS.get(state, "")
+
+
+def unsent_of(draw: Draw) -> tuple[int, int] | None:
+    """The restore by which the draw that this one repeats was undone, and how many entries that
+    came after that one can be sent again now; for who may send them.
+    """
+    if draw.state != OPENED or not draw.repeats or not person().may(DRAW):
+        return None
+    restores = parts().restores
+    found = next((it for it in restores.listed() if it.draw == draw.repeats
+                  and it.state == restores_terms.OPENED), None)
+    if found is None:
+        return None
+    may = restores.later(found)
+    count = sum(may.get(it.entry) == "" for it in restores.sending.rows(found)
+                if it.state in (restores_terms.LATER, restores_terms.REFUSED))
+    return (found.number, count) if count else None
 
 
 def alone(draw: Draw) -> str:

@@ -69,10 +69,16 @@ def whole_page(number: int, reason: str = "", status: int = 200, said: str = "")
     text = "" if wrong else sheet.text()
     return flask.render_template(
         "lots_whole.html", draw=draw, sheet=sheet, reason=reason, said=said, wrong=wrong,
+        kept=kept_of(draw, sheet),
         digest="" if wrong else sheet.digest(), head=text.split("\n")[0],
         first=text.split("\n")[1:2], may_seal=draw.state == LOTS and not wrong,
         not_own=not_own(draw),
     ), status
+
+
+def kept_of(draw: Draw, sheet: Sheet) -> set[Cell]:
+    """The cells whose lots were sealed in the draw that this one repeats."""
+    return draws_again.kept(parts().draws, draw).keys() & sheet.cells().keys()
 
 
 def not_own(draw: Draw) -> str:
@@ -97,7 +103,7 @@ def sheet_page(
     pages = max(1, -(-len(sheet.rows) // per_page))
     at = max(1, min(pages, shown or page_asked()))
     rows = sheet.rows[per_page * (at - 1):per_page * at]
-    kept = draws_again.kept(parts().draws, draw).keys() & sheet.cells().keys()
+    kept = kept_of(draw, sheet)
     return flask.render_template(
         "lots_sheet.html", draw=draw, said=said, reason=reason, errors=errors,
         rows=[row_of(it, wrong, typed, kept) for it in rows], kept=kept, at=at, pages=pages,
@@ -110,9 +116,7 @@ def sheet_page(
 
 
 def kept_page(number: int, said: str, shown: int | None = None) -> Answer:
-    """What follows when lots were kept: the table, or all of them to be sealed, where each pair has
-    its lot.
-    """
+    """The table, or all lots to be sealed where each pair has its lot."""
     _, sheet = found_sheet(number)
     return sheet_page(number, said, shown=shown) if sheet.wrong() else (
         whole_page(number, said=said))
@@ -151,8 +155,10 @@ def page_asked() -> int:
 @screen.get("/<int:number>")
 @needs(RIGHT)
 def one(number: int) -> Answer:
-    """The lots of a draw."""
-    return sheet_page(number)
+    """The lots of a draw: the table, or all of them to be sealed where each pair has its lot and no
+    page of the table is asked for.
+    """
+    return sheet_page(number) if "page" in flask.request.args else kept_page(number, "")
 
 
 @screen.post("/<int:number>")

@@ -11,7 +11,7 @@ from werkzeug.wrappers import Response
 
 from office.model import Register
 
-from .. import numbers, restores_since
+from .. import draws_again, numbers, restores_since
 from ..copies import words_of
 from ..draws_second import made_since
 from ..guard import needs, parts, person
@@ -20,7 +20,7 @@ from ..restores import BEGAN, Restores
 from ..restores_rehearsal import WOULD
 from ..restores_since import Difference
 from ..restores_terms import (
-    ASKED, CLOSED, CONFIRMED, COPIED, GIVEN_UP, OPENED, RESTORED, RESTORING, SENT, STEPS,
+    ASKED, CLOSED, CONFIRMED, COPIED, GIVEN_UP, LATER, OPENED, RESTORED, RESTORING, SENT, STEPS,
     UNTOUCHED, Again, Restore,
 )
 from ..wording import sentence
@@ -42,8 +42,8 @@ BEFORE = (*UNTOUCHED, RESTORING)
 
 @dataclasses.dataclass(frozen=True)
 class Row:
-    """What came since, as it is shown: when (UTC), by whom, in words; why it cannot be sent; and
-    what became of it.
+    """What came since, as it is shown: when (UTC), by whom, in words; why it cannot be sent; what
+    became of it; and whether it is sent once the draw that was wrong is held again.
     """
 
     entry: int
@@ -54,6 +54,7 @@ class Row:
     is_chosen: bool
     came: str
     is_done: bool
+    is_later: bool
 
 
 def found_restore(number: int) -> Restore:
@@ -80,10 +81,13 @@ def rows_of(restore: Restore, chosen: set[int] | None) -> list[Row]:
     for it in found.sending.rows(restore):
         entry = found.sending.entry(it)
         first = entry.about.get("again") or {"who": entry.who, "at": entry.at}
-        is_chosen = it.is_chosen if chosen is None else it.entry in chosen
+        is_later = it.state == LATER
+        is_chosen = (it.is_chosen or is_later and restore.state == OPENED if chosen is None
+                     else it.entry in chosen)
         why = later.get(it.entry, "") if later else restores_since.why_not(entry)
         made.append(Row(it.entry, first["at"], first["who"], restores_since.in_words(entry, names),
-                        why, is_chosen, came_in_words(it, restore), it.state == "done"))
+                        why, is_chosen, came_in_words(it, restore), it.state == "done",
+                        is_later))
     return made
 
 
@@ -130,9 +134,20 @@ def page(
         may_open=restore.state == RESTORED, is_asked=restore.state == ASKED,
         asker=restore.came_to(ASKED).who, draw=draws.get(restore.draw or 0),
         has_outcome=restore.state not in (CLOSED, GIVEN_UP),
-        asks_none=asks_none, sends_none=bool(rows) and not any(it.is_chosen for it in rows),
+        asks_none=asks_none, lost_rows=[it for it in rows if not it.is_chosen and not it.is_later],
+        sends_none=bool(rows) and not any(it.is_chosen or it.is_later for it in rows),
         would_fail=sum(it.is_chosen and it.came != WOULD for it in rows),
+        may_begin=may_begin(restore),
     ), status
+
+
+def may_begin(restore: Restore) -> bool:
+    """Whether the person can begin the draw again that was wrong: it was undone, and no draw is in
+    progress or has repeated it.
+    """
+    draws = parts().draws
+    undone = {it.number for it in draws_again.undone(draws.listed())}
+    return person().may(DRAW) and restore.draw in undone and draws.present() is None
 
 
 def not_steady(restore: Restore) -> str:
@@ -171,11 +186,12 @@ def chosen_now() -> set[int]:
 
 
 def is_bare(number: int) -> bool:
-    """Whether nothing is ticked in the form although something can be, and nobody has said yet that
-    nothing is to be sent again.
+    """Whether nothing is ticked in the form although something can be that is not for later, and
+    nobody has said yet that nothing is to be sent again.
     """
     found = parts().restores
-    entries = map(found.sending.entry, found.sending.rows(found.get(number)))
+    rows = [it for it in found.sending.rows(found.get(number)) if it.state != LATER]
+    entries = map(found.sending.entry, rows)
     is_said = flask.request.form.get("none") == "yes"
     return not is_said and not chosen_now() and not all(map(restores_since.why_not, entries))
 
@@ -196,10 +212,12 @@ SECOND: dict[str, Step] = {
     "open": lambda it, number, seen: it.open(person(), number, seen),
     "give-up": lambda it, number, seen: it.give_up(person(), number, seen),
 }
-# what follows a step at once, as there is nothing to decide in between. Where it cannot be done,
-# the restore is in the state before it, and the page has its button
+# what follows a step at once, as there is nothing to decide in between; and then the opening, where
+# all that was ticked is stored. Where it cannot be done, the restore is in the state before it, and
+# the page has its button
 FOLLOWING: dict[str, Sequence[str]] = {
     "confirm": ("copy", "restore", "send"), "copy": ("restore", "send"), "restore": ("send",),
+    "send": (),
 }
 KEEPS_TICKS = ("ask", "later")
 
@@ -216,6 +234,8 @@ def done(number: int, steps: dict[str, Step], name: str) -> Answer:
         steps[name](parts().restores, number, seen)
         for it in FOLLOWING.get(name, ()):
             SECOND[it](parts().restores, number, found_restore(number).version)
+        if name in FOLLOWING:
+            parts().restores.open_whole(person(), number)
     except (Refused, sqlite3.Error) as error:
         chosen = chosen_now() if name in KEEPS_TICKS else None
         return page(number, sentence(words_of(error)), 409, chosen)
