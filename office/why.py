@@ -15,9 +15,10 @@ one. No other child is named. Classes and distances are the program's, and each
 place is counted: that nobody was admitted who ranks after this child is tested
 here, and where it is not so, the command says so and ends with 1.
 
-What it prints is for the family: [c] is a number that is withheld by the rules
-of admissions-figures, and so is the distance of a last child that is or was
-looked after, or has a flag. With --office it prints all, for the office alone.
+What it prints is for the family: it says 'some' where a number is withheld by
+the rules of admissions-figures, and withholds the distance of a last child that
+is or was looked after, or has a flag. With --office it prints all, for the
+office alone.
 --flags gives flags the office's words, by lines as `7,medical need`.
 
 It explains one child in a round. admissions-audit BEFORE AFTER explains a
@@ -43,6 +44,10 @@ from .rounds import Key, Round
 CLASS, DISTANCE, LOT = "class", "distance", "lot"
 FOR_OFFICE = "For the office alone: it has numbers that are not published"
 FOR_FAMILY = "For the family of the child: small numbers are withheld"
+# what a family reads in place of a number that is withheld, and what that means
+SOME = "Some"
+MEANING = (f"Where this says '{SOME.lower()}', the number is withheld, because it is from 1 to"
+           f" {withheld.LEAST - 1}, or because such a number could be worked out from it.")
 DECIDED: dict[str | None, str] = {
     CLASS: "The criterion decided: the last child admitted is in a class that ranks first.",
     DISTANCE: "Both are in the same class, and the distance decided: the other child lives nearer"
@@ -206,10 +211,12 @@ class View:
         self.has_withheld = False
 
     def count(self, key: Counted, value: int, one: str, many: str) -> str:
-        """A number with what follows it. Nothing tells whether a number that is withheld is 1."""
-        self.has_withheld = self.has_withheld or key in self.hidden
-        if key in self.hidden:
-            return f"{withheld.WITHHELD} {many}"
+        """A number with what follows it, at the begin of a sentence. Nothing tells whether a number
+        that is withheld is 1. That there is nobody is said elsewhere too.
+        """
+        if value and key in self.hidden:
+            self.has_withheld = True
+            return f"{SOME} {many}"
         return f"{value:,} {one if value == 1 else many}"
 
     def words(self, number: int) -> str:
@@ -248,7 +255,8 @@ def those_before(found: School, view: View) -> Iterator[str]:
     for number, count in sorted(found.before.items()):
         words = view.words(number)
         how = how_before(found, view, number)
-        yield f"- {view.count(('class', number), count, words, words)}{how}"
+        text = view.count(("class", number), count, words, words)
+        yield f"- {text[:1].lower()}{text[1:]}{how}"
     if found.elsewhere:
         has = view.count("elsewhere", found.elsewhere, "of them has", "of them have")
         yield f"{has} a school that the family prefers, and took no place here."
@@ -384,7 +392,7 @@ def sections_of(found: Why, before: Register, after: Register, is_office: bool =
         yield Section(list(sentences_of(it, school, view)), it.code, tuple(it.faults))
         is_withheld = is_withheld or view.has_withheld
     if is_withheld:
-        yield Section([withheld.MEANING])
+        yield Section([MEANING])
 
 
 def lines_of(found: Why, before: Register, after: Register, is_office: bool = False,

@@ -66,7 +66,7 @@ def test_the_family_reads_no_small_number_and_no_other_child(office: Site) -> No
     rita = office.browser("rita")
     page = Page(rita.get("/children/4/why/1/family").text)
     assert page.by_id["for"].startswith("For the family of the child: small numbers are withheld")
-    assert "[c] children rank before this child there:" in page.by_id["school-A"]
+    assert "Some children rank before this child there:" in page.by_id["school-A"]
     assert "2 children rank" not in page.text and "4 children wanted" not in page.text
     for name in ("Abel", "Bell", "Cole", "hild 1", "hild 2", "hild 3"):
         assert name not in page.text, name
@@ -104,7 +104,7 @@ def test_both_are_on_paper(office: Site, tmp_path: pathlib.Path) -> None:
         'attachment; filename="why-child-3-draw-1-family.pdf"')
     family = printed(found.data, tmp_path)
     assert "Child 3 Cyd <b>Cole</b>" in family and "For the family" in family
-    assert "[c] children rank before this child there" in family and "Ddewi" in family
+    assert "Some children rank before this child there" in family and "Ddewi" in family
     office_one = printed(jane.get("/children/3/why/1/office/pdf").data, tmp_path)
     assert "2 children rank before this child there" in office_one
 

@@ -333,16 +333,16 @@ def test_the_sentences_of_a_family(tmp_path: Path) -> None:
     lines = list(why.lines_of(why.explain(before, after, 3), before, after))
     assert lines[0] == "For the family of the child: small numbers are withheld" and lines[
         -1
-    ].startswith("[c] is a number that is withheld")
+    ].startswith("Where this says 'some', the number is withheld")
     for it in (
-        "The school has 3 places. [c] of them are taken by EHC plans.",
+        "The school has 3 places. Some of them are taken by EHC plans.",
         (
-            "[c] children wanted a place there in this round, this child among them. [c] were"
+            "Some children wanted a place there in this round, this child among them. Some were"
             " admitted."
         ),
-        "[c] children rank before this child there:",
-        "- [c] with a brother or sister at the school",
-        "- [c] meeting no criterion of the school, nearer or with a smaller lot",
+        "Some children rank before this child there:",
+        "- some with a brother or sister at the school",
+        "- some meeting no criterion of the school, nearer or with a smaller lot",
         "This child: class 2 (meeting no criterion of the school), 400 metres, lot 9.",
     ):
         assert it in lines, (it, lines)
@@ -382,9 +382,9 @@ def test_what_a_family_does_not_read(office: Office, tmp_path: Path) -> None:
         "For the family of the child: small numbers are withheld\n"
     ), family
     for it in (
-        "- [c] looked after, or previously looked after\n",
-        "- [c] with a verified priority: social or medical need\n",
-        "[c] children rank before this child there:\n",
+        "- some looked after, or previously looked after\n",
+        "- some with a verified priority: social or medical need\n",
+        "Some children rank before this child there:\n",
         (
             "The last child admitted: class 1 (with a verified priority: social or medical need);"
             " its distance is withheld.\n"
@@ -406,7 +406,7 @@ def test_what_a_family_does_not_read(office: Office, tmp_path: Path) -> None:
         whole.startswith("For the office alone")
         and "- 1 looked after" in whole
         and "700 metres" in whole
-        and "[c]" not in whole
+        and "some" not in whole.lower()
     )
     for bad, said in (
         ("16,x\n", "no flag from 0 to 15"),
@@ -592,7 +592,7 @@ def test_schools_that_were_left(office: Office, tmp_path: Path) -> None:
     )
     shutil.copy(tmp_path / "reg.db", tmp_path / "before.db")
     do(tmp_path / "reg.db", [{"cmd": "round", "draw": 2, "day": "2025-04-07", "lots": [1, 2]}])
-    # (that Elm has a place by a plan is not printed, so no line explains [c])
+    # (that Elm has a place by a plan is not printed, so no line explains 'some')
     left = [
         "ELM School (ELM), first preference: no place.",
         "The child took no part there, as its family had left the waiting list there.",
@@ -621,9 +621,9 @@ def test_schools_that_were_left(office: Office, tmp_path: Path) -> None:
     assert (
         other[6:9] == left
         and other[9] == "OAK School (OAK), second preference: no place."
-        and "[c] children rank before this child there:" in other
+        and "Some children rank before this child there:" in other
     )
-    assert other[-1].startswith("[c] is a number that is withheld")
+    assert other[-1].startswith("Where this says 'some', the number is withheld")
     do(tmp_path / "reg.db", [{"cmd": "decline", "child": 2, "school": "OAK"}])
     shutil.copy(tmp_path / "reg.db", tmp_path / "copy.db")
     do(
