@@ -100,6 +100,9 @@ def test_each_step_leads_to_its_screens(office: Site, monkeypatch: pytest.Monkey
             assert browser.get(it).status_code == 200, it
         assert "/lists/remind-due" in links and "/schools/" in links
         assert ("/schools/new/" in links) == ("/answers/" in links) == (browser is jane)
+        # (what is due leads to where it is done)
+        assert ("/notices/remind" in links) == (browser is jane)
+        assert ">3 reminders are due.<" in page.text
 
 
 def test_the_first_screen_says_who_is_there_and_what_is_closed(office: Site) -> None:

@@ -1,5 +1,5 @@
 """What waits for the head of the office: the draw that nobody else goes on with, places that can be
-filled, and people who have not come in yet.
+filled, the office's address for its letters, and people who have not come in yet.
 """
 import dataclasses
 import datetime
@@ -9,6 +9,7 @@ from office.model import Register
 
 from . import steps
 from .draws_terms import SEALED, Draw
+from .letters_sender import Sender
 from .parts import Parts
 from .wording import sentence
 
@@ -30,6 +31,9 @@ def waiting(parts: Parts, register: Register | None, today: datetime.date, draw:
     found = [of_draw(draw, next_step, next_state)] if draw else []
     if register and not draw and (said := steps.can_be_filled(register, today)):
         found.append(Waits(said, "draws.show", {}, "Draws"))
+    if register and register.draws and not Sender(parts.store, parts.history).number:
+        found.append(Waits("The office’s address for its letters is not typed yet.",
+                           "letter_sender.show", {}, "Type the office’s name and address"))
     return [*found, *of_people(parts)]
 
 

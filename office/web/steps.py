@@ -7,7 +7,18 @@ from office import days, model, register_lists, texts
 from office.model import Register
 from office.days import NOTICE
 
+from .letters_whom import OFFERS, PART
+from .notices import LAPSE, REMIND
 from .wording import weekday
+
+
+@dataclasses.dataclass(frozen=True)
+class Due:
+    """What is due now: in a sentence, and the screen where it is done with its values, or ""."""
+
+    said: str
+    view: str = ""
+    values: Mapping[str, str] = dataclasses.field(default_factory=dict)
 
 
 @dataclasses.dataclass(frozen=True)
@@ -20,7 +31,7 @@ class Step:
     is_done: bool
     said: str
     by: datetime.date | None
-    due: tuple[str, ...]
+    due: tuple[Due, ...]
     links: tuple[tuple[str, str, Mapping[str, str]], ...]
 
 
@@ -33,10 +44,11 @@ def steps(
     made = (schools, applications, first_round, answers, lists, end)
     found = {it: it(register, today) for it in made}
     for number, many in (untold or {}).items():
-        step = first_round if register.draws[number - 1].round == 1 else lists
-        said = (f"{texts.count(many, 'letter')} of draw {number} {'is' if many == 1 else 'are'} not"
-                " recorded as sent.")
-        found[step] = dataclasses.replace(found[step], due=(*found[step].due, said))
+        is_first = register.draws[number - 1].round == 1
+        step, whom = (first_round, PART) if is_first else (lists, OFFERS)
+        due = Due(f"{texts.count(many, 'letter')} of draw {number} {'is' if many == 1 else 'are'}"
+                  " not recorded as sent.", "letters.whom", {"whom": whom, "draw": str(number)})
+        found[step] = dataclasses.replace(found[step], due=(*found[step].due, due))
     return list(found.values())
 
 
@@ -70,7 +82,8 @@ def applications(register: Register, today: datetime.date) -> Step:
             f" {texts.count(len(register.applications), 'application')}")
     said += f", of which {late:,} late" if late else ""
     is_done = bool(register.applications) and (today > closing or bool(register.draws))
-    due = () if is_done or today <= closing else ("No application is in the register.",)
+    due = () if is_done or today <= closing else (
+        Due("No application is in the register.", "applications.show"),)
     return Step("Applications", is_done, said, closing, due,
                 (("applications.show", "Applications", {}),
                  ("lists.one", "All children", {"name": "children"})))
@@ -86,13 +99,14 @@ def first_round(register: Register, today: datetime.date) -> Step:
                 f" {texts.count(fresh, 'child was', 'children were')} offered a place")
     else:
         said = f"{texts.count(len(register.pairs), 'lot')} to be drawn"
-    due: tuple[str, ...] = ()
+    said_due = ""
     if not rounds and today > offer:
-        due = (f"The offer day was {when(offer, today)}.",)
+        said_due = f"The offer day was {when(offer, today)}."
     elif not rounds and today == offer:
-        due = ("The offer day is today.",)
+        said_due = "The offer day is today."
     elif not rounds and today > closing and register.pairs:
-        due = ("The supervisor can draw the lots now.",)
+        said_due = "The supervisor can draw the lots now."
+    due = (Due(said_due, "draws.show"),) if said_due else ()
     return Step("First round", bool(rounds), said, None if rounds else offer, due,
                 (("draws.show", "Draws", {}), ("trials.show", "Trials", {}),
                  ("letters.show", "Letters", {}),
@@ -108,9 +122,11 @@ def answers(register: Register, today: datetime.date) -> Step:
     lapse = len(register_lists.lapse_due(register, today)) - 1
     due = []
     if remind:
-        due.append(f"{texts.count(remind, 'reminder is', 'reminders are')} due.")
+        due.append(Due(f"{texts.count(remind, 'reminder is', 'reminders are')} due.",
+                       "notices.choose", {"name": REMIND}))
     if lapse:
-        due.append(f"{texts.count(lapse, 'offer', 'offers')} may be withdrawn.")
+        due.append(Due(f"{texts.count(lapse, 'offer', 'offers')} may be withdrawn.",
+                       "notices.choose", {"name": LAPSE}))
     later = [day for day in deadlines(register) if day > today]
     return Step("Answers to offers", bool(register.draws) and not offers, said,
                 min(later, default=None), tuple(due),
@@ -140,7 +156,8 @@ def lists(register: Register, today: datetime.date) -> Step:
     vacant = sum(it.vacancies for it in register.schools.values())
     waiting = sum(it.waiting for it in register.schools.values())
     said = f"{texts.count(vacant, 'place')} vacant, {waiting:,} waiting"
-    due = (said_due,) if (said_due := can_be_filled(register, today)) else ()
+    said_due = can_be_filled(register, today)
+    due = (Due(said_due, "draws.show"),) if said_due else ()
     return Step("Waiting lists", today > last, said if register.draws else "after the first round",
                 last, due,
                 (("draws.show", "Draws", {}), ("letters.show", "Letters", {}),
@@ -154,7 +171,8 @@ def end(register: Register, today: datetime.date) -> Step:
     _, _, last = register.days
     what = "end" if today <= last else "ended"
     said = f"the lists {what} on {weekday(last)}, {when(last, today)}"
-    due = ("Keep the last copy with the sheets and the audits.",) if today > last else ()
+    due = (Due("Keep the last copy with the sheets and the audits.", "season_end.show"),
+           ) if today > last else ()
     return Step("End of the season", False, said, None, due,
                 (("season_end.show", "End of the season", {}),))
 

@@ -1,5 +1,6 @@
 """The first screen: what is done, what is next and by when."""
 import datetime
+from collections.abc import Mapping
 from typing import Any
 
 import flask
@@ -46,10 +47,22 @@ def links(step: Step) -> list[tuple[str, str]]:
     """
     found: dict[str, str] = {}
     for view, words, values in step.links:
-        right = getattr(flask.current_app.view_functions.get(view), "right", None)
-        if right is not None and person().may(right) and words not in found:
-            found[words] = flask.url_for(view, **dict[str, Any](values))
+        if words not in found and (address := address_of(view, values)):
+            found[words] = address
     return [(address, words) for words, address in found.items()]
+
+
+def due(step: Step) -> list[tuple[str, str]]:
+    """What is due of a step, each with the address where this person does it, or ""."""
+    return [(it.said, address_of(it.view, it.values)) for it in step.due]
+
+
+def address_of(view: str, values: Mapping[str, str]) -> str:
+    """The address of a screen, if this application has it and this person may see it; or ""."""
+    right = getattr(flask.current_app.view_functions.get(view), "right", None)
+    if right is None or not person().may(right):
+        return ""
+    return flask.url_for(view, **dict[str, Any](values))
 
 
 def for_head(found: Register | None, draw: Draw | None, step: str) -> list[Waits] | None:
@@ -86,6 +99,6 @@ def show() -> str | Response:
     return flask.render_template(
         "season.html", waits=for_head(found, draw, step), register=found, reason=reason,
         day=weekday(day),
-        rows=[(it, links(it), steps.when(it.by, day) if it.by else "") for it in made],
+        rows=[(it, links(it), due(it), steps.when(it.by, day) if it.by else "") for it in made],
         next=steps.next_of(made), counts=steps.counts(found) if found else [],
         draw=draw, next_step=step, signed_in=parts().people.signed_in())
