@@ -94,17 +94,19 @@ def at(office: Site, day: datetime.date, monkeypatch: pytest.MonkeyPatch) -> Non
 
 
 def taken(office: Site, head: Person) -> bytes:
-    """The last copy is made, and the archive, which is taken."""
+    """The last copy is made, and the archive by itself, which is taken."""
     office.parts.end.today = lambda: TODAY
     head.press("copy")
-    head.press("archive")
+    assert office.parts.end.get().made_by == "hal"
     return bytes(head.press("archive/file", 200, kept=WHERE).data)
 
 
 # what is open
 
 
-def test_what_is_open_is_read_before_the_last_copy(tmp_path: pathlib.Path) -> None:
+def test_what_is_open_is_read_before_the_last_copy(
+    tmp_path: pathlib.Path, monkeypatch: pytest.MonkeyPatch
+) -> None:
     """After the round of the town three offers have no answer; Cyd waits at A, and Dai at both. A
     draw in progress, and a request without an answer, stop it.
     """
@@ -122,6 +124,8 @@ def test_what_is_open_is_read_before_the_last_copy(tmp_path: pathlib.Path) -> No
             ("Schools that are not stored", "1 school")]
         assert head.browser.post("/season-end/copy", {"seen": "0"}).status_code == 409
         assert not office.copied
+        # (the copies of this office are no files, of which an archive could be made)
+        monkeypatch.setattr(office.parts.end, "make_archive", lambda *_: None)
         head.press("copy")
         assert office.copied == ["last copy of the season"]
         assert office.parts.end.get().copied_by == "hal"
@@ -492,7 +496,9 @@ def test_an_archive_that_was_killed_is_made_again(
         with ended_season(tmp_path, served_town, TODAY, monkeypatch) as office:
             head = Person(office, "hal", "head")
             if not office.parts.end.get().copy:
-                head.press("copy")
+                with monkeypatch.context() as patch:
+                    patch.setattr(SeasonEnd, "make_archive", lambda *_: None)
+                    head.press("copy")
             with monkeypatch.context() as patch:
                 patch.setattr(module, name, killed)
                 # (where a process is killed, nothing is cleared away)
@@ -521,7 +527,6 @@ def test_a_deletion_that_was_killed_goes_on(
     with ended_season(tmp_path, served_town, TODAY, monkeypatch) as office:
         head = Person(office, "hal", "head")
         head.press("copy")
-        head.press("archive")
         head.press("archive/file", 200, kept=WHERE)
         head.press("day", day="24/1/2026", reason=WHY)
         with office.parts.store.writing() as db:
@@ -565,7 +570,6 @@ def test_nobody_is_one_of_two_whom_the_other_has_made(
     with ended_season(tmp_path, served_town, TODAY, monkeypatch) as office:
         head = Person(office, "hal", "head")
         head.press("copy")
-        head.press("archive")
         head.press("archive/file", 200, kept=WHERE)
         head.press("day", day="24/1/2026", reason=WHY)
         office.parts.end.today = lambda: DAY

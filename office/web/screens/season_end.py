@@ -104,8 +104,13 @@ def done(step: Callable[[], object]) -> Answer:
 @screen.post("/copy")
 @needs(END)
 def copy() -> Answer:
-    """Makes the last copy."""
-    return done(lambda: parts().end.copy(person(), seen(), typed("read")))
+    """Makes the last copy, and the archive with it."""
+    def both() -> None:
+        end = parts().end
+        end.copy(person(), seen(), typed("read"))
+        end.make_archive(person(), end.get().version, start_page)
+
+    return done(both)
 
 
 def start_page(items: list[Item]) -> str:
