@@ -86,6 +86,7 @@ def test_the_help_has_no_picture_that_the_site_would_not_serve(page: Text) -> No
 
 def test_other_parts_of_the_handbook_are_not_in_the_help() -> None:
     book = ("# A\n\n## Before\n\nno\n\n## The office's application\n\nyes\n\n![A](b.png)\n\n"
-            "### In it\n\nyes too\n\n## Other\n\nno\n\n## The page\n\nlast\n")
+            "### In it\n\nyes too\n\n## Other\n\nno\n\n## The screen Register\n\nlast\n")
     assert help_screen.part_of(book) == (
-        "## The office's application\n\nyes\n\n### In it\n\nyes too\n\n## The page\n\nlast\n")
+        "## The office's application\n\nyes\n\n### In it\n\nyes too\n\n"
+        "## The screen Register\n\nlast\n")

@@ -50,7 +50,7 @@ MENU = (
     ("lists.show", "Lists", "read"),
     ("figures.show", "Figures", "read"),
     ("flags.show", "Flags", "read"),
-    ("register.page", "The page", "read"),
+    ("register.page", "Register", "read"),
     ("copies.show", "Copies", "read"),
     ("people.show", "People", "people"),
     ("activity.show", "Activity", "read"),

@@ -1,4 +1,4 @@
-"""Help: the part of the handbook that is about the application and its page."""
+"""Help: the part of the handbook that is about the application and its screens."""
 import functools
 import pathlib
 import re
@@ -14,7 +14,7 @@ screen = flask.Blueprint("help", __name__)
 HERE = pathlib.Path(__file__).resolve()
 PLACES = (HERE.parents[2] / "HANDBOOK.md", HERE.parents[3] / "docs" / "HANDBOOK.md")
 # its part about the application has these headings
-SECTIONS = ("The office's application", "The page")
+SECTIONS = ("The office's application", "The screen Register")
 TABLE, HEADING = re.compile("<table>"), re.compile("<h[23][^>]*>(.*?)</h[23]>")
 PICTURE = re.compile(r"^!\[.*\]\(.*\)$\n*", re.MULTILINE)
 
