@@ -401,7 +401,10 @@ def test_nobody_else_records_while_it_is_closed(small: Machine) -> None:
         for screen in ("/", "/schools/", "/applications/", "/applications/commit/", "/children/",
                        "/children/1", "/answers/", "/draws/", "/lists/", "/flags/", "/activity/",
                        "/records"):
-            assert jane.get(screen).text.count("Closed for draw 1 by hal since") == 1, screen
+            text = jane.get(screen).text
+            assert text.count("Closed for draw 1 by hal since") == 1, screen
+            assert text.count(f'href="/draws/{number}">To draw 1</a>') == 1, screen
+        assert "To draw 1<" not in jane.get(f"/draws/{number}").text
         assert "Closed for" not in office.browser("sup", "supervisor").get("/lots/").text
         assert office.parts.desk.now().schools["ELM"].pan == 9
         brought(office, number, "opened")

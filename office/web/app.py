@@ -111,13 +111,15 @@ class FileName(werkzeug.routing.BaseConverter):
 def shared() -> dict[str, Any]:
     """What each template has."""
     found = flask.g.get("person")
-    config = guard.parts().config
+    parts, config = guard.parts(), guard.parts().config
+    # (who sees no child is not told of draws either)
+    closed = parts.desk.closed() if found and found.may(READ) else ""
     return {
         "person": found,
         "authority": config.authority,
         "register_name": config.name,
-        # (who sees no child is not told of draws either)
-        "closed_now": guard.parts().desk.closed() if found and found.may(READ) else "",
+        "closed_now": closed,
+        "closed_for": parts.closed_for() if closed else None,
         "menu": [it for it in MENU if found and found.may(it[2])],
         "form_secret": found.form if found else "",
     }

@@ -64,6 +64,19 @@ class Parts:
         self.desk.closed = lambda: (
             self.end.closed() or self.draws.closed() or self.restores.closed())
 
+    def closed_for(self) -> tuple[str, str, int] | None:
+        """What has closed the register for all others: in words, its screen and its number there;
+        None while it is open, or where its end has closed it.
+        """
+        if self.end.closed():
+            return None
+        if self.draws.closed() and (draw := self.draws.present()):
+            return draw.terms.numbers, "draws.one", draw.number
+        restore = self.restores.present()
+        if restore is None:
+            return None
+        return f"the restore of copy {restore.copy}", "restores.one", restore.number
+
     def hear(self) -> None:
         """Takes into the history what was told outside of the application, each once."""
         # (the locks in the order of all who store something and record it)
