@@ -99,10 +99,10 @@ def arrivals(office: Office) -> None:
     firsts = {HAL: "Season", SUP: "Lots", RITA: "Season", ABBEY: "A Abbey School"}
     menus = {
         HAL: "Season Schools Applications Children Answers Reminders Letters Draws Trials Lists"
-             " Figures Flags The page Copies Activity End of the season",
+             " Figures Flags Register Copies Activity End of the season",
         SUP: "Lots", ABBEY: "",
         RITA: "Season Schools Applications Children Reminders Letters Draws Trials Lists Figures"
-              " Flags The page Copies Activity"}
+              " Flags Register Copies Activity"}
     for who, first in firsts.items():
         hands = office.arrive(who)
         sign_in(hands, office.drawn[who])

@@ -71,8 +71,8 @@ def held(office: Office, draw: Draw) -> Lots:
 
 
 def held_again(office: Office, draw: Draw, lots: Lots) -> None:
-    """The same of a draw that a restore has undone, from the form that the head of the office sees:
-    its lots stay as they were sealed, and the supervisor seals them for the right day.
+    """The same of a draw that a restore has undone, from the page of the restore: its lots stay as
+    they were sealed, and the supervisor seals them for the right day.
     """
     jane, sup = office.jane, office.people[SUP]
     office.report.step(f"{draw.words}: held again on {draw.day}")
@@ -83,7 +83,6 @@ def held_again(office: Office, draw: Draw, lots: Lots) -> None:
     sup.open("/")
     sup.see(f"{len(lots)} lots were sealed in the draw that this one repeats, and stay as they"
             " are.")
-    sup.press("Show all lots, to seal them")
     sealed(office, draw, lots)
     ended(office, draw, lots)
 
@@ -244,7 +243,7 @@ def rehearsed(office: Office, draw: Draw, lots: Lots) -> None:
     report.same(shown, wanted, f"the outcome of the rehearsal of {draw.numbers}")
     hal.open("/")
     hal.see(f"{draw.title} is in progress. Next: confirm {draw.numbers}.")
-    hal.press(draw.title)
+    hal.press(f"To {draw.numbers}")
     hal.press(f"Confirm {draw.numbers}")
 
 

@@ -10,11 +10,9 @@ from collections.abc import Iterable, Mapping
 
 from selenium.webdriver.common.by import By
 from selenium.webdriver.common.keys import Keys
-from selenium.webdriver.remote.webelement import WebElement
 
 from . import town
 from .allocation import NOTICE
-from .hands import Hands
 from .office import HAL, Office
 from .report import until
 
@@ -68,8 +66,8 @@ def letterhead(office: Office) -> None:
     """What letters say of the office."""
     jane = office.jane
     office.report.step("the office on its letters")
-    jane.press("Letters")
-    jane.press("The office on its letters")
+    jane.open("/")
+    jane.press("Type the office’s name and address")
     for label, text in OFFICE.items():
         jane.fill(label, text)
     jane.press("Save for all letters")
@@ -88,24 +86,26 @@ def to_offered(office: Office, draw: int) -> None:
     wanted = {it: [f"A place at {NAMES[code]} is offered to {season.children[it].name}.",
                    f"Please write to us by {in_words(season.offers[it] + NOTICE)} whether you"]
               for it, code in offered.items()}
-    made_and_sent(office, office.offer_day, wanted, "result of round")
-
-
-def made_and_sent(office: Office, day: datetime.date, wanted: Mapping[int, Iterable[str]],
-                  about: str) -> None:
-    """From the list of children to the letters that are in the post: each child of the list has one
-    that says what it must.
-    """
-    report, hal, season = office.report, office.people[HAL], office.season
+    about = "result of round"
     listed = {int(row[1]): (row[2], about in row[3]) for row in hal.captioned("")
               if row[1].isdecimal()}
-    report.same(listed, {it: (season.children[it].name, True) for it in wanted},
-                f"the children of the letters about the {about}")
-    hal.type_day("Date of the letters", day)
+    office.report.same(listed, {it: (season.children[it].name, True) for it in wanted},
+                       f"the children of the letters about the {about}")
+    hal.type_day("Date of the letters", office.offer_day)
     hal.enter()
+    taken_and_sent(office, office.offer_day, wanted, about)
+
+
+def taken_and_sent(office: Office, day: datetime.date, wanted: Mapping[int, Iterable[str]],
+                   about: str) -> None:
+    """From the page that has the letters to those that are in the post: each child has one that
+    says what it must, and nobody else has one.
+    """
+    report, hal, season = office.report, office.people[HAL], office.season
     count = f"{len(wanted)} letter{'s' * (len(wanted) != 1)}"
+    address = hal.driver.find_element(By.ID, "take").get_attribute("href") or ""
     hal.press(f"Take the file: {count}", is_new=False)
-    number = hal.driver.current_url.rpartition("/")[2]
+    number = address.split("/")[-2]
     letters = by_child(file_of(office, HAL, f"letters-{number}.pdf"))
     report.same(sorted(letters), sorted(wanted), f"whose letters about the {about} are in the file")
     for child, texts in wanted.items():
@@ -113,8 +113,6 @@ def made_and_sent(office: Office, day: datetime.date, wanted: Mapping[int, Itera
         for it in (season.children[child].name, in_words(day), *texts):
             report.see(plain(it) in letter, f"the letter of child {child} has {it!r}: {letter}")
     hal.press(f"Record {count} as sent")
-    hal.tab_to("Sent on")
-    hal.enter()
     sent = f"sent on {in_words(office.day)}, by {hal.who}"
     report.same(hal.facts().get("State"), sent, "the state of the letters")
     first = min(wanted)
@@ -133,10 +131,7 @@ def due(office: Office, kind: str, day: datetime.date, children: Iterable[int],
     wanted, out = sorted(children), sorted(kept)
     title, one = (("Withdrawals of offers", "withdrawal") if kind == "lapse" else
                   ("Reminders", "reminder"))
-    hal.press("Reminders")
-    hal.press(title, main_of(hal))
-    hal.type_day("Day", day)
-    hal.enter()
+    to_due(office, kind, len(wanted) + len(out), day)
     shown = {int(row[1]): (row[2], row[3]) for row in hal.captioned("Due on")}
     report.same(shown, {it: (season.children[it].name, season.places[it])
                         for it in sorted([*wanted, *out])}, f"who is due: {title} of {day}")
@@ -157,15 +152,23 @@ def due(office: Office, kind: str, day: datetime.date, children: Iterable[int],
     hal.see(f"{len(wanted)} of {many} recorded.")
 
 
-def main_of(hands: Hands) -> WebElement:
-    """The part of a screen below the menu."""
-    found: WebElement = hands.driver.find_element(By.TAG_NAME, "main")
-    return found
+def to_due(office: Office, kind: str, count: int, day: datetime.date) -> None:
+    """From the first screen to the list of those that are due today. On another day, where that
+    cannot be today, by its address.
+    """
+    hal = office.people[HAL]
+    if not office.clock:
+        hal.open(f"/notices/{kind}?day={day}")
+        return
+    hal.open("/")
+    said = ("reminders are due." if kind == "remind" else "offers may be withdrawn.") if (
+        count > 1) else "reminder is due." if kind == "remind" else "offer may be withdrawn."
+    hal.press(f"{count} {said}")
 
 
 def reminders(office: Office, day: datetime.date) -> None:
     """All who have not answered are reminded, from the list to their letters."""
-    hal, season = office.people[HAL], office.season
+    season = office.season
     office.today(day)
     children = season.to_remind(day)
     office.report.step(f"reminders of {len(children)} children")
@@ -173,8 +176,7 @@ def reminders(office: Office, day: datetime.date) -> None:
     for it in children:
         season.reminded[it] = day
     office.compare("the reminders")
-    hal.press(f"Letters to these {len(children)} children")
-    made_and_sent(office, day, {
+    taken_and_sent(office, day, {
         it: [f"A place at {NAMES[season.places[it]]} is offered to",
              f"We offered this place on {in_words(season.offers[it])} and reminded you on"
              f" {in_words(day)}."] for it in children}, f"reminder of {in_words(day)}")
@@ -184,7 +186,7 @@ def withdrawals(office: Office, day: datetime.date, kept: int) -> None:
     """The offers of those who have not answered the reminder either end, but for some who are taken
     out of the list.
     """
-    hal, season = office.people[HAL], office.season
+    season = office.season
     office.today(day)
     out = season.to_end(day)[:kept]
     children = season.to_end(day)[kept:]
@@ -194,8 +196,7 @@ def withdrawals(office: Office, day: datetime.date, kept: int) -> None:
     for it in children:
         season.decline(it)
     office.compare("the withdrawals")
-    hal.press(f"Letters to these {len(children)} children")
-    made_and_sent(office, day, {
+    taken_and_sent(office, day, {
         it: [f"The place at {NAMES[code]} has ended, because",
              f"There is at present no place for {season.children[it].name}"]
         for it, code in had.items()}, f"withdrawal of {in_words(day)}")

@@ -109,7 +109,7 @@ def other_screens(office: Office) -> None:
                  "/lists/children", "/lists/vacancies", "/activity/", "/applications/add/",
                  "/applications/duplicates", "/applications/withdrawn", f"/schools/{SCHOOL}/raise"):
         hal.open(path)
-    hal.open("/records", "The page")
+    hal.open("/records", "Register")
     rita.open("/")
     rita.see("held for")
     abbey = office.people[ABBEY]
@@ -141,20 +141,24 @@ STEPS: tuple[tuple[Callable[[Office], None], int], ...] = (
     # for the head of the office the screen, the close and the draw; for the officer the draw and
     # the confirmation; for the supervisor the seal, and the sheet and its file
     (first_round, 8),
-    # the screens, and what is saved
-    (letterhead, 3),
+    # the screen, and what is saved
+    (letterhead, 2),
     # the screen, the file, and the record
     (offers, 3),
     (first_answers, 3),
-    # the screens, what is recorded, the record, the letters and their file
-    (reminders, 7),
+    # what is due, what is recorded, the record; the letters' file, and their record
+    (reminders, 5),
     (fills, 6),
-    (withdrawals, 8),
-    # the wrong draw, two answers, the restore, the draw again, and the answer to its offer
-    (second_round, 25),
+    # the same, and the ticks
+    (withdrawals, 6),
+    # the wrong draw (6) and two answers (2); the close, the question, and for the officer the
+    # restore and its confirmation (4); the draw again (5 and the seal of all lots); and the answer
+    # to its offer (2)
+    (second_round, 19),
     (ending.figures, 3),
     (ending.question, 4),
     (other_screens, 0),
-    (ending.archived, 3),
+    # the screen, and the copy with the archive
+    (ending.archived, 2),
     (ending.deleted, 1),
 )

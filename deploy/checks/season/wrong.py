@@ -65,9 +65,7 @@ def answered(office: Office, *children: int) -> None:
 
 
 def see_ticked(hands: Hands, children: tuple[int, ...]) -> None:
-    """The entries of these children are ticked, and no others: all that can be sent again after a
-    wrong draw is so at first.
-    """
+    """The entries of these children are ticked, and no others: all that can be sent again now."""
     boxes = hands.driver.find_elements(By.CSS_SELECTOR, "#since input[type=checkbox]:checked")
     labels = [hands.text(f"label[for='{it.get_attribute('id')}']") for it in boxes]
     hands.report.same(sorted(int(it.split()[1]) for it in labels), sorted(children),
@@ -76,46 +74,46 @@ def see_ticked(hands: Hands, children: tuple[int, ...]) -> None:
 
 def restored(office: Office, draw: Draw, before: Season, answered_by: tuple[int, int]) -> None:
     """The head of the office asks for the restore at the draw, the officer confirms it, and it is
-    opened for all; what came since is there again with its first author.
+    opened for all by itself; what came since is there again with its first author, but for the
+    answer to an offer that is undone: that waits for the draw.
     """
     report, jane, hal = office.report, office.jane, office.people[HAL]
     report.step(f"{draw.words}: the copy from before it is restored")
     number = jane.facts()["Copies"].split()[0]
-    jane.press(f"This draw was wrong: restore the copy from before {draw.numbers}")
-    jane.press(f"Close for all others, to restore copy {number}")
+    jane.press(f"This draw was wrong: close for all others, to restore copy {number}")
     report.same(jane.title, f"Restore of copy {number}", "the heading of the restore")
     came = [(row[2], row[3]) for row in jane.captioned("Came since the copy")]
     report.same(len(came), 3, "entries that came since the copy")
     report.see(any("A draw is held again on the screen of draws." in it for _, it in came),
                f"the draw is not sent again: {came}")
-    see_ticked(jane, answered_by)
+    stayed, fresh = answered_by
+    see_ticked(jane, (stayed,))
+    later = [row[3] for row in jane.captioned("Came since the copy") if row[0] == "later"]
+    report.see(len(later) == 1 and later[0].startswith(f"child {fresh} "),
+               f"what waits for the draw: {later}")
     jane.press(f"Ask to restore copy {number}")
     jane.look("A restore, asked for")
-    hal.press("Copies")
-    hal.press(f"The restore of copy {number}")
+    hal.open("/")
+    hal.press(f"To the restore of copy {number}")
     hal.press(f"Restore copy {number}")
     hal.look("A restore, done")
-    stayed, fresh = answered_by
+    report.same(hal.facts().get("State"), "opened", "the state of the restore")
     again = {int(row[3].split()[1]): (row[2], row[4]) for row in hal.captioned("Came since the")
              if row[3].startswith("child ")}
     report.same(again.get(stayed), (hal.who, "stored"), f"the answer of child {stayed}, sent again")
-    report.see(again.get(fresh, ("", "stored"))[1] != "stored",
-               f"an offer that is undone was accepted by child {fresh}: {again}")
+    report.same(again.get(fresh), (hal.who, "not sent"),
+                f"the answer of child {fresh} to an offer that is undone")
     jane.reload()
-    jane.press("Open for all")
     office.season = copy.deepcopy(before)
     office.season.answer(stayed)
     office.compare("the restore")
-    jane.press(f"Begin {draw.words} again")
 
 
 def sent_later(office: Office, fresh: int) -> None:
     """The answer to an offer of the draw is sent once that is held again."""
     jane = office.jane
     office.report.step(f"the answer of child {fresh} is sent again")
-    jane.press("Copies")
-    row = next(row[0] for row in jane.captioned("Restores"))
-    jane.press(row)
+    jane.press("Send what came after the draw that was wrong")
     see_ticked(jane, (fresh,))
     jane.press("Send what is ticked")
     office.season.answer(fresh)
