@@ -341,6 +341,30 @@ def test_more_rows_than_an_authority_has_are_refused(
     assert "a file has at most 0 MB. Send it as a zip" in said(receive(jane, DATA))
 
 
+def test_empty_lines_are_counted_and_not_read_for_the_first_rows(
+    tmp_path: pathlib.Path, monkeypatch: pytest.MonkeyPatch
+) -> None:
+    """They are no rows: a short zip could have hundreds of millions, which each look at the page
+    would read.
+    """
+    path, read = tmp_path / "file", list[object]()
+    path.write_text("\n".join([HEAD, *ROWS]) + "\n" * 9_000, "ascii")
+    real = gazetteer_rows.Lines.part
+
+    def part(lines: gazetteer_rows.Lines) -> str:
+        read.append(lines)
+        return real(lines)
+
+    monkeypatch.setattr(gazetteer_rows.Lines, "part", part)
+    assert len(gazetteer_rows.first_rows(path, "homes.csv")) == 4
+    assert len(read) <= gazetteer_rows.FIRST_LINES + 1
+    columns = gazetteer_rows.Columns(0, 2, 3, 4, False, True)
+    assert len(list(gazetteer_rows.places(path, "homes.csv", columns, None))) == 3
+    monkeypatch.setattr(gazetteer_rows, "MOST_LINES", 5_000)
+    with pytest.raises(Refused, match="homes.csv has more than 5,000 lines"):
+        list(gazetteer_rows.places(path, "homes.csv", columns, None))
+
+
 def test_only_this_address_takes_a_large_body_and_from_officers_alone(
         office: Site, jane: Browser) -> None:
     """17 MiB are more than any other page takes."""

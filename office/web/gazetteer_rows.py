@@ -21,7 +21,9 @@ from .points import Metres
 # a file as it is sent, and unpacked; a whole county has some 600,000 addresses
 MOST_BYTES, MOST_UNPACKED, MOST_ROWS = 64 << 20, 400 * inputs.MB, 1_000_000
 MOST_LINE, MOST_JOINED, MOST_COLUMNS = 32_767, 20, 250
-FIRST_ROWS, BATCH = 8, 5_000
+# (empty lines are no rows, and a short zip has hundreds of millions)
+MOST_LINES = 3 * MOST_ROWS
+FIRST_ROWS, FIRST_LINES, BATCH = 8, 1000, 5_000
 ZIP = b"PK\x03\x04"
 # what the columns are called, in small letters without anything else
 NAMES = {
@@ -141,6 +143,8 @@ class Lines:
         if not text:
             return None
         self.number += 1
+        if self.number > MOST_LINES:
+            raise Refused(f"{self.name} has more than {MOST_LINES:,} lines: leave out empty ones")
         is_long = not text.endswith("\n") and len(text) >= MOST_LINE
         while is_long and (more := self.part()) and not more.endswith("\n"):
             pass
@@ -178,14 +182,18 @@ def lettered(text: str) -> str:
     return text.encode("utf-8", "surrogateescape").decode("cp1252", "replace")
 
 
-def rows_of(path: pathlib.Path, name: str) -> Iterator[tuple[int, Cells | None, str]]:
-    """The rows of a file that have anything: the number of the first line of each, its cells, or
-    None and why it cannot be read.
+def rows_of(
+    path: pathlib.Path, name: str, most: int | None = None,
+) -> Iterator[tuple[int, Cells | None, str]]:
+    """The rows of a file that have anything, or of so many of its first lines: the number of the
+    first line of each, its cells, or None and why it cannot be read.
     """
     with opened(path, name) as file:
         lines, between = Lines(file, name), ""
         while (line := lines.next()) is not None:
             number, text = line
+            if most is not None and number > most:
+                return
             if text is None:
                 yield number, None, f"the line has more than {MOST_LINE:,} characters"
                 continue
@@ -211,12 +219,12 @@ def cells_of(text: str, between: str) -> tuple[Cells | None, str]:
 def first_rows(path: pathlib.Path, name: str) -> list[Cells]:
     """The first rows that can be read."""
     found: list[Cells] = []
-    for number, cells, why in rows_of(path, name):
+    for number, cells, why in rows_of(path, name, FIRST_LINES):
         if cells is not None:
             found.append(cells)
         elif not found:
             raise Refused(f"{name} is no CSV with a row for each address: line {number}: {why}")
-        if len(found) > FIRST_ROWS or number > 1000:
+        if len(found) > FIRST_ROWS:
             break
     if not found or max(map(len, found)) < 3:
         raise Refused(f"{name} is no CSV with a row for each address: a row has a property number"
