@@ -1,12 +1,16 @@
 """Files that a browser sends: a sheet as its rows, and a copy of a register, of which nothing
 remains.
 """
+import io
 import pathlib
 import tempfile
+from typing import IO, Any
 
 import flask
 from register_files import Refused
 from werkzeug.datastructures import FileStorage
+from werkzeug.exceptions import RequestEntityTooLarge
+from werkzeug.formparser import FormDataParser
 
 from office import inputs, kinds, model, sheet_apart
 from office.model import Register
@@ -21,10 +25,32 @@ MOST_SHOWN = 5
 REGISTER = b"SQLite format 3\0"
 # the only address that takes more than all others: for a file, and what a form has beside it
 LARGE, MOST_LARGE = "/applications/gazetteer/file", gazetteer_rows.MOST_BYTES + (1 << 16)
+# a form has a field for each child of a set of letters, and some more. Each costs some
+# microseconds, and a body of the size of a workbook could have millions
+FORM, MOST_FIELDS = "application/x-www-form-urlencoded", 30_000
+
+
+class Fields(FormDataParser):
+    """Reads forms, but for one of so many fields that no page has them."""
+
+    def parse(
+        self, stream: IO[bytes], mimetype: str, content_length: int | None,
+        options: Any = None,
+    ) -> Any:
+        """The fields and files of a body."""
+        most = self.max_content_length or 0
+        if mimetype == FORM and (content_length or 0) <= most:
+            data = stream.read(most + 1)
+            if data.count(b"&") >= MOST_FIELDS:
+                raise RequestEntityTooLarge
+            stream, content_length = io.BytesIO(data), len(data)
+        return super().parse(stream, mimetype, content_length, options)
 
 
 class Request(flask.Request):
     """A request, whose body is bounded by where it is sent."""
+
+    form_data_parser_class = Fields
 
     @property
     def max_content_length(self) -> int | None:
