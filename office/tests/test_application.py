@@ -12,7 +12,7 @@ from applications import ORIGIN, ROUND, Browser, Site, child, office_over, site,
 from pages import Page, press
 from register_files import Refused
 
-from office.web import guard, history, people, store, wording
+from office.web import guard, history, letters_whom, people, store, uploads, wording
 from office.web.screens import activity
 
 ACCEPT = {"cmd": "accept", "child": 1, "school": "A"}
@@ -301,6 +301,22 @@ def test_what_is_typed_survives_the_end_of_a_session(office: Site) -> None:
     secret = {"present": "a sea of grey boats", "new": "a hill of red roofs", "again": "another"}
     found = jane.post("/password", secret)
     assert found.status_code == 401 and not any(it in found.text for it in secret.values())
+
+
+def test_a_form_of_more_fields_than_any_page_has_is_refused(tmp_path: pathlib.Path) -> None:
+    """Its body may be short: each field costs, and whoever is not signed in can send it too. A set
+    of letters has a field for each of its children.
+    """
+    with site(tmp_path, "http://127.0.0.1:1") as office:
+        nobody, jane = Browser(office.app), office.browser("jane")
+        for browser, path, status in ((nobody, "/people/", 401), (jane, "/answers/several", 403)):
+            for many, found in ((uploads.MOST_FIELDS - 1, status), (uploads.MOST_FIELDS, 413)):
+                answer = browser.client.post(
+                    path, base_url=ORIGIN, headers={"Origin": ORIGIN, "Accept": "text/html"},
+                    data=b"a" + b"&a" * many, content_type=uploads.FORM)
+                assert answer.status_code == found, (path, many)
+        assert "That is too large" in answer.text
+    assert uploads.MOST_FIELDS > letters_whom.MOST + 1000
 
 
 def test_a_new_password_ends_the_other_sessions(office: Site) -> None:
@@ -654,6 +670,23 @@ def test_an_entry_is_as_it_is_read_again(tmp_path: pathlib.Path) -> None:
     found.close()
     again = history.History(str(path))
     assert again.entries == [entry]
+    again.close()
+
+
+def test_a_history_that_begins_anew_has_nothing_of_the_one_before(tmp_path: pathlib.Path) -> None:
+    """A restore of the season before undoes nothing that is recorded after it."""
+    path = tmp_path / "history.jsonl"
+    found = history.History(str(path))
+    found.add("hal", "signed in", {})
+    found.add("hal", "signed in", {})
+    found.add("hal", history.RESTORED, {"copy": 1, "position": 1})
+    found.begin_anew("hal", "deleted the season", {})
+    sent = found.add("jane", history.SENDS, {"command": {"cmd": "accept", "child": 1}})
+    found.add("jane", history.ANSWER, {"of": sent.number, "answer": {"done": True}})
+    assert list(found.done()) == [sent]
+    found.close()
+    again = history.History(str(path))
+    assert list(again.done()) == [sent]
     again.close()
 
 

@@ -206,6 +206,7 @@ class History:
             self.sync_folder()
             os.close(self.fd)
             self.fd, self.entries, self.open, self.told = fd, [], {}, set()
+            self.restores = []
             self.take(entry)
             self.before, self.length = digest(line), len(line)
             return entry
