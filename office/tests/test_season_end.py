@@ -27,11 +27,12 @@ from register_files import Refused
 from served import served
 
 from office import days
-from office.web import archive, history, people, season_end
+from office.web import archive, history, letters_sets, people, season_end
 from office.web.copies import Copies
 from office.web.draws_terms import Terms
 from office.web.parts import Config, Parts
 from office.web.season_end import End, SeasonEnd
+from office.web.trials import Program, Run
 
 TODAY = datetime.date(2026, 1, 10)
 DAY = TODAY + days.DELETION_NOTICE
@@ -561,6 +562,32 @@ def test_a_deletion_that_was_killed_goes_on(
         assert [it.what for it in office.parts.history.entries] == ["deleted the season",
                                                                     "signed in"]
         assert "was deleted" in jane.page()
+
+
+def test_letters_previews_and_trials_end_with_the_season(
+    tmp_path: pathlib.Path, served_town: str, monkeypatch: pytest.MonkeyPatch
+) -> None:
+    """Nobody reads them afterwards, and no file of theirs is left."""
+    with ended_season(tmp_path, served_town, TODAY, monkeypatch) as office:
+        head, jane = Person(office, "hal", "head"), Person(office, "jane", "officer")
+        for step, given in (("copy", {}), ("archive", {}), ("archive/file", {"kept": WHERE}),
+                            ("day", {"day": "24/1/2026", "reason": WHY})):
+            head.press(step, 200 if step == "archive/file" else 303, **given)
+        office.parts.end.today = lambda: DAY
+        head.press("ask", name=NAME)
+        own = office.parts.config.folder
+        preview = f"{hashlib.sha256(b'hal').hexdigest()}.pdf"
+        for folder, name in ((letters_sets.FOLDER, "7/letters.json"),
+                             (letters_sets.PREVIEWS, preview)):
+            (own / folder / name).parent.mkdir(exist_ok=True)
+            (own / folder / name).write_text("of Ada Abel")
+        office.parts.trials.runs[1] = Run(1, "hal", history.now(), [], Program(PROGRAM, 1))
+        assert head.browser.get("/letters/templates/preview.pdf").text == "of Ada Abel"
+        jane.press("confirm", name=NAME)
+        see_forgotten(office, office.parts.history.entries[0].about["digest"], 4)
+        assert not list((own / letters_sets.FOLDER).iterdir())
+        assert head.browser.get("/letters/templates/preview.pdf").status_code == 404
+        assert not office.parts.trials.listed()
 
 
 def test_nobody_is_one_of_two_whom_the_other_has_made(

@@ -44,8 +44,8 @@ KEPT_UNSENT = datetime.timedelta(days=60)
 MOST_BYTES, LEAST_FREE = 1_000 * inputs.MB, 300 * inputs.MB
 FILES = {PDF: "letters.pdf", MERGE: "letters.xlsx"}
 SNAPSHOT = "letters.json"
-# the folder beside that of the sets that has what people previewed
-PREVIEWS = "previews"
+# the folder of the sets, and the one beside it that has what people previewed
+FOLDER, PREVIEWS = "letters", "previews"
 ENDED_BEFORE = "these letters were ended"
 BROKEN = "something went wrong in the application. Tell whoever maintains it"
 

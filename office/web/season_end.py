@@ -36,6 +36,7 @@ DELETING, DELETED = "deleting", "deleted"
 # what the machine is asked for, by the number of a day
 DAY, DELETE = "deletion-day", "delete"
 SET_DAY, DELETED_SEASON = "set the day of deletion", "deleted the season"
+# the folders of the application that have something of children
 # what is counted by a name of its own before it is deleted, by its table
 CALLED = {
     "staged_row": "rows of files of applications", "answer": "answers that wait in piles",
@@ -395,6 +396,7 @@ class SeasonEnd:
         """
         store, copies = self.parts.store, self.parts.copies
         self.parts.desk.copy = copies.read = None
+        self.parts.trials.forget()
         with store.lock:
             store.db.execute("PRAGMA secure_delete=ON")
             with store.writing() as db:

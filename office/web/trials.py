@@ -95,6 +95,12 @@ class Trials:
         for it in self.listed():
             it.program.end()
 
+    def forget(self) -> None:
+        """Ends the one that is under way, and keeps none."""
+        self.close()
+        with self.lock:
+            self.runs = {}
+
     def listed(self) -> list[Run]:
         """Those that are kept, the last first."""
         with self.lock:
