@@ -453,6 +453,11 @@ def killed(*_: object, **__: object) -> None:
     raise Killed
 
 
+def too_soon(*_: object) -> dict[str, Any]:
+    """What the machine says of a day."""
+    raise Refused("the day is too soon")
+
+
 @contextlib.contextmanager
 def ended_season(
     folder: pathlib.Path, address: str, day: datetime.date, patch: pytest.MonkeyPatch
@@ -603,9 +608,20 @@ def test_nobody_is_one_of_two_whom_the_other_has_made(
         head.press("ask", name=NAME)
         made = head.browser.post("/people/", {"what": "reset", "name": "jane"})
         assert made.status_code == 200
-        with pytest.raises(Refused, match="jane was given another password by hal"):
+
+        def confirmed() -> None:
             found = office.parts.end.get()
             office.parts.end.confirm(people.Person("jane", "officer"), found.version, NAME, "")
+
+        with pytest.raises(Refused, match="jane was given another password by hal"):
+            confirmed()
+        # another day, which the machine refuses, is none since which jane is the same: as one that
+        # is asked for right before midnight
+        with monkeypatch.context() as patch:
+            patch.setattr(Copies, "asked", too_soon)
+            head.press("day", 409, day="1/2/2027", reason=WHY)
+        with pytest.raises(Refused, match="jane was given another password by hal"):
+            confirmed()
         assert not office.parts.end.get().phase
 
 
@@ -693,10 +709,19 @@ def test_the_machine_waits_for_the_day(
     monkeypatch.setattr(deletion, "today", lambda: DAY - datetime.timedelta(days=1))
     assert asked(place, "delete", "20260124")["error"] == "NotYet"
     monkeypatch.setattr(deletion, "today", lambda: DAY)
-    kept.chmod(0o666)
-    assert asked(place, "delete", "20260124")["error"] == "NotKept"
+    for mode in (0o620, 0o602):
+        kept.chmod(mode)
+        assert asked(place, "delete", "20260124")["error"] == "NotKept"
+    kept.chmod(0o600)
+    with monkeypatch.context() as patch:
+        another = kept.stat().st_uid + 1
+        patch.setattr(os, "geteuid", lambda: another)
+        assert asked(place, "delete", "20260124")["error"] == "NotKept"
     kept.unlink()
     assert asked(place, "delete", "20260124")["error"] == "OtherDay"
+    os.mkfifo(kept, 0o600)
+    assert asked(place, "delete", "20260124")["error"] == "NotKept"
+    kept.unlink()
     (place / "day").write_text(f"{DAY}\n")
     kept.symlink_to(place / "day")
     assert asked(place, "delete", "20260124")["error"] == "NotKept"
@@ -814,6 +839,9 @@ def test_the_machine_keeps_a_day_that_is_ahead(
     monkeypatch.setattr(registers, "program", lambda _: PROGRAM)
     assert asked(place, "deletion-day", "20260123")["error"] == "TooSoon"
     assert asked(place, "deletion-day", "20260230")["error"] == "NoDay"
+    assert deletion.kept(found) == DAY
+    deletion.place(found).unlink()
+    assert asked(place, "deletion-day", "20260124") == {"day": "2026-01-24", "number": 20260124}
     assert deletion.kept(found) == DAY
     assert asked(place, "deletion-day", "20260301") == {"day": "2026-03-01", "number": 20260301}
     assert deletion.kept(found) == datetime.date(2026, 3, 1)

@@ -16,22 +16,22 @@ MADE = {
 }
 
 
-def made_since(record: History, name: str, began: str = BEGAN,
+def made_since(record: History, name: str, began: str | int = BEGAN,
                what: str = "this draw was begun") -> str:
     """Why a person is none of the two for the draw in progress, which is the one that was begun
-    last, or for what else began with such an entry; or "".
+    last, or for what else began with such an entry or with that of this number; or "".
     """
     found = made(record, name, began)
     return (f"{in_words(found, name, what)}: somebody does this who had their role and their"
             " password before") if found else ""
 
 
-def made(record: History, name: str, began: str = BEGAN) -> Entry | None:
+def made(record: History, name: str, began: str | int = BEGAN) -> Entry | None:
     """What was done to a person since the last draw began, if anything was."""
     with record.lock:
         entries = list(record.entries)
     for it in reversed(entries):
-        if it.what == began:
+        if began in (it.what, it.number):
             break
         if it.what in MADE and it.about.get("person") == name:
             return it

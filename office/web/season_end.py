@@ -71,7 +71,8 @@ class Open:
 @dataclasses.dataclass(frozen=True)
 class End:
     """How far the end of the season is. Its version grows with each step: who decides names the one
-    that they saw. The archive is by its file, its bytes and SHA-256 sum.
+    that they saw. The archive is by its file, its bytes and SHA-256 sum, and the day of deletion
+    also by the entry of the history from before the machine was asked for it.
     """
 
     version: int = 0
@@ -90,6 +91,7 @@ class End:
     day: str = ""
     reason: str = ""
     day_by: str = ""
+    day_entry: int = 0
     asked_by: str = ""
     asked: str = ""
     confirmed_by: str = ""
@@ -294,10 +296,11 @@ class SeasonEnd:
                 raise WrongField("day", "whoever runs the machine must have time to object: choose"
                                  f" {days.in_words(soonest)} or a later day")
             see_line("reason", reason, "why")
-            self.record(who, SET_DAY, day=day.isoformat(), reason=reason, before=found.day)
+            entry = self.parts.history.add(who.name, SET_DAY, {
+                "day": day.isoformat(), "reason": reason, "before": found.day})
             self.parts.copies.asked(DAY, number_of(day))
-            self.store(found, day=day.isoformat(), reason=reason, day_by=who.name, asked_by="",
-                       asked="")
+            self.store(found, day=day.isoformat(), reason=reason, day_by=who.name,
+                       day_entry=entry.number, asked_by="", asked="")
 
     # the deletion
 
@@ -331,10 +334,15 @@ class SeasonEnd:
 
     def see_steady(self, who: Person) -> None:
         """Refuses as one of two persons somebody whom the other one could have made up."""
-        said = draws_second.made_since(self.parts.history, who.name, SET_DAY,
-                                       "the day of deletion was set")
-        if said:
+        if said := self.not_steady(who):
             raise Refused(said)
+
+    def not_steady(self, who: Person) -> str:
+        """Why a person is none of the two since the day of deletion was set, or "". (A day that the
+        machine has refused since is in the history too, and is none.)
+        """
+        return draws_second.made_since(
+            self.parts.history, who.name, self.get().day_entry, "the day of deletion was set")
 
     def ask(self, who: Person, seen: int, name: str) -> None:
         """Says that the season is to be deleted, which another person confirms."""

@@ -13,10 +13,9 @@ from office.model import Register
 
 from .. import numbers, season_end
 from ..archive import Item
-from ..draws_second import made_since
 from ..guard import needs, parts, person
 from ..people import CONFIRM, END
-from ..season_end import DELETED, DELETING, SET_DAY, End, WrongField
+from ..season_end import DELETED, DELETING, End, WrongField
 from ..wording import day_of, sentence
 
 screen = flask.Blueprint("season_end", __name__, url_prefix="/season-end")
@@ -78,10 +77,9 @@ def soonest(register: Register, today: datetime.date) -> datetime.date:
 
 def not_second(found: End) -> str:
     """Why the person cannot confirm the deletion, or ""."""
-    name = person().name
-    if found.asked_by == name:
+    if found.asked_by == person().name:
         return "You have asked for the deletion: somebody else confirms it."
-    return sentence(made_since(parts().history, name, SET_DAY, "the day of deletion was set"))
+    return sentence(parts().end.not_steady(person()))
 
 
 def refused(error: Refused) -> Answer:
