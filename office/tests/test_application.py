@@ -1,4 +1,5 @@
 """The application: who may do what, what is on record, and what is sent only if nothing changed."""
+import contextlib
 import json
 import pathlib
 import sqlite3
@@ -14,6 +15,7 @@ from register_files import Refused
 
 from office.web import guard, history, letters_whom, people, store, uploads, wording
 from office.web.screens import activity
+from office.web.screens import people as people_screen
 
 ACCEPT = {"cmd": "accept", "child": 1, "school": "A"}
 DECLINE = {"cmd": "decline", "child": 1, "school": "A"}
@@ -407,6 +409,33 @@ def test_flags_are_named_by_typing_alone(office: Site) -> None:
     page = Page(jane.post("/flags/", sent).text)
     assert page.focus == "flag-3" and page.error("flag-3") and page.error("flag-5")
     assert Page(jane.get("/flags/?stored=x").text).focus == ""
+
+
+def test_two_who_add_the_same_name_at_once_leave_one_record(
+    tmp_path: pathlib.Path, monkeypatch: pytest.MonkeyPatch
+) -> None:
+    """Nothing is on record that was not done: it could name another role."""
+    real, both = people_screen.wrong_in, threading.Barrier(2)
+
+    def slowly(name: str, role: str) -> dict[str, str]:
+        found = real(name, role)
+        with contextlib.suppress(threading.BrokenBarrierError):
+            both.wait(1)
+        return found
+
+    monkeypatch.setattr(people_screen, "wrong_in", slowly)
+    with site(tmp_path, "http://127.0.0.1:1") as office:
+        heads, answers = [office.browser(it, "head") for it in ("hal", "ann")], list[int]()
+        threads = [threading.Thread(target=lambda it=it, role=role: answers.append(it.post(
+            "/people/", {"what": "add", "name": "bo", "role": role}).status_code))
+            for it, role in zip(heads, ("reader", "officer"))]
+        for it in threads:
+            it.start()
+        for it in threads:
+            it.join()
+        kept = [it.about["role"] for it in office.parts.history.entries if it.what == "added"]
+        row = office.parts.store.row("SELECT role FROM person WHERE name='bo'")
+    assert sorted(answers) == [200, 409] and row and kept == [row["role"]]
 
 
 def test_a_person_with_a_pile_is_not_removed(office: Site) -> None:

@@ -73,10 +73,12 @@ def wrong_in(name: str, role: str) -> dict[str, str]:
 
 def add(name: str, role: str, kind: str) -> Answer:
     """Adds a person or a program."""
-    if wrong := wrong_in(name, role):
-        return page("Nobody was added: see what is wrong below.", status=409, wrong=wrong)
-    guard.record("added", person=name, role=role, kind=kind)
-    secret = parts().people.add(name, role, kind)
+    with parts().store.lock:
+        # (nobody else adds the same name between the record and what it announces)
+        if wrong := wrong_in(name, role):
+            return page("Nobody was added: see what is wrong below.", status=409, wrong=wrong)
+        guard.record("added", person=name, role=role, kind=kind)
+        secret = parts().people.add(name, role, kind)
     return page(f"{name} is added as {role}.", (name, secret, kind == PROGRAM))
 
 
