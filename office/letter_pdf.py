@@ -307,6 +307,8 @@ def all_shown(refused: list[str]) -> Iterator[None]:
 
     def note(record: logging.LogRecord) -> bool:
         if (said := record.getMessage()).startswith("Failed to load"):
+            # (without the folder of this run, which says nothing to who reads it)
+            said = re.sub("'file:[^']*/", "'", said)
             refused.append(f"the template names what cannot be shown: {said}")
         return True
 

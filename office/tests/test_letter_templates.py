@@ -12,8 +12,11 @@ from typing import Any
 import pytest
 from applications import ROUND, Browser, Site, office_over, town
 from letter_site import asked, count, letter_pages, made, pages
+from register_files import Refused
 
 from office import letters_apart
+from office.letters_apart import Source
+from office.web import letters_templates
 
 GOOD = "<h1>{{ letter.name }}</h1>\n<p>{{ date }}</p>\n"
 LOOP = ("<p>x</p>\n{% for a in range(99999) %}{% for b in range(99999) %}\n"
@@ -154,6 +157,20 @@ def test_pictures_are_those_that_were_uploaded_with_the_template(office: Site) -
     assert saved(head, GOOD, path, 2, remove="crest.png").status_code == 303
     versions = office.app.extensions["letters"].templates.versions(number_of(path))
     assert [set(it.pictures) for it in versions] == [set(), {"crest.png"}, set()]
+
+
+def test_a_picture_that_cannot_be_shown_is_named_without_its_folder() -> None:
+    """Of some bytes, and of 900 million points as it says."""
+    def part(kind: bytes, data: bytes) -> bytes:
+        return b"%s%s%s%s" % (len(data).to_bytes(4, "big"), kind, data,
+                              zlib.crc32(kind + data).to_bytes(4, "big"))
+
+    size = (30_000).to_bytes(4, "big")
+    bomb = b"\x89PNG\r\n\x1a\n" + part(b"IHDR", size + size + bytes([1, 0, 0, 0, 0])) + part(
+        b"IDAT", zlib.compress(b"")) + part(b"IEND", b"")
+    source = Source("Offers", '<p>x<img src="crest.png">', {"crest.png": bomb})
+    with pytest.raises(Refused, match="Failed to load image at 'crest.png': "):
+        letters_templates.see_good(source)
 
 
 def test_only_the_head_writes_templates(office: Site) -> None:
