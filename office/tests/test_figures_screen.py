@@ -1,6 +1,7 @@
 """The published figures on their screen: what is withheld and why, beside last year, and the file
 for publication. The numbers are worked out by hand on a register with two schools.
 """
+import hashlib
 import html.parser
 import io
 import json
@@ -15,6 +16,8 @@ from conftest import apply, child, do, make, school
 from test_figures import move
 
 from office.web import figures
+from office.web.figures import MOST, FiguresStore
+from office.web.store import Store
 
 # OAK has 7 places and ELM 2, and 10 children live ever farther from both. All want OAK first but
 # the last two, who want ELM alone; the first is looked after. So OAK offers 7 places (1 to a child
@@ -210,3 +213,20 @@ def test_what_changed_since_needs_the_copy(tmp_path: pathlib.Path) -> None:
         about = json.loads(it.parts.store.rows("SELECT about FROM figures")[0][0])
         assert about["children"] == 10 and about["is_of_copy"]
         assert ["", "children with first preference", "9", figures.BESIDE] in about["withheld"]
+
+
+def test_what_was_taken_is_kept_and_of_the_rest_the_last(tmp_path: pathlib.Path) -> None:
+    """Who took it first stays, and the digest is that of the page."""
+    store = Store(str(tmp_path / "office.db"))
+    found = FiguresStore(store)
+    first = found.add("jane", b"page 1", {})
+    found.take("jane", first)
+    found.take("bo", first)
+    for number in range(first + 1, first + MOST + 3):
+        assert found.add("jane", b"page %d" % number, {}) == number
+    kept = found.listed()
+    assert [it.number for it in kept] == [*range(first + MOST + 2, first + 2, -1), first]
+    assert [it.taken_by for it in kept] == [""] * MOST + ["jane"]
+    assert kept[-1].digest == hashlib.sha256(b"page 1").hexdigest()
+    assert found.page(first) == b"page 1"
+    store.close()

@@ -365,6 +365,14 @@ def test_empty_lines_are_counted_and_not_read_for_the_first_rows(
         list(gazetteer_rows.places(path, "homes.csv", columns, None))
 
 
+def test_a_line_that_names_the_separator_is_no_row(tmp_path: pathlib.Path) -> None:
+    """As spreadsheets write it before all others."""
+    path = tmp_path / "file"
+    path.write_text("sep=;\nUPRN;X;Y\n1;430000;210000\n", "ascii")
+    assert gazetteer_rows.first_rows(path, "homes.csv") == [
+        ["UPRN", "X", "Y"], ["1", "430000", "210000"]]
+
+
 def test_only_this_address_takes_a_large_body_and_from_officers_alone(
         office: Site, jane: Browser) -> None:
     """17 MiB are more than any other page takes."""

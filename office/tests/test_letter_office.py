@@ -17,6 +17,8 @@ from letter_site import (
 from test_letter_templates import number_of, own
 
 from office import letter_pdf
+from office.web import letters_back
+from office.web.history import ANSWER, SENDS, History
 from office.web.letters_examples import ADDRESS, DAY, OFFERED, SENDER
 
 
@@ -219,6 +221,24 @@ def sheet(rows: list[list[Any]]) -> io.BytesIO:
 def uploaded(browser: Browser, data: io.BytesIO, name: str, way: str) -> Any:
     """The answer to a file of addresses."""
     return browser.post("/letters/addresses/", {"way": way, "file": (data, name)})
+
+
+def test_what_was_recorded_before_the_letters_does_not_rest_on_them(
+    tmp_path: pathlib.Path,
+) -> None:
+    """Nor what was recorded for other children."""
+    record = History(str(tmp_path / "history.jsonl"), lambda: "2025-03-17T10:00:00.000+00:00")
+    for name, number in (("remind", 1), ("lapse", 3), ("accept", 4)):
+        sent = record.add("jane", SENDS, {"command": {"cmd": name, "child": number}})
+        record.add("jane", ANSWER, {"of": sent.number, "answer": {"done": True}})
+    before, after = "2025-03-17T09:00", "2025-03-17T11:00"
+    assert letters_back.noticed(record, {1, 2}, before) == (
+        "a reminder was recorded for child 1 since")
+    assert letters_back.noticed(record, {3}, before) == (
+        "a withdrawal was recorded for child 3 since")
+    assert letters_back.noticed(record, {2, 4}, before) == ""
+    assert letters_back.noticed(record, {1, 3}, after) == ""
+    record.close()
 
 
 def test_addresses_are_uploaded_once_and_stand_on_the_letters(office: Site) -> None:

@@ -1,8 +1,10 @@
 """The screens of letters over the real program: whom, sets made in the background, what was sent,
 and drafts. Expected texts are worked out by hand.
 """
+import dataclasses
 import datetime
 import io
+import json
 import pathlib
 import re
 from collections.abc import Iterator
@@ -10,7 +12,7 @@ from typing import Any
 
 import openpyxl
 import pytest
-from applications import Browser, Site
+from applications import Browser, Site, site
 from conftest import make
 from draw_site import machine_over
 from letter_site import (
@@ -18,8 +20,11 @@ from letter_site import (
     made, pages, waited,
 )
 from pages import Page
+from register_files import Refused
 
 from office.web import letters_whom
+from office.web.letters_sets import Asked
+from office.web.people import Person
 
 
 @pytest.fixture(name="address", scope="module")
@@ -189,6 +194,45 @@ def test_nobody_is_sent_a_letter_twice_by_a_slip(office: Site) -> None:
     assert jane.post(f"{one}/record", {"day": "5 March 2025", "count": "2"}).status_code == 400
     assert recorded(hal, other, agreed="yes")[0] == 303
     assert office.parts.history.entries[-1].about["again"] == [1, 2]
+
+
+def test_a_letter_about_something_else_is_no_second_one(tmp_path: pathlib.Path) -> None:
+    """Child 1 has the letter of its offer, and now one of its reminder; child 2 the same again."""
+    with site(tmp_path, "http://127.0.0.1:1") as office:
+        sets = office.app.extensions["letters"]
+        with office.parts.store.writing() as db:
+            db.executemany(
+                "INSERT INTO letter_set (id, key, who, at, asked, state, total, sent, sent_by)"
+                " VALUES (?, ?, 'jane', '', '{}', 'made', 2, ?, 'jane')",
+                [(1, "one", "2025-03-03"), (2, "two", None)])
+            db.executemany(
+                "INSERT INTO letter (set_id, place, child, about, words, html)"
+                " VALUES (?, ?, ?, ?, '', x'')",
+                [(1, 0, 1, "draw 1 A offered"), (1, 1, 2, "draw 1 B offered"),
+                 (2, 0, 1, "reminder A 2025-03-17"), (2, 1, 2, "draw 1 B offered")])
+        assert sets.again(2) == [(2, "sent on 3 March 2025, by jane")]
+
+
+def test_neither_drafts_nor_fewer_letters_are_recorded_as_sent(tmp_path: pathlib.Path) -> None:
+    """Nor those of another number than was shown, also where it is less."""
+    jane, day = Person("jane", "officer"), datetime.date(2025, 3, 17)
+    with site(tmp_path, "http://127.0.0.1:1") as office:
+        sets = office.app.extensions["letters"]
+        asked_for = Asked("two", [1, 2], sets.templates.standard(), 1, "2025-03-17", "merge")
+        with office.parts.store.writing() as db:
+            db.execute("INSERT INTO letter_set (id, key, who, at, asked, state, total, is_draft)"
+                       " VALUES (1, 'one', 'jane', '', ?, 'made', 2, 1)",
+                       (json.dumps(dataclasses.asdict(asked_for)),))
+            db.executemany("INSERT INTO letter (set_id, place, child, about, words, html)"
+                           " VALUES (1, ?, ?, 'draw 1 none', '', x'')", [(0, 1), (1, 2)])
+        with pytest.raises(Refused, match="these letters are drafts"):
+            sets.record(jane, 1, day, 2, False)
+        sets.change(1, "is_draft=0")
+        with pytest.raises(Refused, match="the set has changed since it was shown"):
+            sets.record(jane, 1, day, 1, False)
+        assert not sets.get(1).sent
+        sets.record(jane, 1, day, 2, False)
+        assert sets.get(1).sent == "2025-03-17"
 
 
 def test_a_set_of_another_number_is_not_recorded(office: Site) -> None:

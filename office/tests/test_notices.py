@@ -20,6 +20,9 @@ from register_files import Refused
 from office.senders import Ended
 from office.web import notices
 from office.web.answers import Meant
+from office.web.notice_marks import Marks
+from office.web.people import Person
+from office.web.screens import notices as screen
 
 
 @pytest.fixture(name="address", scope="function")
@@ -200,6 +203,27 @@ def test_a_row_that_stopped_goes_on_and_sends_nothing_twice(
     assert len(sent) == 2 and len(office.copied) == 1
 
 
+def test_a_row_stops_where_the_register_is_closed(office: Site) -> None:
+    """At the first that cannot be sent; and goes on once it is open."""
+    jane, desk = office.browser("jane"), office.parts.desk
+    page, is_open = shown(jane, "remind", "17 March 2025", [1, 4]), desk.closed
+    desk.closed = lambda: "Closed for a draw."
+    path = confirmed(jane, "remind", page).location
+    with office.app.app_context():
+        row = screen.rows().get(1)
+    assert row.said == "Closed for a draw."
+    assert [(it.state, it.said) for it in row.notices] == [
+        ("waits", "Closed for a draw."), ("waits", "")]
+    with office.parts.store.writing() as db:
+        # (as where the application ends right before it sends one)
+        db.execute("UPDATE notice SET state='sending' WHERE place=1")
+    desk.closed = is_open
+    assert jane.post(path).status_code == 303
+    with office.app.app_context():
+        row = screen.rows().get(1)
+    assert row.said == "" and row.count("done") == 2
+
+
 def test_a_row_that_was_killed_is_settled_by_a_look(office: Site) -> None:
     """The first was sent and its answer lost with the application: it is not sent again."""
     jane = office.browser("jane")
@@ -239,6 +263,11 @@ def test_an_offer_is_not_withdrawn_while_its_answer_waits_in_a_pile(
     bo.post("/answers/", {"entry": "4"})
     found = confirmed(jane, "lapse", question)
     assert found.status_code == 409 and "hild 4: bo has an answer" in found.text
+    day = datetime.date(2025, 3, 31)
+    due = [it for it in notices.due(office.parts.desk.now(), "lapse", day) if it.child == 4]
+    # (and once more right before it is stored, as the answer may have come since)
+    with pytest.raises(Refused, match="child 4: bo has an answer"), office.app.app_context():
+        screen.rows().add(Person("jane", "officer"), "a key", "lapse", day, due)
     assert count(office, "notice_row") == 0
     question = shown(jane, "lapse", "31 March 2025", [3])
     make = office.parts.copies.make
@@ -255,6 +284,21 @@ def test_an_offer_is_not_withdrawn_while_its_answer_waits_in_a_pile(
     assert {2, 3, 4} <= set(office.parts.desk.now().places)
 
 
+def test_an_answer_that_may_be_of_a_child_is_said_beside_it(office: Site) -> None:
+    """One of which a pile has the name alone; and what an answer is, in words."""
+    office.add("bo", "officer")
+    with office.parts.store.writing() as db:
+        db.executemany(
+            "INSERT INTO answer (person, typed, kind, child, school, name, seen, state, said,"
+            " after) VALUES ('bo', '', ?, ?, '', ?, '', ?, '', 0)",
+            [("accept", None, NAMES[2], "waits"), ("leave_list", 3, "", "waits"),
+             ("accept", None, NAMES[1], "done"), ("accept", 4, "", "done")])
+    marks = Marks(office.parts.store, office.parts.history, office.parts.desk.now())
+    assert marks.of(2) == ("bo has an answer in a pile that may be of this child",)
+    assert marks.of(3) == ("bo has an answer for this child in a pile (leave the list)",)
+    assert marks.of(1) == marks.of(4) == ()
+
+
 def test_a_child_that_is_looked_after_is_named_before_a_withdrawal(
     office: Site, address: str,
 ) -> None:
@@ -264,7 +308,13 @@ def test_a_child_that_is_looked_after_is_named_before_a_withdrawal(
         {**child(2, 200, NAMES[2]), "cmd": "amend", "looked_after": True}])
     jane = office.browser("jane")
     assert "looked after, or was" in jane.get("/notices/lapse?day=31 March 2025").text
-    assert "looked after, or was" in shown(jane, "lapse", "31 March 2025", [2]).text
+    question = shown(jane, "lapse", "31 March 2025", [2])
+    assert "looked after, or was" in question.text
+    # (what is said beside a child is confirmed with it)
+    beside(office, address, [{**child(2, 200, NAMES[2]), "cmd": "amend"}])
+    found = confirmed(jane, "lapse", question)
+    assert found.status_code == 409 and "What was shown has changed meanwhile" in found.text
+    assert "looked after, or was" not in found.text and count(office, "notice_row") == 0
 
 
 DAY = datetime.date(2025, 3, 17)

@@ -1,6 +1,7 @@
 """Points of homes in the application: looked up for files, forms and corrections; what was found,
 what was not and what differs; and where each point came from, before and after it is stored.
 """
+import dataclasses
 from collections.abc import Iterator
 
 import gazetteers
@@ -279,3 +280,49 @@ def test_a_point_is_kept_as_it_was_in_the_store() -> None:
     made = Point("gazetteer", "postcode", "AB1 2CD", "2026-03-03", (1, 2), ("a", "b"), True)
     assert points.unpacked(made.packed()) == made and points.unpacked("") == Point()
     assert made.words == "from postcode AB1 2CD, approximate, gazetteer of 3 March 2026"
+
+
+CELLS = {"east": "430000", "north": "210000"}
+DAY = "2025-03-01"
+
+
+@pytest.mark.parametrize("by, far", [(points.PROPERTY, 50), (points.POSTCODE, 1000)])
+def test_a_point_that_differs_is_asked_about_from_some_metres_on(by: str, far: int) -> None:
+    """A postcode is the middle of several homes."""
+    near = Point(points.FILE, by, "1", DAY, (430000 + far, 210000))
+    more = dataclasses.replace(near, at=(430001 + far, 210000))
+    swapped = dataclasses.replace(near, at=(210000, 430000 - far))
+    assert points.question(near, CELLS) == ""
+    assert points.question(more, CELLS).startswith("is it right?")
+    assert points.question(swapped, CELLS).startswith("are east and north swapped?")
+    assert points.question(dataclasses.replace(more, is_kept=True), CELLS) == ""
+
+
+def test_what_is_to_be_looked_at_of_a_point() -> None:
+    """The middle of a postcode until somebody has kept it; and 0, 0, which is in the sea."""
+    found = Point(points.GAZETTEER, points.POSTCODE, "AB1 2CD", DAY, (430000, 210000))
+    assert [it[:12] for it in points.findings(found, CELLS)] == ["approximate:"]
+    assert not list(points.findings(dataclasses.replace(found, is_kept=True), CELLS))
+    assert list(points.findings(Point(), {"east": "0", "north": "0"})) == [
+        "the point 0, 0 is in the sea: is it missing?"]
+    assert points.has_any({"east": "1", "north": " "})
+    typed = points.after(Point(), CELLS, {"east": "1"})
+    assert (typed.source, typed.is_kept) == (points.TYPED, True)
+    assert points.after(Point(), CELLS, CELLS) == Point()
+
+
+def test_the_ends_of_numbers_and_places() -> None:
+    """Halves of metres go up; a property number has one to twelve figures, and is none of zeros;
+    swapped is what is far from the schools, and near them the other way round.
+    """
+    assert points.whole(0.5, 2.5) == (1, 3)
+    assert "AB12CD" in points.postcodes_of("ABL 2CD")
+    for text, is_one in (("0", False), ("1", True), ("9" * 12, True), ("1" + "0" * 12, False)):
+        assert (not points.property_of(text).expected) == is_one, text
+    middle = (430000, 210000)
+    assert points.is_swapped((210000, 430000), middle)
+    # (100 km from the schools and no more; and 50 km from them the other way round)
+    assert not points.is_swapped((330000, 210000), middle)
+    assert not points.is_swapped((329000, 210000), middle)
+    assert not points.is_swapped((210000, 480000), middle)
+    assert points.is_swapped((210000, 479999), middle)

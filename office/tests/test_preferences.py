@@ -3,6 +3,7 @@ where a family wants another list.
 """
 import datetime
 import pathlib
+import re
 from collections.abc import Iterator
 from typing import Any
 
@@ -52,6 +53,8 @@ def test_an_application_in_time_is_asked_by_name_and_recorded_once(before: Site)
     assert "Record an application" in Page(jane.get("/children/5").text).text
     page = Page(jane.get(PATH).text)
     assert page.form(ASK).values["day"] == ["2024-10-31"]
+    assert sorted(set(re.findall('name="(preference-[0-9]+)"', page.text))) == [
+        "preference-1", "preference-2"]
     page = typed(jane, **{"preference-1": "B", "preference-2": "A"})
     assert page.tables["new"][1:] == [["1", "none", "B Beta"], ["2", "none", "A Alpha"]]
     assert page.by_id["becomes"].startswith(
@@ -77,6 +80,7 @@ def test_a_late_application_waits_after_the_round(after: Site) -> None:
     jane = after.browser("jane")
     page = typed(jane, **{"preference-1": "A", "day": "17/3/2025"})
     assert page.by_id["becomes"].startswith("It is late") and "waits" in page.by_id["becomes"]
+    assert "What was held stays as it is." in page.by_id["becomes"]
     found = press(jane, PATH, page, BUTTON)
     listed = Page(jane.get(found.location).text).tables["list"][1:]
     assert [it[:3] for it in listed] == [["1", "A Alpha", "waits, position 1 of 3"]]
@@ -147,6 +151,13 @@ def test_a_child_with_a_plan_has_no_form(before: Site) -> None:
     assert jane.command({"cmd": "name_plan", "child": 5, "school": "A"}).status_code == 200
     page = Page(jane.get(PATH).text)
     assert "place by a plan" in page.by_id["why-not"] and page.buttons() == ["Sign out"]
+
+
+def test_where_there_is_no_school_there_is_no_form(tmp_path: pathlib.Path) -> None:
+    """There is none to choose."""
+    with office_over(tmp_path, [EVE]) as office:
+        page = Page(office.browser("jane").get(PATH).text)
+    assert "There is no school yet" in page.by_id["why-not"] and page.buttons() == ["Sign out"]
 
 
 def test_only_who_records_has_the_form(before: Site) -> None:

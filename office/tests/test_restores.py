@@ -439,6 +439,41 @@ def test_a_restore_is_given_up_before_the_register_is_touched(small: Machine) ->
         assert room.state(number) == "given up" and room.now().schools["OAK"].pan == 2
 
 
+def test_one_restore_at_a_time_by_two_whom_nobody_has_made_since(small: Machine) -> None:
+    """Of whatever copy. Somebody with another password since then neither confirms it nor asks."""
+    with small.office() as office:
+        room = Room(office)
+        for purpose in ("a try", "another"):
+            office.parts.copies.make(purpose, "hal")
+        number = room.begin(1)
+        other = room.hal.post("/copies/2/restore", {})
+        assert other.status_code == 409 and "restore of copy 1 is in progress" in other.text
+        assert room.press(room.hal, number, "ask").status_code == 303
+        for browser, who, button in ((room.jane, "jane", "confirm"), (room.hal, "hal", "ask")):
+            office.parts.history.add("adm", "drew a new password", {"person": who})
+            found = room.press(browser, number, button)
+            assert found.status_code == 409
+            assert f"{who} was given another password by adm" in found.text.lower()
+            room.press(room.hal, number, "choose")
+        assert room.state(number) == "closed"
+
+
+def test_what_was_sent_again_keeps_nothing_of_its_child_back(small: Machine) -> None:
+    """Another entry of the same child can be sent later: nobody has recorded anything since."""
+    with small.office() as office:
+        room, restores = Room(office), office.parts.restores
+        office.parts.copies.make("a try", "hal")
+        sent(office, (HAL, ADDED), (JANE, APPLIED))
+        added, applied = (room.since()[it] for it in ("add_child", "apply"))
+        number = room.begin(1)
+        for browser, button, entries in (
+                (room.hal, "ask", (added,)), (room.jane, "confirm", ()), (room.hal, "open", ())):
+            assert room.press(browser, number, button, entries).status_code == 303
+        assert restores.later(restores.get(number)) == {applied: ""}
+        assert room.press(room.hal, number, "later", (applied,)).status_code == 303
+        assert list(room.now().applications[6].preferences) == ["ELM"]
+
+
 def test_a_restore_that_is_done_is_not_given_up(
     small: Machine, monkeypatch: pytest.MonkeyPatch
 ) -> None:

@@ -36,7 +36,6 @@ DELETING, DELETED = "deleting", "deleted"
 # what the machine is asked for, by the number of a day
 DAY, DELETE = "deletion-day", "delete"
 SET_DAY, DELETED_SEASON = "set the day of deletion", "deleted the season"
-# the folders of the application that have something of children
 # what is counted by a name of its own before it is deleted, by its table
 CALLED = {
     "staged_row": "rows of files of applications", "answer": "answers that wait in piles",
