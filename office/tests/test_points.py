@@ -3,6 +3,7 @@ what was not and what differs; and where each point came from, before and after 
 """
 import dataclasses
 from collections.abc import Iterator
+from unittest import mock
 
 import gazetteers
 import pytest
@@ -13,8 +14,9 @@ from pages import Page, press
 from staged import Cells, Screens, workbook
 
 from office.web import points
+from office.web.gazetteer import Found, Lookup
 from office.web.points import Point
-from office.web.staging_points import SETTING
+from office.web.staging_points import SETTING, Keys, looked_up, typed_point
 from office.web.staging_rows import OPEN, Staged
 from office.web.staging_tools import Tools
 
@@ -326,3 +328,22 @@ def test_the_ends_of_numbers_and_places() -> None:
     assert not points.is_swapped((329000, 210000), middle)
     assert not points.is_swapped((210000, 480000), middle)
     assert points.is_swapped((210000, 479999), middle)
+
+
+def test_a_point_that_is_there_stays_unless_another_is_asked_for() -> None:
+    """And so does what somebody has decided, as long as the gazetteer says the same."""
+    keys, other = Keys("7"), {"east": "1", "north": "2"}
+    lookup = mock.create_autospec(Lookup, instance=True)
+    lookup.find.return_value = Found(points.PROPERTY, "7", DAY, (430000, 210000)), []
+    cells, point = looked_up(other, keys, lookup, Point())
+    assert cells == other and point == Point(
+        points.FILE, points.PROPERTY, "7", DAY, (430000, 210000))
+    decided = dataclasses.replace(point, is_kept=True)
+    assert looked_up(other, keys, lookup, decided)[1] == decided
+    assert not looked_up(other, keys, lookup, dataclasses.replace(decided, at=(1, 1)))[1].is_kept
+    cells, point = looked_up(other, keys, lookup, Point(), True)
+    assert cells == CELLS and point.source == points.GAZETTEER
+    assert typed_point(CELLS, keys, lookup)[1].source == points.GAZETTEER
+    assert typed_point(other, keys, lookup)[1].source == points.TYPED
+    lookup.find.return_value = Found(points.PROPERTY, "7", DAY, (430001, 210000)), []
+    assert looked_up(cells, keys, lookup, point) == (cells, point)
