@@ -609,10 +609,13 @@ def test_nobody_is_one_of_two_whom_the_other_has_made(
         made = head.browser.post("/people/", {"what": "reset", "name": "jane"})
         assert made.status_code == 200
 
-        def confirmed() -> None:
-            found = office.parts.end.get()
-            office.parts.end.confirm(people.Person("jane", "officer"), found.version, NAME, "")
+        def confirmed(name: str = "jane", role: str = "officer") -> None:
+            end = office.parts.end
+            shown = season_end.read_counts(end.counts())
+            end.confirm(people.Person(name, role), end.get().version, NAME, shown)
 
+        with pytest.raises(Refused, match="hal has asked to delete the season: somebody else"):
+            confirmed("hal", "head")
         with pytest.raises(Refused, match="jane was given another password by hal"):
             confirmed()
         # another day, which the machine refuses, is none since which jane is the same: as one that
