@@ -323,7 +323,7 @@ DAY = datetime.date(2025, 3, 17)
 def row_of(office: Site, *children: int) -> tuple[notices.Notices, int]:
     """A row of reminders of these children, of which none is recorded."""
     found = notices.Notices(office.parts.store, office.parts.history, office.parts.desk,
-                            office.parts.copies)
+                            office.parts.copies, lambda *_: None)
     chosen = [notices.Due(it, "ELM", NAMES[it], {}, "{}") for it in children]
     return found, found.add(JANE, "one", notices.REMIND, DAY, chosen)
 

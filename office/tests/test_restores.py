@@ -747,7 +747,7 @@ def away_fixture(tmp_path: pathlib.Path) -> Iterator[Site]:
 
 def in_state(office: Site, state: str, *entries: Entry) -> int:
     """A restore of the copy that hal has begun, brought to a state."""
-    number: int = office.parts.restores.added(HAL, 1, None, entries)
+    number: int = office.parts.restores.added(HAL, 1, None, entries, {})
     with office.parts.store.writing() as db:
         db.execute("UPDATE restore SET state=? WHERE id=?", (state, number))
     return number

@@ -27,12 +27,13 @@ from register_files import Refused
 from served import served
 
 from office import days
+from office.trial_registers import Program
 from office.web import archive, history, letters_sets, people, season_end
 from office.web.copies import Copies
 from office.web.draws_terms import Terms
 from office.web.parts import Config, Parts
 from office.web.season_end import End, SeasonEnd
-from office.web.trials import Program, Run
+from office.web.trials import Run
 
 TODAY = datetime.date(2026, 1, 10)
 DAY = TODAY + days.DELETION_NOTICE
@@ -424,7 +425,7 @@ def test_a_season_does_not_end_within_a_restore(alone: Parts) -> None:
     with alone.store.writing() as db:
         db.execute("INSERT INTO copy (number, purpose, asked) VALUES (1, 'a try', '')")
     assert season_end.in_progress(alone) == []
-    alone.restores.added(HAL, 1, None, ())
+    alone.restores.added(HAL, 1, None, (), {})
     stops = season_end.in_progress(alone)
     assert [(it.title, it.is_stop) for it in stops] == [("A restore in progress", True)]
     steps: list[Callable[[], None]] = [
@@ -575,9 +576,10 @@ def test_letters_previews_and_trials_end_with_the_season(
     """Nobody reads them afterwards, and no file of theirs is left."""
     with ended_season(tmp_path, served_town, TODAY, monkeypatch) as office:
         head, jane = Person(office, "hal", "head"), Person(office, "jane", "officer")
-        for step, given in (("copy", {}), ("archive", {}), ("archive/file", {"kept": WHERE}),
-                            ("day", {"day": "24/1/2026", "reason": WHY})):
-            head.press(step, 200 if step == "archive/file" else 303, **given)
+        head.press("copy")
+        head.press("archive")
+        head.press("archive/file", 200, kept=WHERE)
+        head.press("day", day="24/1/2026", reason=WHY)
         office.parts.end.today = lambda: DAY
         head.press("ask", name=NAME)
         own = office.parts.config.folder
