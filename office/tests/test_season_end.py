@@ -577,7 +577,6 @@ def test_letters_previews_and_trials_end_with_the_season(
     with ended_season(tmp_path, served_town, TODAY, monkeypatch) as office:
         head, jane = Person(office, "hal", "head"), Person(office, "jane", "officer")
         head.press("copy")
-        head.press("archive")
         head.press("archive/file", 200, kept=WHERE)
         head.press("day", day="24/1/2026", reason=WHY)
         office.parts.end.today = lambda: DAY
