@@ -138,6 +138,11 @@ def test_what_is_open_is_read_before_the_last_copy(
         refused = head.press("copy", 409)
         assert "A draw in progress: draw 2: 1 fill at A" in refused.text
         assert len(office.copied) == 1
+        office.parts.history.add("hal", history.SENDS, {
+            "command": {"cmd": "accept", "child": 1, "school": "A"}})
+        found = season_end.still_open(office.parts, register, office.parts.end.today())
+        assert [it.title for it in found if it.is_stop] == [
+            "A draw in progress", "Requests without a known answer"]
 
 
 def test_the_office_has_a_rule_for_how_long_it_keeps(tmp_path: pathlib.Path) -> None:
@@ -626,7 +631,13 @@ def test_nobody_is_one_of_two_whom_the_other_has_made(
             head.press("day", 409, day="1/2/2027", reason=WHY)
         with pytest.raises(Refused, match="jane was given another password by hal"):
             confirmed()
-        assert not office.parts.end.get().phase
+        # who asks is one of the two as well
+        head.press("take-back")
+        office.parts.history.add("adm", "drew a new password", {"person": "hal"})
+        said = head.press("ask", 409, name=NAME).text
+        assert "Hal was given another password by adm" in said
+        end = office.parts.end.get()
+        assert not end.phase and not end.asked_by
 
 
 # the machine
