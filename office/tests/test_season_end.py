@@ -33,6 +33,7 @@ from office.web.copies import Copies
 from office.web.draws_terms import Terms
 from office.web.parts import Config, Parts
 from office.web.season_end import End, SeasonEnd
+from office.web.store import Store
 from office.web.trials import Run
 
 TODAY = datetime.date(2026, 1, 10)
@@ -496,6 +497,20 @@ def served_town_fixture(tmp_path: pathlib.Path) -> Iterator[str]:
             office.add("hal", "head")
             office.add("jane", "officer")
         yield address
+
+
+def test_what_is_a_file_is_in_the_archive_as_it_is(tmp_path: pathlib.Path) -> None:
+    """Beside the line of its row, which names it; and nothing of the people."""
+    store = Store(str(tmp_path / "office.db"))
+    with store.writing() as db:
+        db.execute("INSERT INTO child_file (child, name, called, size, digest, data, who, at)"
+                   " VALUES (1, 'Ada Abel', 'a.pdf', 5, '', ?, 'jane', '')", (b"%PDF-",))
+    store.set("one", "secret")
+    found = {name: data for name, _, data in archive.of_store(store)}
+    assert sorted(found) == ["office/child_file-1-data", "office/child_file.jsonl"]
+    assert found["office/child_file-1-data"] == b"%PDF-"
+    assert json.loads(found["office/child_file.jsonl"])["data"] == "office/child_file-1-data"
+    store.close()
 
 
 def test_an_archive_that_was_killed_is_made_again(
