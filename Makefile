@@ -17,6 +17,8 @@
 #   make bench    the aims for the costs, beside the measured costs, as one page, which it writes to bench/RESULTS.md; some minutes once the program is built
 #   make bench-more  the costs of commands in more tables, beside a baseline in the same run
 #   make deploy-check  the deployment (site, desk in its own network, page), on this machine alone; needs nginx, openssl, curl, chromium, sqlite3, poppler-utils and python3-pytest; not in test
+#   make pictures  the pictures of the pages (docs/pictures), of screens and a letter of an invented season; needs what deploy-check needs, python3-selenium
+#                 and chromium-driver
 #   make install  the proved program that is at bin/admissions (it builds nothing), the office's tools, their manual pages and completions, and the office's
 #                 pages; PREFIX=/usr/local by default, below DESTDIR; deploy/install adds what serves registers (docs/DEPLOYMENT.md)
 #   make package  a Debian package of that program, at out/package, with its manifest, SBOM and SHA-256; builds it twice, which must give equal bytes; needs
@@ -27,7 +29,7 @@ EXAMPLES := first_path applications season
 
 LOOKED_AT := $(addprefix examples/applications/,schools.jsonl children.jsonl applications.jsonl)
 
-.PHONY: look build demo cases test reference mutants sweep refusals killed-opens audits races costs bench bench-more deploy-check install package needs-demo needs-cases needs-sweep needs-refusals needs-office office
+.PHONY: look build demo cases test reference mutants sweep refusals killed-opens audits races costs bench bench-more deploy-check pictures install package needs-demo needs-cases needs-sweep needs-refusals needs-office office
 
 look:
 	@tools/needs look
@@ -98,6 +100,9 @@ bench-more: build
 # With bin/admissions as it is there, or another: make deploy-check PROGRAM=.. Or with the files of the package that is installed: make deploy-check INSTALLED=yes
 deploy-check:
 	deploy/check $(if $(INSTALLED),--installed,$(PROGRAM))
+
+pictures:
+	deploy/pictures $(PROGRAM)
 
 install:
 	@[ -x $(PROGRAM) ] || { echo "make install: $(PROGRAM) is not there: type make build, or name the program by PROGRAM=" >&2; exit 2; }

@@ -1,0 +1,214 @@
+"""What the pictures of docs/pictures show: screens and a letter of an office whose season has had
+its first round, on one day. `deploy/pictures` takes them; test_pictures compares what they show
+with what the application shows now.
+
+The town is that of deploy/checks/season: sixty children, of whom some have brothers and sisters at
+a school, two are or were looked after, and some have a flag or a feeder school. Three more have
+applied too late for the round, and wait. Run as a program it prints the words of each picture as
+JSON.
+"""
+import contextlib
+import dataclasses
+import datetime
+import html.parser
+import json
+import pathlib
+import random
+import re
+import subprocess
+import sys
+import tempfile
+from collections.abc import Iterator
+from typing import Any
+
+DAY = "2025-03-17"
+
+
+class Day(datetime.date):
+    """A day, of which one is today."""
+
+    @classmethod
+    def today(cls) -> "Day":
+        """The day of the pictures."""
+        return cls.fromisoformat(DAY)
+
+
+setattr(datetime, "date", Day)
+# (what is imported from here on takes the day from there)
+from applications import Browser, Site  # noqa: E402
+from conftest import PROGRAM, ROOT, apply, child, do, make  # noqa: E402
+from explained import after_round  # noqa: E402
+from letter_site import asked, made, typed  # noqa: E402
+
+from office import days  # noqa: E402
+from office.model import OFFERED, WAITS  # noqa: E402
+from office.web import letters_audits  # noqa: E402
+
+sys.path.append(str(ROOT / "deploy"))
+from checks.season import town  # noqa: E402
+
+CLOSING, OFFER_DAY = datetime.date(2024, 10, 31), "2025-03-03"
+START = "start"
+# the foot of each page of a letter
+FOOT = re.compile(r"Child [0-9]+ · page [0-9]+ of [0-9]+")
+AUTHORITY = "Ashdown Council"
+OFFICE = {
+    "office": f"{AUTHORITY}, School Admissions", "address": "County Hall\nAshdown AS1 1AA",
+    "telephone": "01632 960001", "email": "admissions@ashdown.example",
+    "website": "www.ashdown.example", "signs": "Jane Head, Head of Admissions",
+}
+Commands = list[dict[str, Any]]
+# who applied too late, each before others at the first school by another criterion
+LATE: tuple[tuple[int, str, dict[str, Any]], ...] = (
+    (141, "Ioan Pritchard", {"looked_after": True}), (142, "Megan Shah", {"siblings": ["A"]}),
+    (143, "Owen Clarke", {"flags": [2]}),
+)
+
+
+def applied() -> Commands:
+    """The schools, the children and their applications, and a plan."""
+    found: Commands = [
+        {"cmd": "add_school", "school": it.code, "name": it.name, "pan": it.pan, "east": it.east,
+         "north": it.north, "criteria": list(it.criteria)} for it in town.SCHOOLS]
+    children = town.children(CLOSING)
+    for it in children:
+        found.append({
+            "cmd": "add_child", "child": it.number, "name": it.name, "east": it.east,
+            "north": it.north, "looked_after": it.looked_after, "flags": list(it.flags),
+            "siblings": list(it.siblings), "present": it.present})
+        found.append(apply(it.number, list(it.preferences), it.day.isoformat()))
+    for number, name, more in LATE:
+        found.append(child(number, 10 * number, name, **{"north": 2500, **more}))
+        found.append(apply(number, ["A", "DEAN"], "2025-02-10"))
+    return [*found, {"cmd": "name_plan", "child": children[3].number, "school": "A"}]
+
+
+def first_round(folder: pathlib.Path, before: Commands) -> dict[str, Any]:
+    """The first round, with a lot for each pair."""
+    make(folder / "drawn.db", before)
+    pairs = subprocess.run([PROGRAM, "pairs", folder / "drawn.db"], check=True,
+                           capture_output=True, text=True).stdout.count("\n")
+    return {"cmd": "round", "draw": 1, "day": OFFER_DAY,
+            "lots": random.Random("lots").sample(range(1, 1000), pairs)}
+
+
+def answers(folder: pathlib.Path, draw: dict[str, Any]) -> Commands:
+    """What families have answered: most accept, some decline, and some have not written."""
+    do(folder / "drawn.db", [draw])
+    shown = json.loads(subprocess.run([PROGRAM, "show", folder / "drawn.db"], check=True,
+                                      capture_output=True, text=True).stdout)
+    chance, found = random.Random("answers"), Commands()
+    for it in shown["children"]:
+        luck = chance.random()
+        if it["place"] and it["place"]["kind"] == "offered" and luck < 0.75:
+            found.append({"cmd": "accept" if luck < 0.65 else "decline", "child": it["child"],
+                          "school": it["place"]["school"]})
+    return found
+
+
+@contextlib.contextmanager
+def office_of(folder: pathlib.Path) -> Iterator[Site]:
+    """The application on the day of the pictures."""
+    before = applied()
+    draw = first_round(folder, before)
+    with after_round(folder, before, draw, *answers(folder, draw)) as office:
+        office.parts.config = dataclasses.replace(office.parts.config, authority=AUTHORITY)
+        outcome = letters_audits.outcome_of(office.parts.desk.now(), 1)
+        with office.parts.store.writing() as db:
+            db.execute("INSERT INTO letter_audit VALUES (1, ?, 1, '', '', '')", (outcome,))
+        typed(office.browser("jane", "head"), **OFFICE)
+        office.browser("jane", "head").post(
+            "/flags/", {**{f"flag-{at}": it for at, it in town.FLAG_WORDS.items()}, "seen": "{}"})
+        yield office
+
+
+def waits(office: Site) -> int:
+    """A child with an offer that nobody has answered, and which waits at most schools."""
+    register = office.parts.desk.now()
+    found = [it for it, place in register.places.items() if place.kind == OFFERED]
+    return max(found, key=lambda it: (
+        len([*register.applications[it].in_state(WAITS)]), -it))
+
+
+def part_of(name: str) -> str:
+    """The element that a picture shows: one has the whole page with its menu."""
+    return "body" if name == START else "main"
+
+
+def screens(office: Site) -> dict[str, str]:
+    """The address of each picture of a screen."""
+    one = waits(office)
+    return {
+        START: "/", "child": f"/children/{one}", "waiting-list": "/schools/A",
+        "worklist": f"/notices/remind?day={DAY}", "amend": f"/children/{one}/correct",
+        "question": f"/children/{one}/decline",
+    }
+
+
+def letter(office: Site) -> bytes:
+    """The letter of that child, as PDF."""
+    browser = office.browser("jane", "head")
+    form = asked(browser, "offers", "1", child=[str(waits(office))],
+                 day_of_letters=days.in_words(datetime.date.fromisoformat(OFFER_DAY)))
+    found = browser.get(f"{made(browser, form)}/file")
+    data: bytes = found.data
+    return data
+
+
+class Seen(html.parser.HTMLParser):
+    """What is seen of a part of a page: its words, and what its fields have."""
+
+    def __init__(self, page: str, part: str) -> None:
+        super().__init__()
+        self.words: list[str] = []
+        self.hidden = ""
+        self.feed(page[page.index(f"<{part}"):page.index(f"</{part}>")])
+
+    def handle_starttag(self, tag: str, attrs: list[tuple[str, str | None]]) -> None:
+        """Takes what a field has, and passes over what is not shown."""
+        found = dict(attrs)
+        if tag in ("script", "style"):
+            self.hidden = tag
+        elif tag == "input" and found.get("type", "text") not in ("hidden", "checkbox"):
+            self.words += (found.get("value") or "").split()
+
+    def handle_endtag(self, tag: str) -> None:
+        """Ends what is not shown."""
+        if tag == self.hidden:
+            self.hidden = ""
+
+    def handle_data(self, data: str) -> None:
+        """Takes words."""
+        if not self.hidden:
+            self.words += data.split()
+
+
+def seen(browser: Browser, path: str, part: str) -> str:
+    """The words of a part of a screen."""
+    found = browser.get(path)
+    assert found.status_code == 200, (path, found.status_code)
+    return " ".join(Seen(found.text, part).words)
+
+
+def text_of(pdf: bytes) -> str:
+    """The words of a letter, but for the foot of each page: where a page ends differs between the
+    versions of a library.
+    """
+    ran = subprocess.run(["pdftotext", "-", "-"], input=pdf, capture_output=True, check=True)
+    return " ".join(FOOT.sub("", ran.stdout.decode("utf-8")).split())
+
+
+def texts(office: Site) -> dict[str, str]:
+    """The words of each picture of a screen."""
+    browser = office.browser("jane", "head")
+    return {name: seen(browser, path, part_of(name)) for name, path in screens(office).items()}
+
+
+def main() -> None:
+    """Prints the words of all pictures."""
+    with tempfile.TemporaryDirectory() as folder, office_of(pathlib.Path(folder)) as office:
+        print(json.dumps({**texts(office), "letter": text_of(letter(office))}))
+
+
+if __name__ == "__main__":
+    main()
