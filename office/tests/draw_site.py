@@ -119,6 +119,8 @@ class Machine:
     def office(self) -> Iterator[Site]:
         """The application, which ends at the end of the block."""
         found = app.create(self.config())
+        # (a test wants what came of a step)
+        found.extensions["office"].following.wait = 600.0
         try:
             yield Site(found)
         finally:

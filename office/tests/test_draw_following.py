@@ -12,6 +12,7 @@ from draw_site import (
     HAL, Crash, Fields, Machine, Person, at_lots, begun, brought, first_day, lot_of, machine_over,
     no_answer, small_register, typed, version,
 )
+from register_files import Refused
 
 from office.web.draws import Draws
 
@@ -202,9 +203,10 @@ def test_a_look_goes_on_once(small: Machine, monkeypatch: pytest.MonkeyPatch) ->
             assert jane.get(f"/draws/{number}").status_code == 200 and calls == []
             may_end.set()
             other.join()
-            assert jane.get(f"/draws/{number}").status_code == 500 and calls == [1]
-            page = jane.get(f"/draws/{number}")
-            assert page.status_code == 200 and ">Open for all</button>" in page.text
+            for _ in range(2):
+                page = jane.get(f"/draws/{number}")
+                assert page.status_code == 200 and ">Open for all</button>" in page.text
+                assert "What follows by itself was not done: An error in the appl" in page.text
             assert calls == [1]
         seen = {"seen": str(version(office, number))}
         assert jane.post(f"/draws/{number}/second/go-on", seen).status_code == 303
@@ -224,3 +226,62 @@ def test_a_stale_page_goes_on_with_nothing(small: Machine) -> None:
         assert found.status_code == 409 and "has changed since this page was shown" in found.text
         assert jane.step(number, "go-on").status_code == 409
         assert office.parts.draws.get(number).state == "lots"
+
+
+def test_long_work_says_that_it_runs(small: Machine, monkeypatch: pytest.MonkeyPatch) -> None:
+    """Who holds a draw has an answer while the audit runs. The page says what runs, has no button
+    and looks again by itself; the browser need not stay for the audit and the opening to follow.
+    """
+    with small.office() as office:
+        number = begun(office)
+        brought(office, number, "confirmed")
+        hal, jane = Person(office, "hal", "head"), Person(office, "jane", "officer")
+        following, may_end = office.parts.following, threading.Event()
+        real = office.parts.copies.make
+
+        def slow(purpose: str, who: str) -> int:
+            assert may_end.wait(600)
+            return real(purpose, who)
+
+        monkeypatch.setattr(office.parts.copies, "make", slow)
+        following.wait = 0.05
+        assert hal.step(number, "send").status_code == 303
+        while office.parts.draws.get(number).state != "sending":
+            assert not following.last.is_over.wait(0.05)
+        seen = str(version(office, number))
+        for who in (hal, jane):
+            page = who.browser.get(f"/draws/{number}").text
+            assert '<meta http-equiv="refresh"' in page and "begun by hal" in page
+            assert "the draw is held, and then audited." in page
+            assert "Audit draw 1</button>" not in page and "Ask to restore" not in page
+        found = jane.press(number, seen, "go-on")
+        assert found.status_code == 409 and "A step is under way, which hal began" in found.text
+        may_end.set()
+        assert following.last.is_over.wait(600)
+        page = hal.browser.get(f"/draws/{number}").text
+        assert "the register is open for all again" in page and "refresh" not in page
+        assert [it.who for it in office.parts.draws.get(number).done[-2:]] == ["hal", "hal"]
+
+
+def test_what_is_refused_after_the_answer_is_said(
+    small: Machine, monkeypatch: pytest.MonkeyPatch
+) -> None:
+    """The page of who did not wait says why the step was not done, and has its button again."""
+    with small.office() as office:
+        number = begun(office)
+        brought(office, number, "confirmed")
+        hal, may_end = Person(office, "hal", "head"), threading.Event()
+
+        def refused(*_: object) -> None:
+            assert may_end.wait(600)
+            raise Refused("the disk is full")
+
+        monkeypatch.setattr(office.parts.desk, "settle", refused)
+        office.parts.following.wait = 0.05
+        assert hal.step(number, "send").status_code == 303
+        assert "the draw is held." in hal.browser.get(f"/draws/{number}").text
+        may_end.set()
+        assert office.parts.following.last.is_over.wait(600)
+        page = hal.browser.get(f"/draws/{number}").text
+        assert "The last step was not done: The disk is full." in page
+        assert "Hold draw 1</button>" in page

@@ -141,6 +141,23 @@ def of_rows(row: sqlite3.Row, steps: list[sqlite3.Row]) -> Draw:
         row["trouble"] or "", steps_in(steps), row["repeats"], row["other_lots"])
 
 
+# each state as an office reads it; and what runs from it, where something does
+IN_WORDS = {
+    BEGUN: "begun, and nothing is closed", CLOSED: "closed for all others",
+    COPIED: "closed, and the register is copied", LOTS: "closed, and the supervisor draws the lots",
+    SEALED: "closed, and the lots are sealed", REHEARSED: "closed, and rehearsed: somebody confirms",
+    CONFIRMED: "closed, and confirmed: not held yet", SENDING: "closed, and being held",
+    AUDITED: "held, and the audit agrees", OPENED: "held, and open for all",
+    GIVEN_UP: "given up: nothing was sent", RESTORED: "undone: the copy was restored",
+}
+RUNS = {
+    BEGUN: "the register is closed for all others", CLOSED: "the register is copied",
+    COPIED: "the pairs are given to the supervisor", SEALED: "the draw is rehearsed",
+    CONFIRMED: "the draw is held", SENDING: "the draw is held, and then audited",
+    AUDITED: "the register is opened",
+}
+
+
 @dataclasses.dataclass(frozen=True)
 class Step:
     """A step: the state that it leads to, its title, what it does, and the text of its button."""

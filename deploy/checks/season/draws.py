@@ -141,7 +141,9 @@ def closed(office: Office, draw: Draw, pairs: int) -> None:
         jane.press(AGREED, is_new=False)
         office.ticks += 1
     jane.press("Close for all others")
-    report.same(jane.facts().get("State"), "lots", f"the state of {draw.numbers}")
+    rested(jane)
+    report.same(jane.facts().get("State"), "closed, and the supervisor draws the lots",
+                f"the state of {draw.numbers}")
     jane.look("A draw that waits for lots")
     hal = office.people[HAL]
     hal.open("/")
@@ -226,6 +228,7 @@ def rehearsed(office: Office, draw: Draw, lots: Lots) -> None:
     report, jane, hal, season = office.report, office.jane, office.people[HAL], office.season
     before = dict(season.places)
     jane.reload()
+    rested(jane)
     jane.look(f"{'Fills' if draw.school else 'A round'}, rehearsed")
     got: list[tuple[int, int, str | None]] = []
     if draw.school:
@@ -247,13 +250,19 @@ def rehearsed(office: Office, draw: Draw, lots: Lots) -> None:
     hal.press(f"Confirm {draw.numbers}")
 
 
+def rested(who: Hands) -> None:
+    """Waits for the end of what runs, as its page says, which looks again by itself."""
+    until(lambda: "It goes on when you leave this page" not in who.main, "nothing runs any more")
+
+
 def sent(office: Office, draw: Draw) -> None:
     """It is held, and the audit that agrees opens the register for all."""
     report, jane = office.report, office.jane
     jane.reload()
     jane.press(f"Hold {draw.numbers}")
+    rested(jane)
     jane.see("The audit agrees, and the register is open for all again.")
     jane.see("The outcome is that of the rehearsal, and the second program has worked out the"
              " same.")
     jane.look("A draw that was opened")
-    report.same(jane.facts().get("State"), "opened", f"the state of {draw.numbers}")
+    report.same(jane.facts().get("State"), "held, and open for all", f"the state of {draw.numbers}")

@@ -1,4 +1,5 @@
 """The draw: what it is, the steps with what is done, and the next one as a button."""
+import dataclasses
 import datetime
 from collections.abc import Callable, Mapping, Sequence
 from typing import Any
@@ -11,16 +12,17 @@ from office import days, texts
 from office.model import Register
 
 from .. import draws_again, draws_checks, draws_outcome, explanations, numbers, restores_terms
-from ..draws import Draws, held_in, next_state
+from ..draws import held_in, next_state
 from ..draws_lots import sheet_of
 from ..draws_second import alone_since, made_since
 from ..draws_terms import (
-    AUDITED, BEGUN, CLOSED, CONFIRMED, FOLLOWED, GIVEN_UP, MOST_FILLS, OPENED, RESTORED, SEALED,
-    SENDING, SENT, STEPS, UNSEALED, UNSENT_SEALED, Draw,
+    AUDITED, BEGUN, CLOSED, CONFIRMED, FOLLOWED, GIVEN_UP, IN_WORDS, MOST_FILLS, OPENED, RESTORED,
+    RUNS, SEALED, SENDING, SENT, STEPS, UNSEALED, UNSENT_SEALED, Draw,
 )
 from ..guard import needs, parts, person
-from ..people import CONFIRM, DRAW, READ
-from ..wording import day_of
+from ..parts import Parts
+from ..people import CONFIRM, DRAW, READ, Person
+from ..wording import day_of, sentence
 
 screen = flask.Blueprint("draws", __name__, url_prefix="/draws")
 Answer = str | Response | tuple[str, int]
@@ -29,6 +31,8 @@ Answer = str | Response | tuple[str, int]
 ACTIONS, AGAIN = {CLOSED: "close", CONFIRMED: "confirm", SENDING: "send"}, "go-on"
 # what a button says of the draws that it concerns
 NAMING = (CONFIRMED, SENDING, AUDITED)
+# seconds after which a page of what runs is loaded again
+LOOKS_AGAIN = 5
 
 
 def register_now() -> tuple[Register | None, str]:
@@ -124,6 +128,13 @@ def draw_page(number: int, reason: str = "", status: int = 200) -> Answer:
     checks = checks_of(draw, register)
     agreed = draws_checks.agreed_to(checks)
     button = button_of(draw, state, standing)
+    following = parts().following
+    work = following.under_way()
+    # (who saw the page before the end of a step reads here why it was not done)
+    if not work and not reason and not draw.trouble and (said := following.refused(number)):
+        reason = f"The last step was not done: {sentence(said)}"
+    # (while something runs the register may be away for some seconds)
+    trouble = "" if work else trouble
     return flask.render_template(
         "draw.html", draw=draw, reason=reason or trouble, steps=STEPS, step=step,
         action=action_of(draw, state), second=SECOND, button=button, standing=standing,
@@ -136,7 +147,16 @@ def draw_page(number: int, reason: str = "", status: int = 200) -> Answer:
         before=parts().draws.given_up_before(draw), is_explained=is_explained(draw, register),
         repeats=found_draw(draw.repeats) if draw.repeats else None,
         may_undo=draw.state == OPENED and bool(draw.before), unsent=unsent_of(draw),
+         work=work, looks_again=LOOKS_AGAIN,
+        runs=RUNS.get(draw.state, "a step is done"), in_words=state_in_words(draw, standing),
     ), status
+
+
+def state_in_words(draw: Draw, standing: int) -> str:
+    """The state of a draw as an office reads it."""
+    if draw.state == SENDING and standing == draw.terms.fills:
+        return "closed, and held; not audited yet"
+    return IN_WORDS[draw.state]
 
 
 def action_of(draw: Draw, state: str) -> str:
@@ -267,43 +287,55 @@ def sealed(number: int) -> flask.Response:
     return flask.Response(text, mimetype="text/plain")
 
 
+@dataclasses.dataclass(frozen=True)
+class Asked:
+    """A step that is asked for: by whom, of which draw in which version, and what was agreed to."""
+
+    who: Person
+    number: int
+    seen: int
+    agreed: str
+
+    @property
+    def given(self) -> tuple[Person, int, int]:
+        """What each step takes."""
+        return self.who, self.number, self.seen
+
+
 # the steps of who may hold draws; and those of who may confirm one. The second are all that an
 # office needs to end a draw when the person who began it can do nothing more
-Step = Callable[[Draws, int, int], None]
+Step = Callable[[Parts, Asked], None]
 OWN: dict[str, Step] = {
-    "close": lambda it, number, seen: it.close(
-        person(), number, seen, True, flask.request.form.get("agreed", "")),
-    "send": lambda it, number, seen: it.send(person(), number, seen),
+    "close": lambda it, asked: it.draws.close(*asked.given, True, asked.agreed),
+    "send": lambda it, asked: it.draws.send(*asked.given),
 }
 SECOND: dict[str, Step] = {
-    "confirm": lambda it, number, seen: it.confirm(person(), number, seen),
-    AGAIN: lambda _, number, seen: parts().following.again(person(), number, seen),
-    "give-up": lambda it, number, seen: it.give_up(person(), number, seen),
-    "ask-give-up": lambda it, number, seen: it.ask_give_up(person(), number, seen),
-    "keep-on": lambda it, number, seen: it.go_on(person(), number, seen),
-    "confirm-give-up": lambda it, number, seen: it.confirm_give_up(person(), number, seen),
-    "give-up-alone": lambda it, number, seen: it.give_up_alone(person(), number, seen),
-    "ask-restore": lambda it, number, seen: it.ask_restore(person(), number, seen),
-    "keep": lambda it, number, seen: it.keep(person(), number, seen),
-    "restore": lambda it, number, seen: it.restore(person(), number, seen),
-    "restore-alone": lambda it, number, seen: it.restore_alone(person(), number, seen),
+    "confirm": lambda it, asked: it.draws.confirm(*asked.given),
+    AGAIN: lambda it, asked: it.following.again(*asked.given),
+    "give-up": lambda it, asked: it.draws.give_up(*asked.given),
+    "ask-give-up": lambda it, asked: it.draws.ask_give_up(*asked.given),
+    "keep-on": lambda it, asked: it.draws.go_on(*asked.given),
+    "confirm-give-up": lambda it, asked: it.draws.confirm_give_up(*asked.given),
+    "give-up-alone": lambda it, asked: it.draws.give_up_alone(*asked.given),
+    "ask-restore": lambda it, asked: it.draws.ask_restore(*asked.given),
+    "keep": lambda it, asked: it.draws.keep(*asked.given),
+    "restore": lambda it, asked: it.draws.restore(*asked.given),
+    "restore-alone": lambda it, asked: it.draws.restore_alone(*asked.given),
 }
 
 
 def done(number: int, steps: dict[str, Step], name: str) -> Answer:
-    """Does a step with what follows it by itself, and shows the draw."""
+    """Does a step with what follows it by itself, and shows the draw: as it is, or that it runs."""
     found_draw(number)
     seen = numbers.read(flask.request.form.get("seen", ""))
     if name not in steps or seen < 0:
         flask.abort(404 if name not in steps else 400)
+    asked = Asked(person(), number, seen, flask.request.form.get("agreed", ""))
+    found, step = parts(), steps[name]
     try:
-        with parts().draws.lock:
-            steps[name](parts().draws, number, seen)
-            parts().following.after(person(), number)
+        found.following.begin(person(), number, lambda: step(found, asked))
     except Refused as error:
-        said = str(error)
-        end = "" if said.endswith(".") else "."
-        return draw_page(number, f"{said[:1].upper()}{said[1:]}{end}", 409)
+        return draw_page(number, sentence(str(error)), 409)
     return flask.redirect(flask.url_for("draws.one", number=number), 303)
 
 

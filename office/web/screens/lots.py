@@ -254,7 +254,7 @@ def seal(number: int) -> Answer:
         return whole_page(number, f"{said[:1].upper()}{said[1:]}.", 409)
     # (the lots are sealed whatever comes of the rehearsal, which is shown to the office alone)
     with contextlib.suppress(Refused):
-        parts().following.after(person(), number)
+        parts().following.begin(person(), number)
     return flask.redirect(flask.url_for("lots.whole", number=number), 303)
 
 
