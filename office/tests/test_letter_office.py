@@ -5,6 +5,7 @@ import datetime
 import html
 import io
 import pathlib
+import re
 from collections.abc import Iterator
 from typing import Any
 
@@ -14,6 +15,7 @@ from applications import Browser, Site
 from letter_site import (
     OFFICE, after_round, asked, audited, count, hidden, letter_pages, made, pages, typed,
 )
+from pages import Page, press
 from test_letter_templates import number_of, own
 
 from office import letter_pdf
@@ -219,8 +221,34 @@ def sheet(rows: list[list[Any]]) -> io.BytesIO:
 
 
 def uploaded(browser: Browser, data: io.BytesIO, name: str, way: str) -> Any:
-    """The answer to a file of addresses."""
-    return browser.post("/letters/addresses/", {"way": way, "file": (data, name)})
+    """The answer to a file of addresses, all of whose columns are taken."""
+    found = browser.post("/letters/addresses/", {"way": way, "file": (data, name)})
+    if found.status_code != 200:
+        return found
+    page = Page(found.text)
+    button = next(it for it in page.buttons() if it.startswith("Store "))
+    return press(browser, "", page, button)
+
+
+def test_addresses_are_shown_before_they_are_stored(office: Site) -> None:
+    """Two as they will be printed, and the columns in their order; one that is no line of an
+    address is left out.
+    """
+    jane, stored = office.browser("jane"), office.app.extensions["letters"].addresses
+    data = b"child,street,town,postcode,to\n4,1 High St,Ayton,AA1 1AA,parent\n2,2 Low St,Bee,B,x\n"
+    found = jane.post("/letters/addresses/", {"way": "child", "file": (io.BytesIO(data), "a.csv")})
+    page = Page(found.text)
+    assert found.status_code == 200 and stored.all() == {}
+    columns = re.findall(r'name="column" value="[0-9]+" checked> <label[^>]*>([^<]*)<', found.text)
+    assert columns == ["street", "town", "postcode", "to"]
+    assert "2 Low St</bdi><br><bdi>Bee</bdi><br><bdi>B</bdi><br><bdi>x" in found.text
+    button = "Store 2 addresses"
+    found = press(jane, "", page, button, column=["0", "1", "2"])
+    assert found.status_code == 200 and stored.all() == {}
+    assert "AA1 1AA</bdi></address>" in found.text and "parent" not in re.sub(
+        r"<input[^>]*>", "", found.text)
+    assert press(jane, "", Page(found.text), button).status_code == 303
+    assert stored.all() == {2: ["2 Low St", "Bee", "B"], 4: ["1 High St", "Ayton", "AA1 1AA"]}
 
 
 def test_what_was_recorded_before_the_letters_does_not_rest_on_them(

@@ -1,6 +1,6 @@
 """Where letters go: the lines of the address of each child, from a sheet of the office."""
 import json
-from collections.abc import Iterable
+from collections.abc import Iterable, Sequence
 
 from register_files import Refused
 
@@ -16,10 +16,21 @@ MOST_LINES, MOST_CHARACTERS = 8, 100
 NAME = "the file"
 
 
-def read(rows: list[Row], known: Iterable[int]) -> dict[int, list[str]]:
-    """The lines of a sheet by child: each child is one that the register has."""
+def columns_of(rows: list[Row]) -> list[str]:
+    """The columns of a sheet that may be lines of an address, in their order."""
+    return letter_pdf.addresses_in(NAME, rows)[0]
+
+
+def read(
+    rows: list[Row], known: Iterable[int], taken: Sequence[int] | None = None
+) -> dict[int, list[str]]:
+    """The lines of a sheet by child: each child is one that the register has. `taken` are the
+    places of the columns that are lines of an address, or None for all.
+    """
     _, cells = letter_pdf.addresses_in(NAME, rows)
-    found = {child: letter_pdf.lines_of(it) for child, it in cells.items()}
+    found = {child: letter_pdf.lines_of(
+        [it for at, it in enumerate(one) if taken is None or at in taken])
+        for child, one in cells.items()}
     if not found:
         raise Refused("the file has no rows of children below its header")
     there = set(known)
@@ -31,6 +42,31 @@ def read(rows: list[Row], known: Iterable[int]) -> dict[int, list[str]]:
             raise Refused(f"the address of child {child} has at most {MOST_LINES} lines, each of"
                           f" {MOST_CHARACTERS} characters that can be printed")
     return found
+
+
+def packed(rows: list[Row]) -> str:
+    """The rows of a sheet as a form keeps them between the look and the storing."""
+    return json.dumps([[it.number, it.cells] for it in rows])
+
+
+def unpacked(text: str) -> list[Row]:
+    """The rows that a form has kept."""
+    try:
+        found = [Row(number, cells) for number, cells in json.loads(text)]
+        is_right = all(isinstance(it.number, int) and isinstance(it.cells, list) and
+                       all(isinstance(cell, str) for cell in it.cells) for it in found)
+    except (ValueError, TypeError, RecursionError):
+        is_right = False
+    if not is_right:
+        raise Refused("choose the file once more")
+    return found
+
+
+def examples(found: dict[int, list[str]]) -> list[tuple[int, list[str]]]:
+    """Two addresses to be looked at: the first one with the most lines, and the first other one."""
+    longest = max(found, key=lambda it: (len(found[it]), -it))
+    other = next((it for it in sorted(found) if it != longest and found[it]), None)
+    return [(it, found[it]) for it in (longest, other) if it is not None]
 
 
 class Addresses:

@@ -3,6 +3,9 @@ import flask
 from register_files import Refused
 from werkzeug.wrappers import Response
 
+from office import texts
+from office.sheet import Row
+
 from .. import letters_addresses, uploads
 from ..guard import needs, parts, person
 from ..letters_addresses import Addresses
@@ -40,16 +43,38 @@ def page(said: str = "", status: int = 200, way: str = "") -> Answer:
         most=MOST_SHOWN, names={it: register.children[it].name for it in missing}), status
 
 
+def look(
+    rows: list[Row], columns: list[str], taken: list[int], found: dict[int, list[str]], way: str,
+) -> Answer:
+    """The columns that are taken, and two addresses as they will be printed, before any is stored.
+    """
+    names = parts().desk.register().children
+    return flask.render_template(
+        "letters_addresses_look.html", columns=columns, taken=taken, way=way, ways=WAYS,
+        rows=letters_addresses.packed(rows), shown=" ".join(map(str, taken)),
+        examples=[(child, names[child].name, lines)
+                  for child, lines in letters_addresses.examples(found)],
+        button=f"Store {texts.count(len(found), 'address', 'addresses')}"), 200
+
+
 @screen.post("/")
 @needs(RECORD)
 def save() -> Answer:
-    """Stores the addresses of a file."""
-    way = flask.request.form.get("way", "")
+    """Shows the addresses of a file as they will be printed, or stores what was shown."""
+    form, way = flask.request.form, flask.request.form.get("way", "")
     try:
         if way not in WAYS:
             raise Refused("choose whether the file replaces all addresses")
-        rows = uploads.rows_of(flask.request.files.get("file"))
-        found = letters_addresses.read(rows, parts().desk.register().children)
+        is_first = "rows" not in form
+        rows = (uploads.rows_of(flask.request.files.get("file")) if is_first
+                else letters_addresses.unpacked(form["rows"]))
+        columns = letters_addresses.columns_of(rows)
+        ticked = set(form.getlist("column"))
+        taken = [at for at in range(len(columns)) if is_first or str(at) in ticked]
+        found = letters_addresses.read(rows, parts().desk.register().children, taken)
+        shown = " ".join(map(str, taken))
+        if is_first or form.get("shown") != shown or form.get("what") != "store":
+            return look(rows, columns, taken, found, way)
         addresses().save(person(), found, way == "whole")
     except Refused as error:
         return page(sentence(f"Nothing was stored: {error}"), 422, way)
