@@ -68,6 +68,13 @@ def upload(browser: Browser, path: str, name: str, data: bytes, file: str = "a.c
                         content_type="multipart/form-data")
 
 
+def stores(browser: Browser, path: str, page: Page, button: str) -> Any:
+    """Presses the button of the draft, and that of the question where it is asked."""
+    found = press(browser, path, page, button)
+    question = Page(found.text)
+    return press(browser, "", question, button) if "schools" in question.by_id else found
+
+
 def drafted(browser: Browser, text: str = SHEET) -> Page:
     """The draft after an uploaded sheet."""
     found = upload(browser, "/schools/new/sheet", "sheet", text.encode())
@@ -94,12 +101,35 @@ def test_a_school_is_typed_and_shown_whole_before_it_is_stored(empty: Site) -> N
         "3. flag:2: with a verified priority: medical need"
         "4. feeder:PRIM7: from the feeder school PRIM7")
     assert "<b>&</b>" not in page.text
-    found = press(jane, "/schools/new/", page, "Store 1 school")
+    found = stores(jane, "/schools/new/", page, "Store 1 school")
     assert found.status_code == 200 and Page(found.text).said() == "1 school is stored."
     assert stored(empty) == [OAK] and sent(empty) == [OAK]
     assert Draft(empty.parts.store).rows() == []
     who = [(it.who, it.what) for it in empty.parts.history.entries]
     assert ("jane", "added to the draft of schools") in who and ("jane", "sends") in who
+
+
+def test_schools_are_asked_whole_before_they_are_stored(empty: Site) -> None:
+    """One question for all of them, with the words of criteria and flags; nothing is sent before
+    its button, nor where the draft has changed since.
+    """
+    jane = empty.browser("jane")
+    page = drafted(jane)
+    found = press(jane, "", page, "Store 2 schools")
+    question = Page(found.text)
+    said = " ".join(question.by_id["schools"].split())
+    assert found.status_code == 200 and sent(empty) == []
+    assert f"OAK {OAK['name']}: admission number 30, east 4100, north 3600." in said
+    assert "1. with a brother or sister at the school" in said
+    assert "ELM" in said and "This cannot be undone" in question.text
+    assert "only its admission number can be changed" in question.text
+    drafted(jane, HEADER + "A,Alpha,1,1,1,\n")
+    found = press(jane, "", question, "Store 2 schools")
+    assert found.status_code == 409 and sent(empty) == []
+    page = Page(jane.get("/schools/new/").text)
+    question = Page(press(jane, "", page, "Store 3 schools").text)
+    found = press(jane, "", question, "Store 3 schools")
+    assert found.status_code == 200 and len(sent(empty)) == 3
 
 
 WRONG = [
@@ -177,7 +207,7 @@ def test_a_sheet_comes_into_the_draft_with_its_errors(empty: Site) -> None:
         found = press(jane, "", page, "Change the line", **{field: text})
         assert found.status_code == 303, Page(found.text).said()
     page = Page(jane.get("/schools/new/").text)
-    found = press(jane, "", page, "Store 4 schools")
+    found = stores(jane, "", page, "Store 4 schools")
     assert [it["school"] for it in sent(empty)] == ["OAK", "ELM", "ASH", "FIR"]
     ash = {**ELM, "school": "ASH", "name": "Ash", "pan": 50, "east": 5, "north": 6}
     fir = {**ash, "school": "FIR", "name": "Fir", "pan": 10, "criteria": ["sibling"]}
@@ -271,7 +301,7 @@ def test_last_year_fills_the_draft(empty: Site, tmp_path: pathlib.Path) -> None:
     page = Page(jane.get(found.location).text)
     rows = page.tables["Each line as it will be stored"][1:]
     assert [it[0] for it in rows] == ["ELM", "A", "B", "OAK"]
-    press(jane, "", page, "Store 4 schools")
+    stores(jane, "", page, "Store 4 schools")
     assert OAK in stored(empty) and {**ELM, "name": "Elm", "pan": 20, "north": 1} in stored(empty)
     found = upload(jane, "/schools/new/last-year", "copy", data, "last.db")
     assert found.status_code == 400 and "in the register or in the draft" in Page(found.text).said()
@@ -320,7 +350,7 @@ def test_storing_goes_on_where_it_stopped(empty: Site, monkeypatch: pytest.Monke
     rows = page.tables["Each line as it will be stored"][1:]
     assert [it[0] for it in rows] == ["B", "C"]
     assert "the register has it already: nothing is sent for it" in rows[0][6]
-    found = press(jane, "", page, "Store 2 schools")
+    found = stores(jane, "", page, "Store 2 schools")
     assert found.status_code == 200 and draft.rows() == []
     assert [it["school"] for it in sent(empty)] == ["A", "B", "C"]
     said = [it[2] for it in Page(found.text).tables["outcomes"][1:]]
@@ -364,7 +394,7 @@ def test_a_line_that_is_changed_while_others_are_stored_stays(
         return send(*given)
 
     monkeypatch.setattr(empty.parts.desk, "send", meanwhile)
-    found = press(jane, "", page, "Store 3 schools")
+    found = stores(jane, "", page, "Store 3 schools")
     assert found.status_code == 409 and [it["school"] for it in stored(empty)] == ["A", "C"]
     assert draft.rows() == [(second, {**cells, "pan": "9"})]
     rows = Page(found.text).tables["outcomes"]
@@ -377,7 +407,7 @@ def test_a_school_with_other_data_is_named(empty: Site) -> None:
     page = drafted(jane)
     other = {**OAK, "pan": 31}
     desk.send(Person("bo", "officer"), other)
-    found = press(jane, "", page, "Store 2 schools")
+    found = stores(jane, "", page, "Store 2 schools")
     said = "The draft was changed since it was shown"
     assert found.status_code == 409 and said in Page(found.text).said()
     line = Page(found.text).tables["Each line as it will be stored"][1]
@@ -426,7 +456,7 @@ def test_nothing_is_stored_while_the_register_is_closed(empty: Site) -> None:
     jane = empty.browser("jane")
     page = drafted(jane)
     empty.parts.desk.closed = lambda: "Closed for draw 1 by hal."
-    found = press(jane, "", page, "Store 2 schools")
+    found = stores(jane, "", page, "Store 2 schools")
     assert found.status_code == 409
     assert Page(found.text).tables["outcomes"][1][2] == "Closed for draw 1 by hal."
     assert sent(empty) == [] and len(Draft(empty.parts.store).rows()) == 2

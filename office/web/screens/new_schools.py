@@ -188,15 +188,28 @@ def ask_removal(rows: list[tuple[int, Cells]], is_changed: bool) -> Answer:
         "remove_all.html", said=said if is_changed else "",
         items=[f"{it['school']} {it['name']}" for _, it in rows],
         where="draft, which all officers share", digest=school_drafts.digest_of_rows(rows),
-        back=flask.url_for("new_schools.show"),
+        back=flask.url_for("new_schools.show"), which="all",
         button=f"Remove {texts.count(len(rows), 'school')}"), 409 if is_changed else 200
+
+
+def ask(shown: str) -> Answer:
+    """The question before schools are stored, or "" where they cannot be, as storing says."""
+    words = flags.present()
+    lines = schools.lines_of(draft().rows(), parts().desk.now().schools, words)
+    if school_drafts.digest(lines) != shown or not school_drafts.is_ready(lines):
+        return ""
+    return flask.render_template(
+        "store_schools.html", lines=lines, order={it.number: order_of(it, words) for it in lines},
+        digest=shown, button=f"Store {texts.count(len(lines), 'school')}")
 
 
 @screen.post("/store")
 @needs(RECORD)
 def store() -> Answer:
-    """Stores the draft that was confirmed."""
+    """Shows the draft whole, or stores what was shown and confirmed."""
     shown = flask.request.form.get("digest", "")
+    if flask.request.form.get("sure") != "yes" and (asked := ask(shown)):
+        return asked
     try:
         found = school_drafts.store_all(
             parts().desk, person(), draft(), flags.present(), shown)
