@@ -379,6 +379,56 @@ def test_no_row_is_an_accept_that_does_not_say_so_alone(office: Site) -> None:
     assert "child 21," in question.by_id["final"] and "child 21," not in question.by_id["accepts"]
 
 
+def test_a_colon_separates(office: Site) -> None:
+    """As a list in a letter has it: the name, a colon, the answer."""
+    assert several(office, "12 Ben Bell: yes\n14 Dai O'Dare: no\n11: Ada Abel : accept\n") == {
+        "12 Ben Bell: yes": ["12", "accept", ""], "14 Dai O'Dare: no": ["14", "decline", ""],
+        "11: Ada Abel : accept": ["11", "accept", ""]}
+
+
+def test_marked_rows_are_removed_at_once(office: Site) -> None:
+    """A row that is not read is no other answer than the same one in a file that comes after it;
+    another answer is. All that have something against them go together, and the others stay.
+    """
+    jane = office.browser("jane")
+    found = several(office, "12 Ben Bell / yes\n14 Dai O'Dare / no\n11 Ada Abel\tyes\n13 ? yes\n")
+    assert '"/" is not understood' in found["12 Ben Bell / yes"][2]
+    assert found["11 Ada Abel, yes"] == ["11", "accept", ""]
+    found = several(office, "12 Ben Bell accept\n14 Dai O'Dare accept\n")
+    assert found["12 Ben Bell accept"] == ["12", "accept", ""]
+    assert found["14 Dai O'Dare accept"][2] == "the pile has another answer for this child"
+    page = shown(jane)
+    assert "Record 2 answers" in page.buttons()
+    question = Page(press(jane, PAGE, page, "Remove the 4 that have something against them").text)
+    assert "Ada Abel" not in question.by_id["removed"] and len(pile(shown(jane))) == 6
+    press(jane, f"{PAGE}remove", question, "Remove 4 answers")
+    assert sorted(row[0] for row in pile(shown(jane))) == ["11 Ada Abel, yes", "12 Ben Bell accept"]
+    assert not any("something against" in it for it in shown(jane).buttons())
+
+
+def test_names_that_are_not_all_offered_are_said_to_be_more(office: Site) -> None:
+    """Of many children of one name eight are offered, and that is said."""
+    jane = office.browser("jane")
+    row = pile(enter(jane, "child"))[0]
+    count = int(row[5].split()[0])
+    assert count > 8 and row[5] == (f"{count} children have names like it, of whom the first 8 are"
+                                    " offered here: enter the number")
+    assert sum(it.startswith("It is ") for it in shown(jane).buttons()) == 8
+
+
+def test_what_puts_a_wrong_decline_right_is_said_before_and_after(office: Site) -> None:
+    """In the question, below what was recorded, and in the help; not of accepts."""
+    jane, said = office.browser("jane"), "is put right only by a restore"
+    assert said not in jane.get(PAGE).text
+    page = enter(jane, "12-")
+    question = press(jane, PAGE, page, "Record 1 answer")
+    assert said in question.text and "plan" not in Page(question.text).by_id["final"]
+    press(jane, f"{PAGE}record", Page(question.text), next(
+        it for it in Page(question.text).buttons() if it.startswith("Record 1 answer")))
+    assert said in " ".join(shown(jane).by_id["wrong-decline"].split())
+    assert 'id="an-accept-or-a-decline-was-wrong"' in jane.get("/help").text
+
+
 @pytest.mark.parametrize("text", SHEETS)
 @pytest.mark.parametrize("how", ["pasted", "sheet"])
 def test_a_sheet_or_a_column_fills_the_pile(office: Site, text: str, how: str) -> None:

@@ -32,7 +32,7 @@ TITLES = {
 }
 COLUMNS = {texts.folded(title): part for part, titles in TITLES.items() for title in titles}
 MINUS = "-\u2212\u2013"
-BETWEEN = re.compile(r"[\t\r\n,;]+")
+BETWEEN = re.compile(r"[\t\r\n,;:]+")
 # signs and numbers that are no part of a name, unless the child's own has them; a minus at a word's
 # end is one
 SIGNS = re.compile(r"[^\w\s'’`.,-]|[-.,]+(?!\S)(?<!\w[.,])|(?<!\S)\d+(?!\S)")

@@ -152,7 +152,8 @@ def conflicts(desk: Desk, names: Names, entry: Entry, others: Iterable[Entry]) -
     if meant.child is None:
         count = len(candidates(names, meant))
         have = texts.count(count, "child has a name", "children have names")
-        return [*filter(None, found), f"{have} like it: enter the number"]
+        shown = f", of whom the first {MOST_NAMED} are offered here" if count > MOST_NAMED else ""
+        return [*filter(None, found), f"{have} like it{shown}: enter the number"]
     child = register.children.get(meant.child)
     if child is None:
         return [*filter(None, found), f"the register has no child {meant.child}"]
@@ -173,9 +174,10 @@ def of_others(entry: Entry, others: Iterable[Entry]) -> str:
         is_list = it.meant.kind == entry.meant.kind == "leave_list"
         if is_list and it.meant.school != entry.meant.school:
             continue
-        if it.command != entry.command:
+        if (it.meant.kind, it.meant.school) != (entry.meant.kind, entry.meant.school):
             return "the pile has another answer for this child"
-        if it.number < entry.number:
+        # (a row that is marked is not recorded, and so none that comes once more)
+        if it.command is not None and it.number < entry.number:
             return "the pile has this answer already"
     return ""
 

@@ -38,7 +38,7 @@ ACTIONS = {
         is_final=False),
     "decline": Action(
         "decline", "Decline a place", "Decline {school} for {child}",
-        f"The place is vacant. {wording.FOREVER}"),
+        f"The place is vacant. {wording.FOREVER} {wording.WRONG_DECLINE}"),
     "remind": Action(
         "remind", "Record a reminder", "Record the reminder of {child} about {school}",
         "The offer may be withdrawn from {withdrawn} on, if it is not answered. A reminder cannot"
@@ -52,7 +52,8 @@ ACTIONS = {
     "plan": Action(
         "name_plan", "Record an EHC plan", "Give {child} a place at {school} by a plan",
         "The child is admitted, also above the admission number. Its application ends: it waits"
-        " nowhere any more, and a place elsewhere is vacant. Nothing ends or changes a plan."),
+        " nowhere any more, and a place elsewhere is vacant. A plan that is"
+        " recorded stays: it cannot be ended or changed."),
 }
 
 

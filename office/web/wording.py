@@ -10,6 +10,8 @@ from office.days import NOTICE
 FOREVER = "This cannot be undone: the school is not offered to the child again."
 # what is wrong with what was typed for a day
 NOT_A_DAY = "a day as 17 March 2025 or 17/3/2025"
+WRONG_DECLINE = ("A decline of the wrong child is put right only by a restore of a copy from before"
+                 " it, by two persons, and best before the next draw: see Help.")
 # what came of a school of a child's list
 STATES = {
     model.LEFT: "declined, lapsed or left", model.BEFORE: "before the first round",

@@ -17,13 +17,15 @@ from ..answers import WORDS, Entry, Names
 from ..guard import needs, parts, person
 from ..people import RECORD
 from ..piles import DONE, Piles, Shown
-from ..wording import sentence
+from ..wording import WRONG_DECLINE, sentence
 
 screen = flask.Blueprint("answers", __name__, url_prefix="/answers")
 Answer = str | Response | tuple[str, int]
 # so long the answer to 'Record' waits for the end; after it the page shows how far it is
 WAIT_SECONDS = 20.0
 MOST_PASTED = 200_000
+# what is removed from a pile at once: all of it, or what is marked
+MANY = ("all", "marked")
 
 
 def all_piles() -> Piles:
@@ -53,6 +55,7 @@ def page(said: str = "", status: int = 200, pasted: str = "", typed: str = "") -
             found.came[who][1], "answer is", "answers are"))
     return flask.render_template(
         "answers.html", shown=shown, ready=ready, digest=digest_of(ready), done=done,
+        wrong_decline=WRONG_DECLINE, marked=sum(bool(it.conflicts) for it in shown),
         names=names, words=WORDS, read=answer_rows.READ, said=said,
         is_bad=status != 200 or bool(failed), pasted=pasted,
         typed=typed, is_added="added" in flask.request.args, is_running=found.is_running(who),
@@ -125,20 +128,23 @@ def entry_of_form() -> Entry | None:
 @screen.post("/remove")
 @needs(RECORD)
 def remove() -> Answer:
-    """Removes an entry, the list of those that were recorded, or after a question all that wait."""
+    """Removes an entry, the list of those that were recorded, or after a question all that wait or
+    all that have something against them.
+    """
     given, found = flask.request.form.get("number", ""), all_piles()
-    if given == "all":
-        return remove_all()
+    if given in MANY:
+        return remove_all(given)
     chosen = [it for it in found.of(person().name)
               if given == str(it.number) or given == "done" and it.state == DONE]
     found.remove(person().name, (it.number for it in chosen))
     return back()
 
 
-def remove_all() -> Answer:
+def remove_all(which: str) -> Answer:
     """Shows all that would be removed, or removes what was shown."""
     found, who, seen = all_piles(), person().name, flask.request.form.get("digest", "")
-    shown = found.shown(who, parts().desk.register())
+    shown = [it for it in found.shown(who, parts().desk.register())
+             if which == "all" or it.conflicts]
     if not shown:
         return back()
     if seen == digest_of(shown):
@@ -149,7 +155,7 @@ def remove_all() -> Answer:
              for it in shown]
     return flask.render_template(
         "remove_all.html", said=said if seen else "", items=items, where="pile",
-        digest=digest_of(shown), back=flask.url_for("answers.show"),
+        digest=digest_of(shown), back=flask.url_for("answers.show"), which=which,
         button=f"Remove {texts.count(len(shown), 'answer')}"), 409 if seen else 200
 
 
@@ -203,5 +209,5 @@ def ask(ready: list[Shown], final: list[Shown], register: Register) -> Answer:
     return flask.render_template(
         "record_answers.html", ready=ready, final=final,
         accepts=[it for it in ready if not it.entry.is_final], digest=digest_of(ready),
-        schools=schools, words=WORDS,
+        schools=schools, words=WORDS, wrong_decline=WRONG_DECLINE,
         places={it.entry.number: register.places.get(it.entry.meant.child or 0) for it in final})
