@@ -4,6 +4,7 @@ record, and the letters of the same children. Days are worked out by hand.
 import datetime
 import pathlib
 import re
+import threading
 from collections.abc import Iterator
 from types import SimpleNamespace
 from typing import Any
@@ -33,8 +34,11 @@ def address_fixture(tmp_path_factory: pytest.TempPathFactory) -> Iterator[str]:
 
 
 @pytest.fixture(name="office")
-def office_fixture(address: str, tmp_path: pathlib.Path) -> Iterator[Site]:
-    """An application over it."""
+def office_fixture(
+    address: str, tmp_path: pathlib.Path, monkeypatch: pytest.MonkeyPatch
+) -> Iterator[Site]:
+    """An application over it, of which a test wants what came of a row."""
+    monkeypatch.setattr("office.web.screens.notices.WAIT_SECONDS", 600.0)
     with audited(tmp_path, address) as found:
         yield found
 
@@ -235,6 +239,46 @@ def test_a_row_that_was_killed_is_settled_by_a_look(office: Site) -> None:
     assert "2 of 2 reminders recorded" in jane.get(row).text
     sends = [it for it in office.parts.history.entries if it.what == "sends"]
     assert len(sends) == 2 and len(office.parts.history.entries) == count_before
+
+
+def test_who_may_have_answered_is_not_ticked_at_first(office: Site) -> None:
+    """An answer in a pile, by its number or by a name alone; 'Tick all' has them too."""
+    jane, bo = office.browser("jane"), office.browser("bo")
+    bo.get("/answers/")
+    assert bo.post("/answers/", {"entry": "2"}).status_code == 303
+    path, ticks = "/notices/remind?day=17 March 2025", r'name="child" value="(.)"[^>]* checked'
+    assert re.findall(ticks, jane.get(path).text) == list("1345")
+    assert re.findall(ticks, jane.get(f"{path}&tick=all").text) == list("12345")
+
+
+def test_a_row_that_runs_says_so_while_the_register_is_away(
+    office: Site, monkeypatch: pytest.MonkeyPatch,
+) -> None:
+    """The answer comes before the copy is made, and the page looks again by itself."""
+    jane, may_end = office.browser("jane"), threading.Event()
+    make, read = office.parts.copies.make, office.parts.desk.register
+
+    def slow(*given: Any) -> Any:
+        assert may_end.wait(600)
+        return make(*given)
+
+    monkeypatch.setattr(office.parts.copies, "make", slow)
+    monkeypatch.setattr("office.web.screens.notices.WAIT_SECONDS", 0.05)
+    row = confirmed(jane, "remind", shown(jane, "remind", "17 March 2025", [2, 3])).location
+    monkeypatch.setattr(office.parts.desk, "register", away)
+    page = jane.get(row)
+    assert page.status_code == 200 and '<meta http-equiv="refresh"' in page.text
+    assert "0 of 2 reminders recorded. The rest is being recorded" in page.text
+    may_end.set()
+    office.app.extensions["notices"].running[int(row.rsplit("/", 1)[1])].join(600)
+    monkeypatch.setattr(office.parts.desk, "register", read)
+    page = jane.get(row).text
+    assert "2 of 2 reminders recorded." in page and "refresh" not in page
+
+
+def away() -> Any:
+    """A register that does not answer."""
+    raise Refused("the register does not answer now")
 
 
 def test_an_offer_is_not_withdrawn_while_its_answer_waits_in_a_pile(

@@ -33,10 +33,14 @@ class Marks:
             self.possible |= {child: f"{it['person']} has an answer in a pile that may be of this"
                               " child" for child in names.matches(it["name"])}
 
+    def answered(self, child: int) -> str:
+        """Why an answer of a child may wait in a pile, or ""."""
+        return self.waiting.get(child) or self.possible.get(child, "")
+
     def of(self, child: int) -> tuple[str, ...]:
         """What is said of a child."""
         found = ["looked after, or was"] if self.register.children[child].looked_after else []
-        if said := self.waiting.get(child) or self.possible.get(child):
+        if said := self.answered(child):
             found.append(said)
         place = self.register.places.get(child)
         is_sent = (child, about_of(self.register, child, None).key) in self.sent

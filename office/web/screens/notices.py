@@ -1,6 +1,7 @@
 """Reminders and withdrawals: the list of a day, what is ticked shown whole, and recorded; then the
 letters of the same children.
 """
+import contextlib
 import datetime
 import secrets
 from typing import cast
@@ -25,7 +26,7 @@ from . import letters
 screen = flask.Blueprint("notices", __name__, url_prefix="/notices")
 Answer = str | Response | tuple[str, int]
 KINDS = f"any({REMIND}, {LAPSE})"
-WAIT_SECONDS = 20.0
+WAIT_SECONDS = 4.0
 WHAT = {REMIND: ("reminder", "reminders"), LAPSE: ("withdrawal", "withdrawals")}
 TITLES = {REMIND: "Reminders", LAPSE: "Withdrawals of offers"}
 LOOKS_AGAIN = 5
@@ -74,14 +75,15 @@ def choose_page(kind: str, said: str = "", status: int = 200) -> Answer:
     given = flask.request.values
     typed = given.get("day", today().isoformat())
     day, found, marks = wording.day_of(typed), [], None
-    wrong = "" if day else "a day as 17 March 2025 or 17/3/2025"
+    wrong = "" if day else wording.NOT_A_DAY
     if day:
         register = parts().desk.register()
         try:
             found, marks = notices.due(register, kind, day), marks_of(register)
         except Refused as error:
             wrong = sentence(str(error).partition(";")[0])
-    is_all = given.get("tick", "all" if kind == REMIND else "none") == "all"
+    # (at first the reminders without an answer are ticked)
+    tick = given.get("tick", "first" if kind == REMIND else "none")
     picked = set(given.getlist("child")) if "ticked" in given else None
     if wrong and status == 200 and "day" in given:
         status = 400
@@ -89,9 +91,14 @@ def choose_page(kind: str, said: str = "", status: int = 200) -> Answer:
     return flask.render_template(
         "notices_choose.html", kind=kind, title=TITLES[kind], typed=typed, wrong=wrong, said=said,
         is_bad=status != 200, day=wording.weekday(day) if day else "",
-        rows=[(it, is_all if picked is None else str(it.child) in picked,
+        rows=[(it, is_ticked(tick, it, marks) if picked is None else str(it.child) in picked,
                kept.get(it.child, ""), marks.of(it.child) if marks else ())
               for it in found]), status
+
+
+def is_ticked(tick: str, it: Due, marks: Marks | None) -> bool:
+    """Whether one is ticked before anybody has ticked it."""
+    return tick == "all" or tick == "first" and not (marks and marks.answered(it.child))
 
 
 def marks_of(register: Register) -> Marks:
@@ -184,7 +191,10 @@ def one(number: int) -> Answer:
         if not parts().store.row("SELECT 1 FROM notice_row WHERE id=?", number):
             flask.abort(404)
         return flask.render_template("failed.html", reason=sentence(str(error)), status=503), 503
-    names = {it.number: it.name for it in parts().desk.register().children.values()}
+    names: dict[int, str] = {}
+    # (while the register is copied it cannot be read)
+    with contextlib.suppress(Refused) if is_running else contextlib.nullcontext():
+        names = {it.number: it.name for it in parts().desk.register().children.values()}
     made = letters_rows.of_row(letters.sets(), number)
     return flask.render_template(
         "notices_row.html", row=row, title=TITLES[row.kind], what=WHAT[row.kind], names=names,
