@@ -25,6 +25,8 @@ COLUMNS = {
     "lot": "lot",
 }
 WANTED = ["school", "child", "lot"]
+# the column of a sheet that says of which of several draws a row is
+DRAW = "draw"
 # a row's number and its cells
 Numbered = tuple[int, list[str]]
 
@@ -136,16 +138,30 @@ def rows_of(name: str) -> list[Numbered]:
     return rows_in(name, bytes_of(name))
 
 
-def rows_in(name: str, data: bytes) -> list[Numbered]:
-    """The rows of a sheet, each with its number, as code, number and lot, without a header. Empty
-    rows are omitted.
-    """
+def draws_in(name: str, data: bytes) -> list[str]:
+    """The numbers of draws that a sheet has in its column of them, each once."""
+    rows = raw_rows(name, data)
+    header = [it.strip().lower() for it in rows[0][1]] if rows else []
+    if DRAW not in header:
+        return []
+    at = header.index(DRAW)
+    return list(dict.fromkeys(it.strip() for _, cells in rows[1:] for it in cells[at:at + 1]
+                              if it.strip()))
+
+
+def raw_rows(name: str, data: bytes) -> list[Numbered]:
+    """The rows of a sheet as they are, each with its number. Empty rows are omitted."""
     if data.startswith(b"PK\x03\x04") and name != "-":
         found = sheet.of_bytes(name, data, None, "leave the one of the lots")
         rows = [(it.number, it.cells) for it in found.rows]
     else:
         rows = csv_rows(name, decoded(name, data))
-    rows = [(at, cells) for at, cells in rows if without_end(cells)]
+    return [(at, cells) for at, cells in rows if without_end(cells)]
+
+
+def rows_in(name: str, data: bytes) -> list[Numbered]:
+    """The rows of a sheet, each with its number, as code, number and lot, without a header."""
+    rows = raw_rows(name, data)
     if rows and is_named(rows[0][1]):
         names = columns_in(rows[0][1])
         places = [names.index(it) for it in WANTED]
@@ -242,13 +258,17 @@ def see_pairs(filled: Filled, rows: int, pairs: int) -> None:
                       " was made")
 
 
-def write(name: str, pairs: Sequence[Pair], children: Mapping[int, Child] | None = None) -> None:
+def write(
+    name: str, pairs: Sequence[Pair], children: Mapping[int, Child] | None = None,
+    draw: int | None = None,
+) -> None:
     """Writes the sheet for the supervisor: a workbook, or by another ending a CSV. Where children
-    are given, with their names.
+    are given, with their names; where a draw is, with its number in each row.
     """
-    header = ["school", "child", *(["name"] if children else []), "lot"]
+    header = [*([DRAW] if draw else []), "school", "child", *(["name"] if children else []), "lot"]
     rows: list[list[book.Value]] = [
-        [code, number, *([children[number].name] if children else []), None]
+        [*([draw] if draw else []), code, number,
+         *([children[number].name] if children else []), None]
         for code, number in pairs
     ]
     if os.path.splitext(name)[1].lower() == ".xlsx":

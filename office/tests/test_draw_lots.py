@@ -9,8 +9,8 @@ from collections.abc import Iterator
 import pytest
 from applications import ORIGIN
 from draw_site import (
-    HAL, SUP, Fields, Machine, at_lots, begun, brought, lot_of, machine_over, small_register, typed,
-    version,
+    HAL, SUP, Fields, Machine, after_round, at_lots, begun, brought, lot_of, machine_over,
+    small_register, typed, version,
 )
 from pages import Page
 from register_files import Refused
@@ -230,6 +230,31 @@ def test_lots_come_from_a_sheet(small: Machine) -> None:
         assert "2 lots of draw 1: 2 new or changed." in page.text
         found = sup.client.get(f"/lots/{number}/sheet.xlsx", base_url=ORIGIN)
         assert zipfile.is_zipfile(io.BytesIO(found.data))
+
+
+def test_each_of_several_fills_has_a_sheet_that_names_it(small: Machine) -> None:
+    """A row says of which draw it is, and a file of one draw is not taken for another."""
+    with small.office() as office:
+        after_round(small, office)
+        number = begun(office, "OAK", 2)
+        brought(office, number, "lots")
+        sup = at_lots(office)
+        given = sup.get(f"/lots/{number}/sheet.csv?fill=1")
+        assert given.headers["Content-Disposition"].endswith("lots-3.csv")
+        rows = list(csv.reader(io.StringIO(given.data.decode("utf-8-sig"))))
+        assert rows[0] == ["draw", "school", "child", "lot"]
+        assert [it[:2] for it in rows[1:]] == [["3", "OAK"]] * 4
+        assert sup.get(f"/lots/{number}/sheet.csv?fill=2").status_code == 404
+        filled: list[list[object]] = [list(rows[0])]
+        filled += [[*row[:3], 50 + at] for at, row in enumerate(rows[1:])]
+        path = f"/lots/{number}/sheet"
+        page = sup.post(path, {"file": (io.BytesIO(workbook(filled)), "a.xlsx"), "fill": "0"})
+        assert page.status_code == 409 and "lots of draw &#34;3&#34;, and draw 2" in page.text
+        page = sup.post(path, {"file": (io.BytesIO(workbook(filled)), "a.xlsx"), "fill": "1"})
+        assert "4 lots of draw 3: 4 new or changed." in page.text
+        cells = office.parts.lots.sheet(number)[1].cells()
+        assert sorted(text for (_, at), text in cells.items() if at == 1) == [
+            "50", "51", "52", "53"]
 
 
 WRONG_SHEETS = {

@@ -18,8 +18,10 @@ MOST_MEMORY, SECONDS = 1 << 30, 60
 CHILD = "from office.web import draws_sheet; draws_sheet.child()"
 
 
-def rows_of(data: bytes) -> list[tuple[int, list[str]]]:
-    """The rows of a sheet, each with its number, as code, number and lot."""
+def rows_of(data: bytes) -> tuple[list[tuple[int, list[str]]], list[str]]:
+    """The rows of a sheet, each with its number, as code, number and lot; and the draws that it
+    names.
+    """
     inputs.taken(NAME, io.BytesIO(data))
     environment = {**os.environ, "PYTHONPATH": os.pathsep.join(filter(None, sys.path))}
     try:
@@ -33,7 +35,7 @@ def rows_of(data: bytes) -> list[tuple[int, list[str]]]:
         raise Refused(f"{NAME} cannot be read: it is too large, or no sheet") from error
     if "refused" in found:
         raise Refused(found["refused"])
-    return [(at, cells) for at, cells in found["rows"]]
+    return [(at, cells) for at, cells in found["rows"]], found["draws"]
 
 
 def child() -> None:
@@ -42,7 +44,8 @@ def child() -> None:
     resource.setrlimit(resource.RLIMIT_CPU, (SECONDS, SECONDS))
     found: dict[str, object]
     try:
-        found = {"rows": lot_sheets.rows_in(NAME, sys.stdin.buffer.read())}
+        data = sys.stdin.buffer.read()
+        found = {"rows": lot_sheets.rows_in(NAME, data), "draws": lot_sheets.draws_in(NAME, data)}
     except Refused as error:
         found = {"refused": str(error)}
     except MemoryError:

@@ -14,7 +14,7 @@ from werkzeug.wrappers import Response
 
 from office import lot_sheets, texts
 
-from .. import draws_again, draws_sheet
+from .. import draws_again, draws_sheet, numbers
 from ..draws_drafts import Typed
 from ..draws_second import made_since
 from ..draws_lots import MISSING, MOST_SEED, MOST_TEXT, Cell, Sheet, errors_of_sheet
@@ -201,7 +201,11 @@ def upload(number: int) -> Answer:
     try:
         if not given or not given.filename:
             raise Refused("choose a file")
-        rows = draws_sheet.rows_of(given.read())
+        rows, draws = draws_sheet.rows_of(given.read())
+        of = draw.terms.first + fill
+        if other := [it for it in draws if it != str(of)]:
+            raise Refused(f"the file has lots of draw {texts.shown(other[0])}, and draw {of} is"
+                          " chosen under 'Lots of'")
         lots, errors = errors_of_sheet(draws_sheet.NAME, [it.pair for it in sheet.rows], rows)
         if errors:
             count = texts.count(len(errors), "error")
@@ -212,7 +216,6 @@ def upload(number: int) -> Answer:
         changed = parts().lots.take(person(), number, fill, lots)
     except Refused as error:
         return sheet_page(number, reason=f"Nothing was taken: {error}.", status=409)
-    of = draw.terms.first + fill
     return kept_page(number, f"The file has {texts.count(len(lots), 'lot')} of draw {of}:"
                              f" {changed} new or changed.")
 
@@ -220,14 +223,21 @@ def upload(number: int) -> Answer:
 @screen.get("/<int:number>/sheet.<any(xlsx, csv):kind>")
 @needs(RIGHT)
 def sheet_file(number: int, kind: str) -> flask.Response:
-    """An empty sheet for one draw, to be filled in a spreadsheet."""
+    """An empty sheet for one draw, to be filled in a spreadsheet. Of several draws each has its
+    own, whose rows name it.
+    """
     draw, sheet = found_sheet(number)
+    fill = numbers.read(flask.request.args.get("fill", "0"))
+    if not 0 <= fill < draw.terms.fills:
+        flask.abort(404)
+    of = draw.terms.first + fill
     with tempfile.TemporaryDirectory(prefix="admissions-") as room:
         path = pathlib.Path(room, f"lots.{kind}")
-        lot_sheets.write(str(path), [it.pair for it in sheet.rows])
+        lot_sheets.write(str(path), [it.pair for it in sheet.rows],
+                         draw=of if draw.terms.fills > 1 else None)
         data = path.read_bytes()
     answer = flask.Response(data, mimetype=KINDS[kind])
-    name = f"lots-{draw.terms.first}.{kind}"
+    name = f"lots-{of}.{kind}"
     answer.headers["Content-Disposition"] = f"attachment; filename={name}"
     return answer
 
