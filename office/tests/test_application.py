@@ -474,6 +474,19 @@ def test_a_register_that_is_away_is_said(tmp_path: pathlib.Path) -> None:
                 assert jane.client.get(path, base_url=ORIGIN).status_code == 404, path
 
 
+def test_a_page_that_is_none_has_the_menu(tmp_path: pathlib.Path) -> None:
+    """For who is signed in, what they may see; for nobody else."""
+    with site(tmp_path, "http://127.0.0.1:9") as office:
+        jane, head = office.browser("jane"), {"Accept": "text/html"}
+        for path in ("/nowhere", "/draws/x"):
+            page = jane.client.get(path, base_url=ORIGIN, headers=head)
+            assert page.status_code == 404 and "No such page" in page.text
+            assert '<nav aria-label="Screens">' in page.text and ">Draws</a>" in page.text
+            assert ">People</a>" not in page.text
+            page = office.app.test_client().get(path, base_url=ORIGIN, headers=head)
+            assert page.status_code == 404 and "<nav" not in page.text
+
+
 def test_attempts_wait_longer_and_longer() -> None:
     """For a name that exists and for one that does not alike, and not for other addresses."""
     moment = [0.0]

@@ -670,6 +670,19 @@ def test_names_of_one_person(one: str, other: str, is_alike: bool) -> None:
     assert texts.is_alike(one, other) == texts.is_alike(other, one) == is_alike
 
 
+def test_a_day_to_come_is_said_to_be(office: Office, tmp_path: Path) -> None:
+    """A day of application in the future is not only late. (A season that is far away.)"""
+    subprocess.run([PROGRAM, "init", tmp_path / "p.db", "primary", "2100"], check=True)
+    rows = [f"{at},Child {at},{at}000,0,no,,,{day},OAK"
+            for at, day in enumerate(("2099-09-01", "2100-01-20"), 1)]
+    do(tmp_path / "p.db", [school("OAK")])
+    (tmp_path / "p.csv").write_text("\n".join([FEWER, *rows, ""]))
+    said = office("check", "p.csv", "--register", "p.db").stdout
+    today = f"in the future: today is {datetime.date.today()}"
+    assert said.count(f"{today}. Is it right?") == 1
+    assert said.count(f"{today}; it is after the closing date too, 2100-01-15. Is it right?") == 1
+
+
 def test_no_application_of_a_usual_day_is_looked_at(office: Office, tmp_path: Path) -> None:
     """Primary: from 1 September on, for the closing date 15 January; the day before is looked at,
     and so is a late one with a year too few.

@@ -998,6 +998,17 @@ def test_what_looks_wrong_is_read_before_it_closes(small: Machine) -> None:
         entries = office.parts.history.entries
         about = [it.about for it in entries if it.what == "closed the register"]
         assert len(about) == 1 and "It is a Saturday." in about[0]["agreed"]
+        # (who confirms it is asked the same, and finds what is to be done before the long tables)
+        brought(office, number, "rehearsed")
+        page = Page(Person(office, "jane", "officer").browser.get(f"/draws/{number}").text)
+        doubts = " ".join(page.by_id["doubts"].split())
+        assert doubts.startswith("When hal closed the register, this looked wrong: ")
+        assert "It is 5 days after today." in doubts and "It is a Saturday." in doubts
+        assert doubts.endswith("hal said that it is right. Is it right?")
+        at = page.text.index(">Confirm draw 1</button>")
+        assert page.text.index("<caption>By school</caption>") < at
+        assert at < page.text.index("<caption>By child</caption>")
+        assert at < page.text.index("<caption>Steps</caption>")
 
 
 def test_the_checks_have_all_that_a_file_is_asked(small: Machine) -> None:

@@ -13,6 +13,7 @@ from pages import Page, press
 
 from office import worklists as office_worklists
 from office.web import steps, worklists
+from office.web.draws_terms import IN_ORDER, Draw, Terms
 from office.web.people import Person
 from office.web.screens import lists, season
 
@@ -31,6 +32,23 @@ def on(monkeypatch: pytest.MonkeyPatch, day: str) -> None:
     """Makes a day today."""
     for it in (season, lists):
         monkeypatch.setattr(it, "today", lambda: datetime.date.fromisoformat(day))
+
+
+def test_the_supervisor_draws_only_lots_that_a_draw_waits_for(tmp_path: pathlib.Path) -> None:
+    """Before a draw is begun it can be begun; the lots are drawn when it waits for them."""
+    with office_over(tmp_path, town()) as office:
+        register, today = office.parts.desk.now(), datetime.date(2024, 11, 1)
+        terms = Terms(1, None, 1, datetime.date(2025, 3, 3))
+        begin = "A round can be begun under Draws now; the supervisor draws the lots after that."
+
+        def due(draw: Draw | None) -> tuple[str, ...]:
+            return steps.steps(register, today, None, draw)[2].due
+
+        assert due(None) == (begin,)
+        for state in IN_ORDER:
+            draw = Draw(1, terms, state, 1, None, None, "", {}, {}, "", "", "", (), None, "")
+            assert due(draw) == (("The supervisor can draw the lots now.",)
+                                 if state == "lots" else ())
 
 
 def test_a_season_goes_step_by_step(
@@ -59,7 +77,8 @@ def test_a_season_goes_step_by_step(
         found = rows("2024-11-01")
         assert [it[1] for it in found] == ["yes", "yes", "next", "", "", ""]
         assert found[2][2:] == ["8 lots to be drawn", "3 March 2025, in 122 days",
-                                "The supervisor can draw the lots now."]
+                                "A round can be begun under Draws now; the supervisor draws the"
+                                " lots after that."]
         assert rows("2025-03-03")[2][4] == "The offer day is today."
         assert rows("2025-03-04")[2][4] == "The offer day was 1 day ago."
         assert office.parts.desk.send(HAL, ROUND, draw=True).is_done

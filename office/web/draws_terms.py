@@ -145,7 +145,8 @@ def of_rows(row: sqlite3.Row, steps: list[sqlite3.Row]) -> Draw:
 IN_WORDS = {
     BEGUN: "begun, and nothing is closed", CLOSED: "closed for all others",
     COPIED: "closed, and the register is copied", LOTS: "closed, and the supervisor draws the lots",
-    SEALED: "closed, and the lots are sealed", REHEARSED: "closed, and rehearsed: somebody confirms",
+    SEALED: "closed, and the lots are sealed",
+    REHEARSED: "closed, and rehearsed: not confirmed yet",
     CONFIRMED: "closed, and confirmed: not held yet", SENDING: "closed, and being held",
     AUDITED: "held, and the audit agrees", OPENED: "held, and open for all",
     GIVEN_UP: "given up: nothing was sent", RESTORED: "undone: the copy was restored",

@@ -155,6 +155,8 @@ def see() -> AnyResponse | None:
     request = flask.request
     view = flask.current_app.view_functions.get(request.endpoint or "")
     if view is None:
+        # (for the menu of the page that says so)
+        flask.g.person = who_asks()
         return None
     right: str = getattr(view, "right")
     flask.g.person = found = who_asks()

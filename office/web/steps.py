@@ -7,9 +7,13 @@ from office import days, model, register_lists, texts
 from office.model import Register
 from office.days import NOTICE
 
+from .draws_terms import LOTS, Draw
 from .letters_whom import OFFERS, PART
 from .notices import LAPSE, REMIND
 from .wording import weekday
+
+BEGIN = "A round can be begun under Draws now; the supervisor draws the lots after that."
+DRAWS_LOTS = "The supervisor can draw the lots now."
 
 
 @dataclasses.dataclass(frozen=True)
@@ -37,12 +41,17 @@ class Step:
 
 def steps(
     register: Register, today: datetime.date, untold: Mapping[int, int] | None = None,
+    draw: Draw | None = None,
 ) -> list[Step]:
     """The steps of the season, in order. `untold` is how many letters of each draw are not recorded
-    as sent.
+    as sent, and `draw` the one in progress.
     """
     made = (schools, applications, first_round, answers, lists, end)
     found = {it: it(register, today) for it in made}
+    if draw and any(it.said == BEGIN for it in found[first_round].due):
+        # (it is begun already)
+        lots = (Due(DRAWS_LOTS, "draws.show"),) if draw.state == LOTS else ()
+        found[first_round] = dataclasses.replace(found[first_round], due=lots)
     for number, many in (untold or {}).items():
         is_first = register.draws[number - 1].round == 1
         step, whom = (first_round, PART) if is_first else (lists, OFFERS)
@@ -105,7 +114,7 @@ def first_round(register: Register, today: datetime.date) -> Step:
     elif not rounds and today == offer:
         said_due = "The offer day is today."
     elif not rounds and today > closing and register.pairs:
-        said_due = "The supervisor can draw the lots now."
+        said_due = BEGIN
     due = (Due(said_due, "draws.show"),) if said_due else ()
     return Step("First round", bool(rounds), said, None if rounds else offer, due,
                 (("draws.show", "Draws", {}), ("trials.show", "Trials", {}),

@@ -16,8 +16,8 @@ from ..draws import held_in, next_state
 from ..draws_lots import sheet_of
 from ..draws_second import alone_since, made_since
 from ..draws_terms import (
-    AUDITED, BEGUN, CLOSED, CONFIRMED, FOLLOWED, GIVEN_UP, IN_WORDS, MOST_FILLS, OPENED, RESTORED,
-    RUNS, SEALED, SENDING, SENT, STEPS, UNSEALED, UNSENT_SEALED, Draw,
+    AUDITED, BEGUN, CLOSED, CONFIRMED, FOLLOWED, GIVEN_UP, IN_WORDS, MOST_FILLS, OPENED, REHEARSED,
+    RESTORED, RUNS, SEALED, SENDING, SENT, STEPS, UNSEALED, UNSENT_SEALED, Draw,
 )
 from ..guard import needs, parts, person
 from ..parts import Parts
@@ -54,7 +54,7 @@ def list_page(reason: str = "", status: int = 200) -> Answer:
         "draws.html", draws=listed, present=draws.present(), register=register,
         reason=reason or trouble, kind=given.get("kind", "round"), given=given,
         day=given.get("day", days.in_words(day)), most=MOST_FILLS, schools=schools_of(register),
-        undone=draws_again.undone(listed), most_reason=draws_again.MOST_REASON,
+        undone=draws_again.undone(listed), is_again=bool(repeated(listed)), most_reason=draws_again.MOST_REASON,
     ), status
 
 
@@ -127,7 +127,7 @@ def draw_page(number: int, reason: str = "", status: int = 200) -> Answer:
     step = next((it for it in STEPS if it.state == state), None)
     checks = checks_of(draw, register)
     agreed = draws_checks.agreed_to(checks)
-    button = button_of(draw, state, standing)
+    button, outcome = button_of(draw, state, standing), outcome_of(draw, register)
     following = parts().following
     work = following.under_way()
     # (who saw the page before the end of a step reads here why it was not done)
@@ -139,7 +139,7 @@ def draw_page(number: int, reason: str = "", status: int = 200) -> Answer:
         "draw.html", draw=draw, reason=reason or trouble, steps=STEPS, step=step,
         action=action_of(draw, state), second=SECOND, button=button, standing=standing,
         why_not=why_not(draw, state, register), register=register,
-        checks=checks, outcome=outcome_of(draw, register), agreed=agreed,
+        checks=checks, outcome=outcome, agreed=agreed,
         is_agreed=flask.request.form.get("agreed") == agreed, ends=(GIVEN_UP, RESTORED),
         may_give_up=draw.state in UNSEALED, needs_two=draw.state in UNSENT_SEALED,
         may_restore=draw.state in SENT, not_second=not_second(draw), alone=alone(draw),
@@ -147,7 +147,9 @@ def draw_page(number: int, reason: str = "", status: int = 200) -> Answer:
         before=parts().draws.given_up_before(draw), is_explained=is_explained(draw, register),
         repeats=found_draw(draw.repeats) if draw.repeats else None,
         may_undo=draw.state == OPENED and bool(draw.before), unsent=unsent_of(draw),
-         work=work, looks_again=LOOKS_AGAIN,
+        work=work, looks_again=LOOKS_AGAIN,
+        is_read_first=bool(outcome) and draw.state == REHEARSED, again=again_of(draw),
+        doubts="" if draw.is_ended else draw.came_to(CLOSED).said,
         runs=RUNS.get(draw.state, "a step is done"), in_words=state_in_words(draw, standing),
     ), status
 
@@ -157,6 +159,13 @@ def state_in_words(draw: Draw, standing: int) -> str:
     if draw.state == SENDING and standing == draw.terms.fills:
         return "closed, and held; not audited yet"
     return IN_WORDS[draw.state]
+
+
+def again_of(draw: Draw) -> bool:
+    """Whether a draw was undone, and the person can begin it again now."""
+    found = parts().draws
+    return person().may(DRAW) and found.present() is None and any(
+        it.number == draw.number for it in draws_again.undone(found.listed()))
 
 
 def action_of(draw: Draw, state: str) -> str:
@@ -330,7 +339,8 @@ def done(number: int, steps: dict[str, Step], name: str) -> Answer:
     seen = numbers.read(flask.request.form.get("seen", ""))
     if name not in steps or seen < 0:
         flask.abort(404 if name not in steps else 400)
-    asked = Asked(person(), number, seen, flask.request.form.get("agreed", ""))
+    agreed = flask.request.form.get("agreed", "") if name == "close" else ""
+    asked = Asked(person(), number, seen, agreed)
     found, step = parts(), steps[name]
     try:
         found.following.begin(person(), number, lambda: step(found, asked))

@@ -90,11 +90,11 @@ def show() -> str | Response:
     except Refused as error:
         reason = sentence(str(error))
     day = today()
-    made = steps.steps(found, day, untold(found)) if found else []
     draw: Draw | None = parts().draws.present()
     if draw:
         parts().following.look(person(), draw)
         draw = parts().draws.present()
+    made = steps.steps(found, day, untold(found), draw) if found else []
     step = draws.next_in_words(draw, found) if draw and found else ""
     return flask.render_template(
         "season.html", waits=for_head(found, draw, step), register=found, reason=reason,
