@@ -1,4 +1,5 @@
 """What is wrong with an application beside others: rows of the same file, and a register."""
+import datetime
 import statistics
 from collections.abc import Iterable, Iterator, Mapping, Sequence
 from typing import Protocol, TypeVar
@@ -99,8 +100,10 @@ def alike(rows: Sequence[One], register: Register | None) -> Iterator[tuple[One,
         named.append(one)
 
 
-def odd_days(rows: Iterable[One], register: Register | None) -> Iterator[tuple[One, str, bool]]:
-    """Days that are far from the season, or, without a register, from those of the other rows:
+def odd_days(
+    rows: Iterable[One], register: Register | None, today: datetime.date | None = None,
+) -> Iterator[tuple[One, str, bool]]:
+    """Days that are in the future, where it is known which is today, or far from the season, or, without a register, from those of the other rows:
     (row, why, whether it is an error).
     """
     read = ((row, days.read(row.fields["day"])) for row in rows if row.fields["day"])
@@ -110,6 +113,10 @@ def odd_days(rows: Iterable[One], register: Register | None) -> Iterator[tuple[O
         for row, day in given:
             if day > end:
                 yield row, f"a day up to {end}, when the lists close", True
+            elif today and day > today:
+                late = "" if register.is_in_time(day) else (
+                    f"; it is after the closing date too, {closing}")
+                yield row, f"in the future: today is {today}{late}. Is it right?", False
             elif not register.is_in_time(day):
                 yield row, (f"after the closing date, {closing}: it takes no part in the first"
                             " round"), False

@@ -32,6 +32,7 @@ is; 2 wrong arguments.
 """
 import argparse
 import dataclasses
+import datetime
 from collections.abc import Callable, Iterable, Iterator, Mapping
 
 from register_files import Refused
@@ -268,7 +269,7 @@ def see_alike(pairs: Iterable[tuple[Row, across.Person]], add: Add) -> None:
 
 def see_days(rows: Iterable[Row], register: Register | None, add: Add) -> None:
     """Adds the days that are far from the season, or from the others."""
-    for row, why, is_error in across.odd_days(rows, register):
+    for row, why, is_error in across.odd_days(rows, register, datetime.date.today()):
         add(row.number, "day", row.given["day"], why, ERROR if is_error else LOOK)
 
 
