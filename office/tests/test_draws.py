@@ -23,6 +23,7 @@ from draw_site import (
     begun, brought, crashing, first_day, given_up, lot_of, machine_over, no_answer, sealed,
     small_register, steps, typed, version, waiting,
 )
+from pages import Page
 from register_files import Refused
 from served import do_over
 

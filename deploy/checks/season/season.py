@@ -124,8 +124,8 @@ def other_screens(office: Office) -> None:
 # is beside these: it is asked for on another day than that of the draw.)
 STEPS: tuple[tuple[Callable[[Office], None], int], ...] = (
     (beginning.first_sign_in, 0),
-    # the screen, the file, and the schools in it
-    (beginning.schools, 3),
+    # the screen, the file, the schools in it, and the question
+    (beginning.schools, 4),
     (beginning.flags, 1),
     # the screen: each of five is added by typing
     (beginning.people, 1),
