@@ -54,7 +54,8 @@ def list_page(reason: str = "", status: int = 200) -> Answer:
         "draws.html", draws=listed, present=draws.present(), register=register,
         reason=reason or trouble, kind=given.get("kind", "round"), given=given,
         day=given.get("day", days.in_words(day)), most=MOST_FILLS, schools=schools_of(register),
-        undone=draws_again.undone(listed), is_again=bool(repeated(listed)), most_reason=draws_again.MOST_REASON,
+        undone=draws_again.undone(listed), is_again=bool(repeated(listed)),
+        most_reason=draws_again.MOST_REASON,
     ), status
 
 
