@@ -1,0 +1,4 @@
+pub mod Codes
+pub mod Taking
+pub mod RoundPlaces
+pub mod FairRound

@@ -1,0 +1,12 @@
+// The laws of a round, said of the register before it and the one after it.
+ghost use Rattle.adm_fairness.specs.Rounds.{RoundIsFair};
+
+use adm_round::allotment_fits;
+
+/// After a round, a school that a child of the round wants more than what it has is full, of children
+/// who held a place there before or rank before it by class, distance and the lots of the round.
+pub fn round_is_fair()
+    ensures { RoundIsFair }
+{
+    allotment_fits();
+}
