@@ -2,3 +2,8 @@ pub mod Codes
 pub mod Taking
 pub mod RoundPlaces
 pub mod FairRound
+pub mod Ranks
+pub mod Waiters
+pub mod Fills
+pub mod LookedAfter
+pub mod NoPriority

@@ -1,6 +1,11 @@
 // Fairness, said of registers: what rounds, fills and other commands may and may not do to children. The program calls none of it.
 #![tactic(auto)]
 
+mod code;
 mod rounds;
 
+pub use code::{
+    day_gives_no_priority, fill_takes_the_first, list_gives_no_priority, lists_know_no_order,
+    looked_after_first, lots_part_equals, ranks_by_rule, standing_is_listed,
+};
 pub use rounds::round_is_fair;

@@ -1,0 +1,129 @@
+-- By which key a child ranks in a round, and that neither its list nor its day of application has a part in it.
+use Rattle.std.proofs.Common.{◌≡◌, ◌∙◌, ap, sym, subst, refl, cond, true, ℕ, ◌+◌, ◌&&◌, List, [], ◌∷◌, length, map, Option, Some, None, T, arith, Bool, false}
+use Rattle.std.specs.Prelude.{All, IfSome, bytes_eq, is_some, option_map, option_and_then}
+use Rattle.std.specs.List.{filter_map, cons_option}
+use Rattle.std.specs.declared.cmp.Ordering.{Ordering}
+use Rattle.std.specs.declared.cmp.Ordering.TheVariants.{Less, Equal, Greater}
+use Rattle.std.specs.Ordering.{is_eq}
+use Rattle.std.specs.Cmp.{IsTotalOrder, nat_cmp_total}
+use Rattle.std.specs.FinMap.{FinMap, get, insert, entries, values, find, put, is_sorted, entries-insert, entries_sorted, get-entries}
+use Rattle.std.specs.FinMap.Entries.{by_order, length-put}
+use Rattle.std.specs.List as list
+use Rattle.std.proofs.lemmas.Option.{none-some, same_Some}
+use Rattle.std.proofs.lemmas.Slice.Eq.{bytes_eq-Decides}
+use Rattle.adm_lists.proofs.Members.{In, in_All, from_map, from_filter_map, find_gives}
+use Rattle.adm_types.specs.declared.rows.School.{School}
+use Rattle.adm_types.specs.declared.rows.Child.{Child}
+use Rattle.adm_types.specs.declared.rows.Application.{Application}
+use Rattle.adm_rank.specs.declared.keys.RankKey.{RankKey}
+use Rattle.adm_rank.specs.Ranking.{key_of}
+use Rattle.adm_match.specs.declared.problem.Wish.{Wish}
+use Rattle.adm_match.specs.Market.{Code, Candidate, key_at}
+use Rattle.adm_round.specs.declared.applicants.Applicant.{Applicant}
+use Rattle.adm_round.specs.Round.{number_of, listed, IsPosed, pairs, lots_of}
+use Rattle.adm_round.specs.Ranks.{site_of, lot_at, wish_at, candidate_of, market_of_round}
+use Rattle.adm_register.specs.State.{State}
+use Rattle.adm_register.specs.Wanted.{wanted_of, own_school}
+use Rattle.adm_register.specs.WellFormed.{WellFormed}
+use Rattle.adm_commands.specs.Commands.Round.{applicant_of, round_applicants, round_lots, round_market, sites}
+use Rattle.adm_commands.specs.Problem.{lots_fault}
+use Rattle.adm_commands.proofs.Posed.{posed}
+use Rattle.adm_fairness.specs.Rounds.{key_in}
+use Rattle.adm_fairness.specs.Code.{RanksByRule, HasKey, ListGivesNoPriority, on_day, DayGivesNoPriority}
+use Rattle.adm_fairness.proofs.Taking.{taking_of, wish_there, key_of_wish}
+
+-- ---- the keys of a round
+
+module _ (s : State) (numbers : List ℕ) (well : WellFormed s) (none : lots_fault s numbers ≡ None) where
+  abbrev fits : IsPosed (sites s) (round_applicants s) (round_lots s numbers)
+  fits = posed s numbers well none
+
+  abbrev entrant : Applicant → Candidate
+  entrant = candidate_of (site_of (sites s)) (lot_at (round_lots s numbers))
+
+  -- the key at a school of an applicant's list
+  key_listed : (x : Applicant) → In x (round_applicants s) → (code : Code) (found : Option Wish) → list.find (λ (w : Wish). bytes_eq w.school code) (entrant x).list ≡ found
+      → IfSome (option_map (λ (w : Wish). w.key) found) (λ key. key_in s (round_lots s numbers) code (number_of x) ≡ Some key)
+  key_listed x at code None is = tt
+  key_listed x at code (Some w) is =
+      let lots = round_lots s numbers in
+      let gives = find_gives (λ (v : Wish). bytes_eq v.school code) (entrant x).list w is in
+      let from = from_filter_map (λ c. option_map (wish_at (lot_at lots) x.child) (site_of (sites s) c)) (listed x) w gives.0 in
+      let taking = taking_of s well x at in
+      let it = wish_there s well lots fits x taking.1.among from.0 from.1 in
+      let same : it.0 ≡ w = same_Some it.0 w (sym it.1.made ∙ from.2) in
+      let here : from.0 ≡ code = sym it.1.at_school ∙ (ap (λ (v : Wish). v.school) same ∙ (bytes_eq-Decides w.school code).0 gives.1) in
+      ap (key_in s lots code) taking.1.number
+      ∙ (ap (λ c. key_in s lots c taking.0.child) (sym here)
+      ∙ (key_of_wish s well lots fits taking.0 x taking.1 from.0 it.0 it.1 ∙ ap (λ (v : Wish). Some v.key) same))
+
+  pub each_key : All (λ (e : Candidate). (code : Code) → IfSome (key_at e.list code) (λ key. key_in s (round_lots s numbers) code e.child ≡ Some key)) (round_market s numbers).entrants
+  each_key = in_All (λ (e : Candidate). (code : Code) → IfSome (key_at e.list code) (λ key. key_in s (round_lots s numbers) code e.child ≡ Some key)) (round_market s numbers).entrants
+      (λ e at.
+      let from = from_map entrant (round_applicants s) e at in
+      subst (λ (c : Candidate). (code : Code) → IfSome (key_at c.list code) (λ key. key_in s (round_lots s numbers) code c.child ≡ Some key)) from.2
+      (λ code. key_listed from.0 from.1 code (list.find (λ (w : Wish). bytes_eq w.school code) (entrant from.0).list) refl))
+
+  -- the key of an entrant is that of its child
+  pub key_had : (child : ℕ) (code : Code) (key : RankKey) → HasKey s numbers child code key → key_in s (round_lots s numbers) code child ≡ Some key
+  key_had child code key has =
+      let e = has.1 in
+      let known = subst (λ (c : Candidate). (other : Code) → IfSome (key_at c.list other) (λ k. key_in s (round_lots s numbers) other c.child ≡ Some k)) has.3 (each_key has.0 e has.2) in
+      let mine : key_in s (round_lots s numbers) code e.child ≡ Some key =
+      subst (λ o. IfSome o (λ k. key_in s (round_lots s numbers) code e.child ≡ Some k)) has.4.1 (known code) in
+      ap (key_in s (round_lots s numbers) code) (sym has.4.0) ∙ mine
+
+pub ranks_by_rule_law : RanksByRule
+ranks_by_rule_law s numbers well none = each_key s numbers well none
+
+pub list_gives_no_priority_law : ListGivesNoPriority
+list_gives_no_priority_law one other numbers drawn child code first second well well' none none' schools children lots has has' =
+    let mine = key_had one numbers well none child code first has in
+    let its = key_had other drawn well' none' child code second has' in
+    same_Some second first
+    (sym its
+    ∙ ((λ i. option_and_then (λ (school : School). option_map (λ (row : Child). key_of school row (lots i)) (get (children i) child)) (get (schools i) code))
+    ∙ mine))
+
+-- ---- the day
+
+after_first : (a b : Bool) → T (a && b) → T b
+after_first true b p = p
+after_first false b p = absurd p
+
+-- what is made of the values is the same where one is put in place of another that gives the same
+module _ {K V Y : Type 0} {R : K → K → Ordering} (total : IsTotalOrder R) (f : V → Option Y) (k : K) (row now : V) (same : f now ≡ f row) where
+  abbrev given : List (K × V) → List Y
+  given es = filter_map f (map (λ e. e.1) es)
+
+  put_same : (es : List (K × V)) → T (is_sorted R es) → find R k es ≡ Some row → given (put R k now es) ≡ given es
+  put_same [] sorted there = absurd (none-some row there)
+  put_same (e ∷ es) sorted there =
+      elim (R k e.0) as (λ o. R k e.0 ≡ o → given (by_order o ((k, now) ∷ e ∷ es) ((e.0, now) ∷ es) (e ∷ put R k now es)) ≡ given (e ∷ es)) [
+        | Less ↦ λ p. absurd (
+            let more = ap (λ o. length (by_order o ((k, now) ∷ e ∷ es) ((e.0, now) ∷ es) (e ∷ put R k now es))) p in
+            let same_length = length-put R total k now (e ∷ es) sorted ∙ ap (λ b. cond b (length (e ∷ es)) (length (e ∷ es) + 1)) (ap is_some there) in
+            omega (arith, more, same_length))
+        | Equal ↦ λ p.
+            let here = ap (λ o. cond (is_eq o) (Some e.1) (find R k es)) p in
+            let was : row ≡ e.1 = same_Some row e.1 (sym there ∙ here) in
+            ap (λ o. cons_option o (given es)) (same ∙ ap f was)
+        | Greater ↦ λ p.
+            let rest = ap (λ o. cond (is_eq o) (Some e.1) (find R k es)) p in
+            ap (cons_option (f e.1)) (put_same es (after_first _ _ sorted) (sym rest ∙ there))
+      ] refl
+
+  pub insert_same : (rows : FinMap R V) → get rows k ≡ Some row → filter_map f (values (insert rows k now)) ≡ filter_map f (values rows)
+  insert_same rows there =
+      ap given (entries-insert total rows k now) ∙ put_same (entries rows) (entries_sorted rows) (sym (get-entries rows k) ∙ there)
+
+pub day_gives_no_priority_law : DayGivesNoPriority
+day_gives_no_priority_law s application day numbers there part =
+    let now : Application = record application { day = day } in
+    let same_one : applicant_of s now ≡ applicant_of s application = ap (λ b. cond b (option_map as_applicant (get s.children application.child)) None) part in
+    let same : round_applicants (on_day s application day) ≡ round_applicants s =
+    insert_same nat_cmp_total (applicant_of s) application.child application now same_one s.applications there in
+    λ i. market_of_round (sites s) (same i) (lots_of (pairs (sites s) (same i)) numbers)
+  where
+    as_applicant : Child → Applicant
+    as_applicant child = record { child = child; wanted = wanted_of s application; own = own_school (get s.places application.child) }
