@@ -7,3 +7,9 @@ pub mod Waiters
 pub mod Fills
 pub mod LookedAfter
 pub mod NoPriority
+pub mod Waits
+pub mod EnvyRows
+pub mod EnvyDraws
+pub mod Envy
+pub mod Ends
+pub mod Plans

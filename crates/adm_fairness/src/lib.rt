@@ -3,9 +3,11 @@
 
 mod code;
 mod rounds;
+mod season;
 
 pub use code::{
     day_gives_no_priority, fill_takes_the_first, list_gives_no_priority, lists_know_no_order,
     looked_after_first, lots_part_equals, ranks_by_rule, standing_is_listed,
 };
 pub use rounds::round_is_fair;
+pub use season::{envy_has_cause, no_new_envy, place_ends_fairly, plan_is_kept};
