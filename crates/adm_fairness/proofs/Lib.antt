@@ -13,3 +13,4 @@ pub mod EnvyDraws
 pub mod Envy
 pub mod Ends
 pub mod Plans
+pub mod CutoffLemmas

@@ -1,3 +1,4 @@
 pub mod Rounds
 pub mod Code
 pub mod Season
+pub mod Cutoffs

@@ -2,6 +2,7 @@
 #![tactic(auto)]
 
 mod code;
+mod cutoffs;
 mod rounds;
 mod season;
 
@@ -9,5 +10,6 @@ pub use code::{
     day_gives_no_priority, fill_takes_the_first, list_gives_no_priority, lists_know_no_order,
     looked_after_first, lots_part_equals, ranks_by_rule, standing_is_listed,
 };
+pub use cutoffs::{cutoffs_decide, same_cutoffs_same_places, some_cutoff};
 pub use rounds::round_is_fair;
 pub use season::{envy_has_cause, no_new_envy, place_ends_fairly, plan_is_kept};
