@@ -14,3 +14,6 @@ pub mod Envy
 pub mod Ends
 pub mod Plans
 pub mod CutoffLemmas
+pub mod Beside
+pub mod Improved
+pub mod Amended

@@ -2,3 +2,4 @@ pub mod Rounds
 pub mod Code
 pub mod Season
 pub mod Cutoffs
+pub mod Improvements
