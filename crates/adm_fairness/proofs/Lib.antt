@@ -17,3 +17,5 @@ pub mod CutoffLemmas
 pub mod Beside
 pub mod Improved
 pub mod Amended
+pub mod Honest
+pub mod Leaving

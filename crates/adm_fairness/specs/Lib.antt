@@ -3,3 +3,4 @@ pub mod Code
 pub mod Season
 pub mod Cutoffs
 pub mod Improvements
+pub mod Honesty

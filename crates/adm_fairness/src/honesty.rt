@@ -1,0 +1,22 @@
+// Applications: what a child may gain by another one, and what others may by one.
+ghost use Rattle.adm_fairness.specs.Honesty.{NoApplicationHelps, NoLossByNotApplying};
+
+use adm_match_laws::{kinds_of_generosity, no_loss};
+use adm_round::allotment_fits;
+
+/// By no other application does a child get in the next round a school that it truly wants more: of
+/// any schools in any order, also of schools that it does not truly want, by the same lots.
+pub fn no_application_helps()
+    ensures { NoApplicationHelps }
+{
+    allotment_fits();
+}
+
+/// A child that does not apply gives no other child a worse school in the next round, by the same
+/// lots.
+pub fn no_loss_by_not_applying()
+    ensures { NoLossByNotApplying }
+{
+    kinds_of_generosity();
+    no_loss();
+}
