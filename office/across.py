@@ -103,8 +103,8 @@ def alike(rows: Sequence[One], register: Register | None) -> Iterator[tuple[One,
 def odd_days(
     rows: Iterable[One], register: Register | None, today: datetime.date | None = None,
 ) -> Iterator[tuple[One, str, bool]]:
-    """Days that are in the future, where it is known which is today, or far from the season, or, without a register, from those of the other rows:
-    (row, why, whether it is an error).
+    """Days that are in the future, where it is known which is today, or far from the season, or,
+    without a register, from those of the other rows: (row, why, whether it is an error).
     """
     read = ((row, days.read(row.fields["day"])) for row in rows if row.fields["day"])
     given = [(row, day) for row, day in read if day]

@@ -12,11 +12,11 @@ from collections.abc import Callable
 
 from register_files import Refused
 
+from .desk import local
 from .draws import Draws, held_in, see_goes_on
 from .draws_terms import AUDITED, CLOSED, COPIED, FOLLOWED, SEALED, SENDING, Draw
 from .history import now
 from .people import CONFIRM, Person
-from .step_store import moment
 
 LOG = logging.getLogger(__name__)
 # a request waits so long for the end of what it has begun, and then says that it runs
@@ -68,7 +68,7 @@ class Following:
         with self.beginning:
             if present := self.under_way():
                 raise Refused(f"a step is under way, which {present.who} began at"
-                              f" {moment(present.at)}. Nothing else was done")
+                              f" {local(present.at)}. Nothing else was done")
             work = self.last = Work(number, who.name, now())
             threading.Thread(target=self.work, args=(work, who, step), daemon=True).start()
         if not work.is_over.wait(self.wait):

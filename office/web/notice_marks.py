@@ -35,7 +35,7 @@ class Marks:
 
     def answered(self, child: int) -> str:
         """Why an answer of a child may wait in a pile, or ""."""
-        return self.waiting.get(child) or self.possible.get(child, "")
+        return self.waiting.get(child, "") or self.possible.get(child, "")
 
     def of(self, child: int) -> tuple[str, ...]:
         """What is said of a child."""
