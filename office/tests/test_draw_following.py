@@ -246,8 +246,10 @@ def test_long_work_says_that_it_runs(small: Machine, monkeypatch: pytest.MonkeyP
         monkeypatch.setattr(office.parts.copies, "make", slow)
         following.wait = 0.05
         assert hal.step(number, "send").status_code == 303
+        work = following.last
+        assert work
         while office.parts.draws.get(number).state != "sending":
-            assert not following.last.is_over.wait(0.05)
+            assert not work.is_over.wait(0.05)
         seen = str(version(office, number))
         for who in (hal, jane):
             page = who.browser.get(f"/draws/{number}").text
@@ -257,7 +259,7 @@ def test_long_work_says_that_it_runs(small: Machine, monkeypatch: pytest.MonkeyP
         found = jane.press(number, seen, "go-on")
         assert found.status_code == 409 and "A step is under way, which hal began" in found.text
         may_end.set()
-        assert following.last.is_over.wait(600)
+        assert work.is_over.wait(600)
         page = hal.browser.get(f"/draws/{number}").text
         assert "the register is open for all again" in page and "refresh" not in page
         assert [it.who for it in office.parts.draws.get(number).done[-2:]] == ["hal", "hal"]
@@ -280,8 +282,9 @@ def test_what_is_refused_after_the_answer_is_said(
         office.parts.following.wait = 0.05
         assert hal.step(number, "send").status_code == 303
         assert "the draw is held." in hal.browser.get(f"/draws/{number}").text
+        work = office.parts.following.last
         may_end.set()
-        assert office.parts.following.last.is_over.wait(600)
+        assert work and work.is_over.wait(600)
         page = hal.browser.get(f"/draws/{number}").text
         assert "The last step was not done: The disk is full." in page
         assert "Hold draw 1</button>" in page

@@ -149,6 +149,7 @@ def due(office: Office, kind: str, day: datetime.date, children: Iterable[int],
         report.see(f"child {it}," not in hal.main, f"child {it} is named, which was not ticked")
     many = f"{len(wanted)} {one}{'s' * (len(wanted) != 1)}"
     hal.press(f"Record {many} of {in_words(day)}")
+    until(lambda: "The rest is being recorded" not in hal.main, "all are recorded")
     hal.see(f"{len(wanted)} of {many} recorded.")
 
 

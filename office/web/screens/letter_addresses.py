@@ -71,6 +71,8 @@ def save() -> Answer:
         columns = letters_addresses.columns_of(rows)
         ticked = set(form.getlist("column"))
         taken = [at for at in range(len(columns)) if is_first or str(at) in ticked]
+        if columns and not taken:
+            raise Refused("tick at least one column that is a line of the address")
         found = letters_addresses.read(rows, parts().desk.register().children, taken)
         shown = " ".join(map(str, taken))
         if is_first or form.get("shown") != shown or form.get("what") != "store":

@@ -1,7 +1,6 @@
 """Reminders and withdrawals: the list of a day, what is ticked shown whole, and recorded; then the
 letters of the same children.
 """
-import contextlib
 import datetime
 import secrets
 from typing import cast
@@ -191,10 +190,13 @@ def one(number: int) -> Answer:
         if not parts().store.row("SELECT 1 FROM notice_row WHERE id=?", number):
             flask.abort(404)
         return flask.render_template("failed.html", reason=sentence(str(error)), status=503), 503
-    names: dict[int, str] = {}
-    # (while the register is copied it cannot be read)
-    with contextlib.suppress(Refused) if is_running else contextlib.nullcontext():
+    names = dict[int, str]()
+    try:
         names = {it.number: it.name for it in parts().desk.register().children.values()}
+    except Refused:
+        # (while the register is copied it cannot be read)
+        if not is_running:
+            raise
     made = letters_rows.of_row(letters.sets(), number)
     return flask.render_template(
         "notices_row.html", row=row, title=TITLES[row.kind], what=WHAT[row.kind], names=names,
