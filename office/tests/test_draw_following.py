@@ -136,7 +136,9 @@ def test_a_crash_after_the_draw(
     with small.office() as office:
         first_day(office)
         for path in ("/", "/draws/", f"/draws/{number}"):
-            assert office.browser("rita", "reader").get(path).status_code == 200
+            found = office.browser("rita", "reader").get(path)
+            assert found.status_code == 200
+        assert "Nothing runs now: this step was cut off." in found.text
         assert office.parts.draws.get(number).state in ("sending", "audited")
         assert office.parts.desk.closed()
         page = office.browser("jane", "officer").get("/").text
@@ -256,6 +258,7 @@ def test_long_work_says_that_it_runs(small: Machine, monkeypatch: pytest.MonkeyP
             assert '<meta http-equiv="refresh"' in page and "begun by hal" in page
             assert "the draw is held, and then audited." in page
             assert "Audit draw 1</button>" not in page and "Ask to restore" not in page
+            assert "is in progress, and a step of it runs now." in who.browser.get("/").text
         found = jane.press(number, seen, "go-on")
         assert found.status_code == 409 and "A step is under way, which hal began" in found.text
         may_end.set()

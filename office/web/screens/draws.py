@@ -55,7 +55,7 @@ def list_page(reason: str = "", status: int = 200) -> Answer:
         reason=reason or trouble, kind=given.get("kind", "round"), given=given,
         day=given.get("day", days.in_words(day)), most=MOST_FILLS, schools=schools_of(register),
         undone=draws_again.undone(listed), is_again=bool(repeated(listed)),
-        most_reason=draws_again.MOST_REASON,
+        most_reason=draws_again.MOST_REASON, in_words=IN_WORDS,
     ), status
 
 

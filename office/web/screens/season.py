@@ -101,4 +101,5 @@ def show() -> str | Response:
         day=weekday(day),
         rows=[(it, links(it), due(it), steps.when(it.by, day) if it.by else "") for it in made],
         next=steps.next_of(made), counts=steps.counts(found) if found else [],
-        draw=draw, next_step=step, signed_in=parts().people.signed_in())
+        draw=draw, next_step=step, is_running=parts().following.under_way() is not None,
+        signed_in=parts().people.signed_in())
