@@ -42,7 +42,7 @@ def test_the_supervisor_draws_only_lots_that_a_draw_waits_for(tmp_path: pathlib.
         begin = "A round can be begun under Draws now; the supervisor draws the lots after that."
 
         def due(draw: Draw | None) -> tuple[str, ...]:
-            return steps.steps(register, today, None, draw)[2].due
+            return tuple(it.said for it in steps.steps(register, today, None, draw)[2].due)
 
         assert due(None) == (begin,)
         for state in IN_ORDER:
