@@ -208,9 +208,9 @@ def ask(shown: str) -> Answer:
 def store() -> Answer:
     """Shows the draft whole, or stores what was shown and confirmed."""
     shown = flask.request.form.get("digest", "")
-    if flask.request.form.get("sure") != "yes" and (asked := ask(shown)):
-        return asked
     try:
+        if flask.request.form.get("sure") != "yes" and (asked := ask(shown)):
+            return asked
         found = school_drafts.store_all(
             parts().desk, person(), draft(), flags.present(), shown)
     except Refused as error:
