@@ -131,6 +131,8 @@ def draw_page(number: int, reason: str = "", status: int = 200) -> Answer:
     button, outcome = button_of(draw, state, standing), outcome_of(draw, register)
     following = parts().following
     work = following.under_way()
+    if work and work.number != number:
+        work = None
     # (who saw the page before the end of a step reads here why it was not done)
     if not work and not reason and not draw.trouble and (said := following.refused(number)):
         reason = f"The last step was not done: {sentence(said)}"
