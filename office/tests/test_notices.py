@@ -208,16 +208,15 @@ def test_a_row_that_stopped_goes_on_and_sends_nothing_twice(
 
 
 def test_a_row_stops_where_the_register_is_closed(office: Site) -> None:
-    """At the first that cannot be sent; and goes on once it is open."""
+    """Before the first one, without a copy; and goes on once it is open."""
     jane, desk = office.browser("jane"), office.parts.desk
     page, is_open = shown(jane, "remind", "17 March 2025", [1, 4]), desk.closed
     desk.closed = lambda: "Closed for a draw."
     path = confirmed(jane, "remind", page).location
     with office.app.app_context():
         row = screen.rows().get(1)
-    assert row.said == "Closed for a draw."
-    assert [(it.state, it.said) for it in row.notices] == [
-        ("waits", "Closed for a draw."), ("waits", "")]
+    assert row.said == "Closed for a draw. Nothing was sent." and not office.copied
+    assert [(it.state, it.said) for it in row.notices] == [("waits", ""), ("waits", "")]
     with office.parts.store.writing() as db:
         # (as where the application ends right before it sends one)
         db.execute("UPDATE notice SET state='sending' WHERE place=1")
@@ -273,7 +272,7 @@ def test_a_row_that_runs_says_so_while_the_register_is_away(
     office.app.extensions["notices"].running[int(row.rsplit("/", 1)[1])].join(600)
     monkeypatch.setattr(office.parts.desk, "register", read)
     page = jane.get(row).text
-    assert "2 of 2 reminders recorded." in page and "refresh" not in page
+    assert "2 of 2 reminders recorded." in page and "is being recorded" not in page
 
 
 def away() -> Any:

@@ -466,9 +466,9 @@ def test_what_was_sent_again_keeps_nothing_of_its_child_back(small: Machine) -> 
         sent(office, (HAL, ADDED), (JANE, APPLIED))
         added, applied = (room.since()[it] for it in ("add_child", "apply"))
         number = room.begin(1)
-        for browser, button, entries in (
-                (room.hal, "ask", (added,)), (room.jane, "confirm", ()), (room.hal, "open", ())):
+        for browser, button, entries in ((room.hal, "ask", (added,)), (room.jane, "confirm", ())):
             assert room.press(browser, number, button, entries).status_code == 303
+        # (all that was chosen is stored, so the register is open again)
         assert restores.later(restores.get(number)) == {applied: ""}
         assert room.press(room.hal, number, "later", (applied,)).status_code == 303
         assert list(room.now().applications[6].preferences) == ["ELM"]
@@ -663,7 +663,8 @@ def test_an_answer_to_an_undone_offer_waits_until_the_draw_is_held_again(small: 
         assert f"again-{entry}" not in page.stops
         assert press(room.hal, path, page, "Ask to restore copy 1").status_code == 303
         seen = " ".join(room.jane.get(path).text.split())
-        assert "0 entries are sent again, and 1 entry is not. 1 entry waits until" in seen
+        assert ("1 entry came since then: none of it is sent again. 1 entry waits until the draw is"
+                " held again.") in seen
         assert press(room.jane, path, Page(seen), "Restore copy 1").status_code == 303
         assert room.state(restore) == "opened" and not office.parts.desk.closed()
         assert room.now().draws == [] and not room.now().places
