@@ -55,7 +55,7 @@ own_is (Some row) code is = by (is_plan row.place.state) is
     by true is = absurd (none-some code is)
     by false is = ap (λ b. b && true) ((bytes_eq-Decides row.place.school code).1 (same_Some row.place.school code is))
 
-at_entries : (places : FinMap nat_cmp PlaceRow) (q : ℕ) → get places q ≡ lookup (is_at (nat_cmp q)) (entries places)
+pub at_entries : (places : FinMap nat_cmp PlaceRow) (q : ℕ) → get places q ≡ lookup (is_at (nat_cmp q)) (entries places)
 at_entries places q = sym (ap (λ m. get m q) (map_of_entries nat_cmp_total nat_cmp-IsAntisymmetric places)) ∙ get_rows nat_cmp_total (entries places) q
 
 -- how many of the applicants an allocation gives a school

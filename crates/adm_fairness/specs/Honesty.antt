@@ -5,7 +5,7 @@ use Rattle.adm_types.specs.Limits.{is_listed}
 use Rattle.adm_types.specs.declared.rows.Application.{Application}
 use Rattle.adm_types.specs.declared.draws.Lot.{Lot}
 use Rattle.adm_types.specs.declared.draws.Outcome.{Outcome}
-use Rattle.adm_types.specs.declared.commands.Command.TheVariants.{Apply}
+use Rattle.adm_types.specs.declared.commands.Command.TheVariants.{Apply, Decline}
 use Rattle.adm_match.specs.Market.{Code, assigned_rank}
 use Rattle.adm_match_laws.specs.Generous.{IsNoWorse}
 use Rattle.adm_round.specs.Round.{number_of, listed}
@@ -49,3 +49,14 @@ NoLossByNotApplying =
     → lots_fault old numbers ≡ None → lots_fault new drawn ≡ None
     → KeepsCommonLots old new (round_lots old numbers) (round_lots new drawn)
     → IsNoWorse (round_market old numbers).entrants first.allocation second.allocation
+
+-- A child gains nothing in the next round by declining its place: what the round gives it then is not before what the round gives it
+-- where it keeps the place, on the list of the schools that it wants above the place and then the place, where all lots are the same.
+abbrev pub NoGainByDeclining : Type 0
+NoGainByDeclining =
+    (old new : State) (child : ℕ) (code : Code) (numbers drawn : List ℕ) (before after : List Outcome)
+    (first : AreOutcomes old numbers before) (second : AreOutcomes new drawn after)
+    → WellFormed old → Accepts old (Decline child code) new
+    → lots_fault old numbers ≡ None → lots_fault new drawn ≡ None
+    → KeepsCommonLots old new (round_lots old numbers) (round_lots new drawn)
+    → All (λ entrant. entrant.child ≡ child → assigned_rank entrant.list (first.allocation child) ≤ assigned_rank entrant.list (second.allocation child)) (round_market old numbers).entrants

@@ -1,5 +1,5 @@
-// Applications: what a child may gain by another one, and what others may by one.
-ghost use Rattle.adm_fairness.specs.Honesty.{NoApplicationHelps, NoLossByNotApplying};
+// Applications and places: what a child may gain by another application or a declined place, and what others may by one.
+ghost use Rattle.adm_fairness.specs.Honesty.{NoApplicationHelps, NoLossByNotApplying, NoGainByDeclining};
 
 use adm_match_laws::{kinds_of_generosity, no_loss};
 use adm_round::allotment_fits;
@@ -19,4 +19,12 @@ pub fn no_loss_by_not_applying()
 {
     kinds_of_generosity();
     no_loss();
+}
+
+/// A child gains nothing in the next round by declining its place: by the same lots, what it gets then
+/// is not before what it would have got by keeping it.
+pub fn no_gain_by_declining()
+    ensures { NoGainByDeclining }
+{
+    allotment_fits();
 }
