@@ -390,11 +390,14 @@ def test_marked_rows_are_removed_at_once(office: Site) -> None:
     """A row that is not read is no other answer than the same one in a file that comes after it;
     another answer is. All that have something against them go together, and the others stay.
     """
-    jane = office.browser("jane")
     found = several(office, "12 Ben Bell / yes\n14 Dai O'Dare / no\n11 Ada Abel yes\n13 ? yes\n")
     assert '"/" is not understood' in found["12 Ben Bell / yes"][2]
     assert found["11 Ada Abel yes"] == ["11", "accept", ""]
-    found = several(office, "12 Ben Bell accept\n14 Dai O'Dare accept\n")
+    jane = office.browser("jane")
+    jane.get(PAGE)
+    given = {"pasted": "12 Ben Bell accept\n14 Dai O'Dare accept\n"}
+    assert jane.post("/answers/several", given).status_code == 303
+    found = {row[0]: [row[1], row[3], row[5]] for row in pile(shown(jane))}
     assert found["12 Ben Bell accept"] == ["12", "accept", ""]
     assert found["14 Dai O'Dare accept"][2] == "the pile has another answer for this child"
     page = shown(jane)
