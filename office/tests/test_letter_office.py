@@ -263,7 +263,7 @@ def test_what_was_recorded_before_the_letters_does_not_rest_on_them(
     assert letters_back.noticed(record, {1, 2}, before) == (
         "a reminder was recorded for child 1 since")
     assert letters_back.noticed(record, {3}, before) == (
-        "a withdrawal was recorded for child 3 since")
+        "a withdrawal of the offer was recorded for child 3 since")
     assert letters_back.noticed(record, {2, 4}, before) == ""
     assert letters_back.noticed(record, {1, 3}, after) == ""
     record.close()

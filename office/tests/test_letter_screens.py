@@ -230,7 +230,10 @@ def test_neither_drafts_nor_fewer_letters_are_recorded_as_sent(tmp_path: pathlib
         sets.change(1, "is_draft=0")
         with pytest.raises(Refused, match="the set has changed since it was shown"):
             sets.record(jane, 1, day, 1, False)
+        with pytest.raises(Refused, match="nobody has taken the file of these letters"):
+            sets.record(jane, 1, day, 2, False)
         assert not sets.get(1).sent
+        sets.change(1, "taken=?", "2025-03-17T10:00:00.000+00:00")
         sets.record(jane, 1, day, 2, False)
         assert sets.get(1).sent == "2025-03-17"
 
