@@ -19,7 +19,7 @@ from letter_site import (
 from register_files import Refused
 
 from office.senders import Ended
-from office.web import notices
+from office.web import letters_rows, notices
 from office.web.answers import Meant
 from office.web.notice_marks import Marks
 from office.web.people import Person
@@ -99,6 +99,9 @@ def withdrawn(jane: Browser, office: Site, address: str) -> None:
     assert found.status_code == 303
     assert 2 not in office.parts.desk.now().places
     for whom, value in (("row", "2"), ("withdrawn", "31 March 2025")):
+        early = jane.post("/letters/make", asked(jane, whom, value, day_of_letters="30 March 2025"))
+        assert early.status_code == 400 and (
+            "tell of withdrawals of 31 March 2025, and cannot have an earlier date" in early.text)
         form = asked(jane, whom, value, day_of_letters="31 March 2025")
         assert form["child"] == ["2"]
         text = letter_pages(jane, made(jane, form))[0]
@@ -149,6 +152,18 @@ def test_letters_that_nobody_can_send_are_not_made_by_themselves(office: Site) -
     assert "2 of 2 reminders recorded" in page and count(office, "letter_set") == 0
     assert "not made by themselves, as the office’s address is not typed yet" in page
     assert 'id="letters" href="/letters/whom?whom=row&amp;value=1"' in page
+
+
+def test_the_letters_of_a_row_are_not_dated_before_it(
+    office: Site, monkeypatch: pytest.MonkeyPatch,
+) -> None:
+    """Where it is recorded before its day: they would not know of it."""
+    monkeypatch.setattr(screen, "today", lambda: datetime.date(2025, 3, 16))
+    jane = office.browser("jane")
+    row = confirmed(jane, "remind", shown(jane, "remind", "17 March 2025", [2])).location
+    assert "1 of 1 reminder recorded" in jane.get(row).text
+    found = letters_rows.of_row(office.app.extensions["letters"], 1)
+    assert found and found.asked.date == datetime.date(2025, 3, 17)
 
 
 def test_what_changed_meanwhile_is_not_recorded(office: Site, address: str) -> None:

@@ -13,6 +13,7 @@ from register_files import Refused
 from werkzeug.datastructures import MultiDict
 from werkzeug.wrappers import Response
 
+from office import days
 from office.model import Register
 
 from .. import letters_back, letters_sets, letters_whom, numbers, wording
@@ -171,6 +172,9 @@ def asked_in(form: MultiDict[str, str]) -> Asked:
         raise Refused("choose a template")
     template = sets().templates.get(numbers.read(number), numbers.read(version))
     withdrawn, copy = lists().withdrawal(found)
+    if withdrawn and day < withdrawn:
+        raise Refused(f"the letters tell of withdrawals of {days.in_words(withdrawn)}, and cannot"
+                      " have an earlier date")
     copy = copy or lists().draw(register, found, parts().draws)
     words = lists().words(register, found)
     if len(picked) < len(there):
