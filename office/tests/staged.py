@@ -73,7 +73,7 @@ class Seen(html.parser.HTMLParser):
     def row(self, where: str) -> int:
         """The id of a row by what it is called."""
         return next(it for it in self.rows()
-                    if " ".join(self.texts[f"row-{it}"].split()).startswith(f"{where} "))
+                    if " ".join([*self.texts[f"row-{it}"].split(), ""]).startswith(f"{where} "))
 
     def values(self, row: int) -> Cells:
         """What the fields of a row have."""

@@ -204,7 +204,8 @@ def test_equal_changes_are_summed(screens: Screens) -> None:
 
 
 def test_several_files_and_their_names(office: Site, screens: Screens) -> None:
-    """Each row knows its file, its row there, and who added it; one that is refused keeps none out.
+    """Each row knows its file and its row there, and each file who added it; one that is refused keeps
+    none out.
     """
     screens.add(("a.csv", lines(GOOD[:2])), ("C:\\Temp\\b\u202e.csv", lines(GOOD[2:4])))
     bo = Screens(office.browser("bo"))
@@ -215,7 +216,7 @@ def test_several_files_and_their_names(office: Site, screens: Screens) -> None:
     assert "Added: a.csv (2)" in seen.texts["answer"]
     assert {seen.row(it) for it in ("row 2 of a.csv", "row 3 of b\\u202e.csv",
                                     "row 3 of a.csv (2)")} <= set(seen.rows())
-    assert "bo," in seen.texts[f"row-{seen.row('row 2 of a.csv (2)')}"]
+    assert "<td>bo, " in found.text
     again = bo.add(("other.csv", lines(GOOD[:2])))
     assert again.status_code == 409 and "was added already by jane, as a.csv" in again.text
     assert states(office) == {OPEN: 6}
