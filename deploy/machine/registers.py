@@ -1,13 +1,15 @@
 """The registers of this machine, and where the files of each are."""
+import contextlib
 import dataclasses
 import pathlib
 import re
+import sqlite3
 
 from office import model
 from register_files import Refused
 
 from . import copies
-from .programs import call, program
+from .programs import USER, call, program
 
 NAME = re.compile("[a-z0-9]([a-z0-9-]{0,38}[a-z0-9])?")
 PHASES = (model.PRIMARY, model.SECONDARY)
@@ -32,8 +34,8 @@ class Register:
     @property
     def is_made(self) -> bool:
         """Whether there is something in its file: a crash while it was made may leave an empty
-        one."""
-        return self.file.exists() and self.file.stat().st_size > 0
+        one, or a database without a table."""
+        return self.file.exists() and self.file.stat().st_size > 0 and not is_blank(self.file)
 
     @property
     def copies(self) -> pathlib.Path:
@@ -107,6 +109,18 @@ def all_registers() -> list[Register]:
 def stored(file: pathlib.Path) -> model.Register:
     """What a file holds, as the program shows it: without its log, also while it is served."""
     return model.read_stored(str(file), program("admissions"))
+
+
+def is_blank(file: pathlib.Path) -> bool:
+    """Whether a file is a database without a table, and the program finds no register in its log
+    either: `init` makes it one."""
+    try:
+        address = f"{file.absolute().as_uri()}?mode=ro&immutable=1"
+        with contextlib.closing(sqlite3.connect(address, uri=True)) as db:
+            [(tables,)] = db.execute("SELECT count(*) FROM sqlite_master")
+    except sqlite3.Error:
+        return False
+    return tables == 0 and "NotOurs" in open_error(file, USER)
 
 
 def open_error(file: pathlib.Path, as_user: str | None = None) -> str:

@@ -11,6 +11,7 @@ import multiprocessing
 import os
 import pathlib
 import shutil
+import sqlite3
 import subprocess
 import sys
 import tempfile
@@ -718,3 +719,28 @@ def test_what_the_application_lacks_is_named_before_anything_is_made(
     said = "^the office's application needs: apt-get install python3-argon2 python3-flask$"
     with pytest.raises(Refused, match=said):
         setup.main(reader.parse_args(["--sites"]))
+
+
+@pytest.mark.parametrize(
+    ("statements", "said", "is_made"),
+    [
+        # what init leaves that was killed before the register was in the file or in its log
+        (["CREATE TABLE x (a)", "DROP TABLE x"], "fault: NotOurs", False),
+        # the register is in the log alone
+        (["CREATE TABLE x (a)", "DROP TABLE x"], "", True),
+        # somebody else's
+        (["CREATE TABLE x (a)"], "fault: NotOurs", True),
+        (None, "fault: NotOurs", True),
+    ],
+)
+def test_what_a_killed_init_leaves_is_no_register(
+    register: registers.Register, monkeypatch: pytest.MonkeyPatch,
+    statements: list[str] | None, said: str, is_made: bool,
+) -> None:
+    monkeypatch.setattr(registers, "open_error", lambda *_: said)
+    if statements is not None:
+        register.file.unlink()
+        with contextlib.closing(sqlite3.connect(register.file)) as db:
+            for it in statements:
+                db.execute(it)
+    assert register.file.stat().st_size > 0 and register.is_made == is_made
