@@ -204,8 +204,8 @@ def test_equal_changes_are_summed(screens: Screens) -> None:
 
 
 def test_several_files_and_their_names(office: Site, screens: Screens) -> None:
-    """Each row knows its file and its row there, and each file who added it; one that is refused keeps
-    none out.
+    """Each row knows its file and its row there, and each file who added it; one that is refused
+    keeps none out.
     """
     screens.add(("a.csv", lines(GOOD[:2])), ("C:\\Temp\\b\u202e.csv", lines(GOOD[2:4])))
     bo = Screens(office.browser("bo"))
