@@ -664,8 +664,8 @@ def test_an_answer_to_an_undone_offer_waits_until_the_draw_is_held_again(small: 
         assert press(room.hal, path, page, "Ask to restore copy 1").status_code == 303
         seen = " ".join(room.jane.get(path).text.split())
         # (the draw is lost, and the accept waits)
-        assert ("2 entries came since then: none of them is sent again, and 1 is lost. 1 entry waits"
-                " until the draw is held again.") in seen
+        assert ("2 entries came since then: none of them is sent again, and 1 is lost. 1 entry"
+                " waits until the draw is held again.") in seen
         assert press(room.jane, path, Page(seen), "Restore copy 1").status_code == 303
         assert room.state(restore) == "opened" and not office.parts.desk.closed()
         assert room.now().draws == [] and not room.now().places
