@@ -246,8 +246,42 @@ def test_the_next_step_is_the_first_that_is_not_done() -> None:
     assert steps.next_of(found) is found[1] and steps.next_of(found[:1]) is None
 
 
+def test_a_step_that_begins_with_a_file_has_its_form_on_the_first_screen(
+    tmp_path: pathlib.Path, monkeypatch: pytest.MonkeyPatch,
+) -> None:
+    """The sheet of schools while there is no school, the files of applications after it until their
+    closing day, and none after the first round; for who may record alone. The file arrives on the
+    screen that it is for.
+    """
+    on(monkeypatch, "2024-10-01")
+    first = "school,name,pan,east,north,criteria\nA,Ash,2,0,0,sibling\n"
+    then = ("child,name,east,north,looked_after,flags,siblings,day,preferences\n"
+            "9,Ida Fox,1,2,false,,,2024-09-30,A\n")
+    steps_of: tuple[tuple[list[dict[str, Any]], str, str, str, str], ...] = (
+        ([], "/schools/new/sheet", "sheet", first, "1 school is in the draft below."),
+        (town(), "/applications/files", "files", then, "lines.csv is added: 1 row."),
+        ([*town(), ROUND], "", "", "", ""))
+    for at, (commands, action, field, text, said) in enumerate(steps_of):
+        folder = tmp_path / str(at)
+        folder.mkdir()
+        with office_over(folder, commands) as office:
+            hal, rita = office.browser("hal"), office.browser("rita", "reader")
+            own = {"/sign-out", action} if action else {"/sign-out"}
+            assert {it.action for it in Page(hal.get("/").text).forms} == own
+            assert {it.action for it in Page(rita.get("/").text).forms} == {"/sign-out"}
+            if not action:
+                continue
+            page = Page(hal.get("/").text)
+            button = next(text for it in page.forms if it.action == action for text in it.buttons)
+            found = press(hal, "/", page, button, **{
+                field: (io.BytesIO(text.encode()), "lines.csv")})
+            while found.status_code == 303:
+                found = hal.get(found.location)
+            assert said in " ".join(found.text.split()), found.text
+
+
 def test_the_menu_has_what_a_person_may_see(office: Site) -> None:
-    """By role; and no form of the first screen changes anything."""
+    """By role; and each can sign out."""
     screens = {"rita": ("reader", "/schools/ /children/ /lists/ /flags/", "/answers/ /people/"),
                "jane": ("officer", "/schools/ /children/ /answers/ /lists/", "/people/"),
                "sue": ("supervisor", "", "/schools/ /children/ /answers/ /lists/ /flags/")}

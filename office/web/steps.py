@@ -27,8 +27,9 @@ class Due:
 
 @dataclasses.dataclass(frozen=True)
 class Step:
-    """A step: whether it is done, what is to be said of it, the day by which it is, what is due now
-    and the links to its screens, each with its words.
+    """A step: whether it is done, what is to be said of it, the day by which it is, what is due
+    now, the links to its screens, each with its words, and the template of the form that begins it
+    where a file does, or "".
     """
 
     title: str
@@ -37,6 +38,7 @@ class Step:
     by: datetime.date | None
     due: tuple[Due, ...]
     links: tuple[tuple[str, str, Mapping[str, str]], ...]
+    form: str = ""
 
 
 def steps(
@@ -80,7 +82,7 @@ def schools(register: Register, _today: datetime.date) -> Step:
     places = texts.count(sum(it.pan for it in register.schools.values()), "place")
     return Step("Schools", count > 0, f"{texts.count(count, 'school')} with {places}", None, (),
                 (("schools.show", "Schools", {}), ("new_schools.show", "Add schools", {}),
-                 ("flags.show", "Flags", {})))
+                 ("flags.show", "Flags", {})), "sheet_of_schools.html")
 
 
 def applications(register: Register, today: datetime.date) -> Step:
@@ -95,7 +97,8 @@ def applications(register: Register, today: datetime.date) -> Step:
         Due("No application is in the register.", "applications.show"),)
     return Step("Applications", is_done, said, closing, due,
                 (("applications.show", "Applications", {}),
-                 ("lists.one", "All children", {"name": "children"})))
+                 ("lists.one", "All children", {"name": "children"})),
+                "files_of_applications.html")
 
 
 def first_round(register: Register, today: datetime.date) -> Step:

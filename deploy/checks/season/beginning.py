@@ -41,8 +41,8 @@ def schools(office: Office) -> None:
     office.report.step("schools from a workbook")
     jane, path = office.jane, office.folder / "schools.xlsx"
     town.write_schools(path)
-    jane.press("Add schools")
     jane.choose("Sheet", path)
+    office.report.same(jane.title, "Add schools", "the screen of the draft of schools")
     lines = jane.captioned("Each line as it will be stored")
     jane.look("Add schools, a draft")
     for it in town.SCHOOLS:

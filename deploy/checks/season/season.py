@@ -124,15 +124,15 @@ def other_screens(office: Office) -> None:
 # is beside these: it is asked for on another day than that of the draw.)
 STEPS: tuple[tuple[Callable[[Office], None], int], ...] = (
     (beginning.first_sign_in, 0),
-    # the screen, the file, the schools in it, and the question
-    (beginning.schools, 4),
+    # the file on the first screen, the schools in it, and the question
+    (beginning.schools, 3),
     (beginning.flags, 1),
     # the screen: each of five is added by typing
     (beginning.people, 1),
     (beginning.arrivals, 0),
     (ready, 0),
-    # the screen, and the file
-    (applications.from_workbook, 2),
+    # the file, on the first screen
+    (applications.from_workbook, 1),
     # the row that is withdrawn
     (applications.corrected, 1),
     (applications.stored, 2),

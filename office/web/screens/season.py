@@ -14,6 +14,7 @@ from ..draws_terms import LOTS, Draw
 from ..guard import SIGNED_IN, needs, parts, person
 from ..head import Waits
 from ..people import DRAW, READ, RECORD
+from ..schools import COLUMNS
 from ..steps import Step
 from ..wording import sentence, weekday
 from . import draws, letters
@@ -95,11 +96,12 @@ def show() -> str | Response:
         parts().following.look(person(), draw)
         draw = parts().draws.present()
     made = steps.steps(found, day, untold(found), draw) if found else []
-    step = draws.next_in_words(draw, found) if draw and found else ""
+    step, first = draws.next_in_words(draw, found) if draw and found else "", steps.next_of(made)
     return flask.render_template(
         "season.html", waits=for_head(found, draw, step), register=found, reason=reason,
         day=weekday(day),
         rows=[(it, links(it), due(it), steps.when(it.by, day) if it.by else "") for it in made],
-        next=steps.next_of(made), counts=steps.counts(found) if found else [],
+        next=first, form=first.form if first and person().may(RECORD) else "",
+        columns=COLUMNS, counts=steps.counts(found) if found else [],
         draw=draw, next_step=step, is_running=parts().following.under_way() is not None,
         signed_in=parts().people.signed_in())
