@@ -149,11 +149,12 @@ def sent(office: Site, *given: tuple[Any, Command]) -> None:
 
 def staged_by(office: Site, entry: int) -> None:
     """An application of the staging table that was stored by an entry of the history."""
+    at = "2025-03-03T10:00:00+00:00"
     with office.parts.store.writing() as db:
-        db.execute("INSERT INTO staged_file VALUES (1, 'a.csv', '', 0, 0, '[]', 'jane', '')")
+        db.execute("INSERT INTO staged_file VALUES (1, 'a.csv', '', 0, 0, '[]', 'jane', ?)", (at,))
         db.execute("INSERT INTO staged_row (file, number, cells, others, notes, state, who, added,"
                    " changed_by, changed, entry) VALUES (1, 1, '{}', '{}', '[]', 'committed',"
-                   " 'jane', '', 'jane', '', ?)", (entry,))
+                   " 'jane', ?, 'jane', ?, ?)", (at, at, entry))
 
 
 def test_a_copy_is_restored_and_what_is_ticked_is_sent_again(small: Machine) -> None:
@@ -222,6 +223,33 @@ def test_a_copy_is_restored_and_what_is_ticked_is_sent_again(small: Machine) -> 
         before.see(room.now())
         assert {it.number for it in office.parts.history.done()} == {
             at[it] for it in ("amend", "raise_pan", "add_child", "apply", "import")}
+
+
+@pytest.mark.parametrize("is_again", [False, True])
+def test_rows_whose_import_is_undone_are_in_the_table_again(small: Machine, is_again: bool) -> None:
+    """Also where the application ended before it had marked them as stored; where the import is
+    sent again they are stored.
+    """
+    with small.office() as office:
+        room, parts = Room(office), office.parts
+        room.copy_now()
+        mark = f"{len(parts.history.entries)} {hashlib.sha256(ROWS.encode()).hexdigest()}"
+        assert parts.desk.send_import(JANE, ROWS.encode()).is_done
+        first = room.since()["import"]
+        staged_by(office, first)
+        with parts.store.writing() as db:
+            db.execute("UPDATE staged_row SET state='sending', entry=NULL, sent=?", (mark,))
+        number = room.begin(1)
+        ticked = (first,) if is_again else ()
+        assert room.press(room.hal, number, "ask", ticked).status_code == 303
+        assert room.press(room.jane, number, "confirm").status_code == 303
+        assert (8 in room.now().children) == is_again
+        assert room.jane.get("/applications/").status_code == 200
+        last = room.since()["import"]
+        assert (last != first) == is_again
+        row = parts.store.row("SELECT state, entry FROM staged_row")
+        assert row and (row["state"], row["entry"]) == (
+            ("committed", last) if is_again else ("open", None))
 
 
 def test_a_restore_that_sends_nothing_again_is_asked_once_more(small: Machine) -> None:

@@ -19,7 +19,7 @@ from office.check import ERROR, FIXED, LOOK, values_of
 from office.model import PLAN, Register
 
 from .desk import DONE, REFUSED, Desk, Result
-from .history import ANSWER, SENDS, SETTLED, Entry, History
+from .history import SENDS, Entry, History
 from .people import Person
 from .staging import Staging
 from .staging_check import Checked, Checker, Differences, Table, too_many
@@ -178,8 +178,7 @@ class Committing:
         as they do after a crash.
         """
         if result.outcome == DONE:
-            entry = self.entry_of(sent)
-            number = entry.number if entry else None
+            number = self.entries_of(sent)[-1].number
             # (where this fails the rows stay marked, and are found to be in the register later)
             with contextlib.suppress(Refused):
                 self.ended(sent, number)
@@ -203,15 +202,17 @@ class Committing:
             return ""
         with self.staging.lock, self.desk.lock:
             for sent, many in self.pending().items():
-                entry = self.entry_of(sent)
-                if entry and self.is_open(entry):
+                if any(it in self.history.open_requests() for it in self.entries_of(sent)):
                     try:
                         self.desk.settle()
                     except Refused as error:
                         return (f"Whether {texts.count(many, 'application')} of this table are"
                                 f" stored is not known yet: {error}.")
-                if entry and self.is_done(entry):
-                    self.ended(sent, entry.number)
+                # (a restore may have undone it meanwhile, and it may have been sent again since)
+                there = {it.number for it in self.history.done()}
+                found = [it.number for it in self.entries_of(sent) if it.number in there]
+                if found:
+                    self.ended(sent, found[-1])
                 else:
                     self.reopened(sent)
         return ""
@@ -222,23 +223,12 @@ class Committing:
             "SELECT sent, count(*) AS many FROM staged_row WHERE state=? GROUP BY sent", SENDING)
         return {it["sent"]: it["many"] for it in found}
 
-    def entry_of(self, sent: str) -> Entry | None:
-        """The entry of the history that sent rows which were marked so."""
+    def entries_of(self, sent: str) -> list[Entry]:
+        """The entries of the history that sent rows which were marked so."""
         after, digest = sent.split()
-        return next((it for it in self.history.entries[int(after):]
-                     if it.what == SENDS and "import" in it.about
-                     and digest_of(it.about["import"].encode()) == digest), None)
-
-    def is_open(self, entry: Entry) -> bool:
-        """Whether it is not known yet what became of an entry."""
-        return any(it.number == entry.number for it in self.history.open_requests())
-
-    def is_done(self, entry: Entry) -> bool:
-        """Whether the register has what an entry sent."""
-        for it in reversed(list(self.history.entries)):
-            if it.what in (ANSWER, SETTLED) and it.about["of"] == entry.number:
-                return commands.is_done(it.about.get("answer")) or it.about.get("done") is True
-        return False
+        return [it for it in self.history.entries[int(after):]
+                if it.what == SENDS and "import" in it.about
+                and digest_of(it.about["import"].encode()) == digest]
 
     def mark(self, rows: list[Staged], state: str, sent: str = "") -> None:
         """Marks rows in one step."""
