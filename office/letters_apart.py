@@ -27,7 +27,7 @@ from typing import TYPE_CHECKING, Any
 import register_files
 from register_files import Refused
 
-from . import book, inputs, letter_fields, letter_pdf
+from . import book, inputs, letter_fields, letter_pdf, libraries
 from .book import Page
 from .letter_fields import Cell, Letter
 from .served_copy import PR_SET_PDEATHSIG
@@ -220,6 +220,8 @@ def main() -> None:
         found = {"refused": f"a file cannot be written: {error.strerror or error}"}
     except MemoryError:
         found = {"refused": f"{asked.get('name', 'the file')}: the letters take too much memory"}
+    except ImportError as error:
+        found = {"refused": libraries.missing_for_officer(error.name)}
     except Exception as error:  # pylint: disable=broad-except
         found = {"refused": f"a letter is not laid out: {type(error).__name__}: {error}"}
     print(json.dumps(found))

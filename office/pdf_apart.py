@@ -5,11 +5,10 @@ import sys
 
 from register_files import Refused
 
-from . import apart, pages
+from . import apart, libraries, pages
 
 MISSING = 3
-NO_PDF = ("this machine makes no PDF: print the page from the browser, or tell whoever maintains"
-          " the system")
+NO_PDF = f"print the page from the browser, or {libraries.missing_for_officer('weasyprint')}"
 
 
 def pdf_of(page: str, what: str) -> bytes:

@@ -15,6 +15,7 @@ from typing import Protocol
 
 from register_files import FULL, SIGNALS, VERSION, Refused, say
 
+from . import libraries
 from .inputs import SHEET_HELP
 
 __all__ = ["Command", "Progress", "Refused", "Stop", "put", "run", "run_of_two_names"]
@@ -25,19 +26,6 @@ MOST_COLUMNS = 80
 SHEET = [
     f"admissions-{it}" for it in ("check", "figures", "letters", "lots", "send", "trial", "why")
 ]
-PACKAGES = {
-    "argon2": "python3-argon2",
-    "authlib": "python3-authlib",
-    "flask": "python3-flask",
-    "gunicorn": "python3-gunicorn",
-    "markdown": "python3-markdown",
-    "requests": "python3-requests",
-    "jinja2": "python3-jinja2",
-    "weasyprint": "weasyprint",
-    "pikepdf": "python3-pikepdf",
-    "matplotlib": "python3-matplotlib",
-    "openpyxl": "python3-openpyxl",
-}
 
 
 class Command(Protocol):
@@ -149,8 +137,7 @@ def ended(name: str, work: Callable[[], int]) -> int:
     except OSError as error:
         return failed(name, said_of(error))
     except ImportError as error:
-        package = PACKAGES.get(str(error.name), f"of {error.name}")
-        return failed(name, f"this needs the Debian package {package}")
+        return failed(name, libraries.missing(error.name))
     except MemoryError:
         return failed(name, "out of memory")
     except Exception as error:

@@ -44,7 +44,7 @@ import time
 import typing
 
 from office import model
-from office.run import PACKAGES
+from office.libraries import PACKAGES
 from register_files import Refused
 
 from . import answers, certificates, files, holidays, people, settings_copy, sites

@@ -11,6 +11,8 @@ import types
 import pytest
 from by_path import loaded
 from conftest import ROOT
+from machine import setup
+from office import libraries
 
 GATE = "rt: adm_types proved\nrt ci took 3310 seconds\n57 passed, 0 failed\n"
 
@@ -184,15 +186,44 @@ def test_another_version_or_licence_is_refused(
         package.compare_with_kit(kit)
 
 
-def test_the_package_depends_on_what_makes_sites() -> None:
-    """An upgrade makes them, also on a machine without the packages that are only recommended."""
-    tool = loaded(ROOT / "debian/recommends")
-    files = sorted((ROOT / "deploy/machine").glob("*.py"))
+def dependencies(package: str) -> set[str]:
+    """What a package depends on, by debian/control and by what the installed tools import."""
+    tool = loaded(ROOT / "debian/dependencies")
+    files = [it for folder in ("office", "office/web", "office/web/screens", "deploy/machine")
+             for it in sorted((ROOT / folder).glob("*.py"))]
     imported = {name for path in files for name in tool.modules(path)}
-    needed = {
-        tool.PACKAGES[it] for it in imported - set(sys.stdlib_module_names) - tool.OWN
-    }
-    lines = (ROOT / "debian/control").read_text(encoding="utf-8").splitlines()
-    fields = dict(line.split(": ", 1) for line in lines if not line.startswith(" ") and line)
-    assert needed == {"python3-jinja2"}
-    assert needed <= set(fields["Depends"].split(", "))
+    beside = imported - set(sys.stdlib_module_names) - tool.OWN
+    imports = tool.packages_of(beside, is_large=package == tool.OFFICE)
+    paragraphs = (ROOT / "debian/control").read_text(encoding="utf-8").split("\n\n")
+    found = next(it for it in paragraphs if it.startswith(f"Package: {package}\n"))
+    line = next(it for it in found.splitlines() if it.startswith("Depends: "))
+    assert "${python:Packages}" in line
+    return {*line.removeprefix("Depends: ").split(", "), *imports}
+
+
+def test_the_package_depends_on_what_a_site_needs() -> None:
+    """Whatever admissions-setup looks for, and rsync for second copies; none of what makes PDF and
+    charts."""
+    found = dependencies("admissions")
+    needed = {*setup.NEEDED.values(), *(libraries.PACKAGES[it] for it in setup.MODULES), "rsync"}
+    assert needed <= found and "python3-jinja2" in found
+    assert not {libraries.PACKAGES[it] for it in libraries.LARGE} & found
+
+
+def test_the_office_package_depends_on_the_large_ones() -> None:
+    """And on the font of letters."""
+    found = dependencies("admissions-office")
+    assert found - {"${misc:Depends}", "${python:Packages}"} == {
+        "admissions", "fonts-dejavu-core", "python3-matplotlib", "python3-pikepdf",
+        "python3-pyproj", "weasyprint"}
+
+
+def test_a_module_whose_package_is_not_known_is_an_error(tmp_path: pathlib.Path) -> None:
+    """So no package is made that lacks a dependency."""
+    (tmp_path / "tool.py").write_text("import flask, unheard_of\n")
+    done = subprocess.run(
+        [ROOT / "debian/dependencies", "admissions", tmp_path],
+        capture_output=True, text=True, check=False,
+    )
+    assert (done.returncode, done.stdout) == (1, "")
+    assert done.stderr == "the Debian packages of these modules are not known: unheard_of\n"

@@ -8,7 +8,7 @@ import pathlib
 import shutil
 import subprocess
 import sys
-from collections.abc import Iterable
+from collections.abc import Callable, Iterable
 from typing import Any, Protocol
 
 import pytest
@@ -51,6 +51,13 @@ def pytest_terminal_summary(terminalreporter: Any) -> None:
     for it in terminalreporter.getreports("passed"):
         for name, value in it.user_properties:
             terminalreporter.write_line(f"{it.nodeid.rpartition('::')[2]}: {name}: {value}")
+
+
+@pytest.fixture(name="hide")
+def hide_fixture(monkeypatch: pytest.MonkeyPatch) -> Callable[[str], None]:
+    """Has a library missing from this process."""
+    modules: dict[str, Any] = sys.modules
+    return lambda name: monkeypatch.setitem(modules, name, None)
 
 
 @pytest.fixture(scope="session", name="tools")

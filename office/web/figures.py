@@ -11,7 +11,7 @@ from typing import Any
 
 from register_files import Refused
 
-from office import charts, criteria, figure_counts, figures, texts
+from office import charts, criteria, figure_counts, figures, libraries, texts
 from office.figure_counts import LOWER, NONE, Figures, What
 from office.model import Register
 from office.withheld import LEAST, is_small
@@ -180,8 +180,7 @@ def made(sources: Sources, flags: dict[int, str]) -> tuple[bytes, dict[str, Any]
         try:
             page = figures.page(found, last, flags).encode()
         except ImportError as error:
-            raise Refused("the machine lacks what draws charts: tell whoever maintains it"
-                          ) from error
+            raise Refused(libraries.missing_for_officer(error.name)) from error
         tables = figures.tables(found, last, flags)
     about = {
         "round": found.round, "phase": found.phase, "year": found.year, "children": found.children,

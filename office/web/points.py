@@ -10,7 +10,9 @@ import math
 import re
 from collections.abc import Iterator, Mapping, Sequence
 
-from office import days, fields, texts
+from register_files import Refused
+
+from office import days, fields, libraries, texts
 from office.rules import LIMITS, Limit
 
 # where the point of a row came from
@@ -154,10 +156,13 @@ def degrees_in(cells: Mapping[str, str]) -> str:
         return ""
     if is_degrees(one, other) or is_degrees(other, one):
         latitude, longitude = (one, other) if is_degrees(one, other) else (other, one)
-        at = grid_of([latitude], [longitude])[0]
+        said = "these look like latitude and longitude"
+        try:
+            at = grid_of([latitude], [longitude])[0]
+        except Refused:
+            return f"{said}, and metres on the grid are needed"
         if at is not None:
-            return (f"these look like latitude and longitude: on the grid that is {at[0]}, {at[1]},"
-                    f" within {DEGREES_METRES} metres")
+            return f"{said}: on the grid that is {at[0]}, {at[1]}, within {DEGREES_METRES} metres"
     return ""
 
 
@@ -238,8 +243,11 @@ def grid_of(latitudes: Sequence[float], longitudes: Sequence[float]) -> list[Met
     """The points of latitudes and longitudes (WGS84 or ETRS89) on the British National Grid, within
     DEGREES_METRES; None of what is not in Great Britain.
     """
-    import pyproj
-    import pyproj.network
+    try:
+        import pyproj
+        import pyproj.network
+    except ImportError as error:
+        raise Refused(libraries.missing_for_officer(error.name)) from error
 
     pyproj.network.set_network_enabled(False)
     made = pyproj.Transformer.from_pipeline(PIPELINE)

@@ -1,0 +1,44 @@
+"""The libraries beside Python's own modules: the Debian package of each, and what is said where one
+is missing. Those that make PDF and charts, and place latitudes and longitudes, bring many packages:
+the package admissions-office depends on them, and they are imported only where they are used."""
+
+PACKAGES = {
+    "argon2": "python3-argon2",
+    "authlib": "python3-authlib",
+    "flask": "python3-flask",
+    "gunicorn": "python3-gunicorn",
+    "jinja2": "python3-jinja2",
+    "markdown": "python3-markdown",
+    "markupsafe": "python3-markupsafe",
+    "matplotlib": "python3-matplotlib",
+    "openpyxl": "python3-openpyxl",
+    "pikepdf": "python3-pikepdf",
+    "pyproj": "python3-pyproj",
+    # (authlib imports it, as its client of HTTP)
+    "requests": "python3-requests",
+    "weasyprint": "weasyprint",
+    "werkzeug": "python3-werkzeug",
+}
+# what needs each of the large ones
+LARGE = {
+    "matplotlib": "charts need",
+    "pikepdf": "a PDF needs",
+    "pyproj": "latitudes and longitudes need",
+    "weasyprint": "a PDF needs",
+}
+OFFICE = "admissions-office"
+
+
+def missing(module: str | None) -> str:
+    """What is said where a module cannot be imported: what needs it, and how to install it."""
+    name = str(module).partition(".")[0]
+    package = PACKAGES.get(name, f"of {name}")
+    if name in LARGE:
+        how = f"apt-get install {OFFICE}"
+        return f"{LARGE[name]} the Debian package {package}, which is not here: {how}"
+    return f"this needs the Debian package {package}"
+
+
+def missing_for_officer(module: str | None) -> str:
+    """The same for an officer, who installs nothing."""
+    return f"tell whoever maintains the system: {missing(module)}"

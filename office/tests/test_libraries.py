@@ -1,0 +1,97 @@
+"""What a machine without the large libraries does: all modules load, and whoever asks for a PDF, a
+chart or a point by latitude and longitude is told which package is missing."""
+import pathlib
+import subprocess
+import sys
+from collections.abc import Callable
+
+import pytest
+from conftest import ROOT
+from register_files import Refused
+
+from office import apart, charts, letters_apart, pdf_apart, run
+from office.letters_apart import Form, Source
+from office.web import points
+
+HOW = "which is not here: apt-get install admissions-office"
+EACH = """
+import importlib, pkgutil, sys
+sys.path[:0] = sys.argv[1:]
+from office import libraries
+for it in libraries.LARGE:
+    sys.modules[it] = None
+import machine, office
+for package in (office, machine):
+    for it in pkgutil.walk_packages(package.__path__, package.__name__ + "."):
+        if not it.name.startswith("office.tests") and not it.name.endswith("__main__"):
+            importlib.import_module(it.name)
+            print(it.name)
+"""
+
+
+def test_each_module_loads_without_them() -> None:
+    """So the application and the commands start."""
+    places = [str(ROOT), str(ROOT / "deploy"), str(ROOT / "tools")]
+    done = subprocess.run([sys.executable, "-B", "-c", EACH, *places], capture_output=True,
+                          text=True, check=False)
+    assert done.returncode == 0, done.stderr
+    assert {"office.letters", "office.web.app", "machine.setup"} <= set(done.stdout.split())
+
+
+@pytest.mark.parametrize("module, said", [
+    ("weasyprint", f"a PDF needs the Debian package weasyprint, {HOW}"),
+    ("pikepdf.models", f"a PDF needs the Debian package python3-pikepdf, {HOW}"),
+    ("matplotlib", f"charts need the Debian package python3-matplotlib, {HOW}"),
+    ("pyproj", f"latitudes and longitudes need the Debian package python3-pyproj, {HOW}"),
+    ("jinja2", "this needs the Debian package python3-jinja2"),
+    ("other", "this needs the Debian package of other"),
+])
+def test_a_command_names_the_package(
+    module: str, said: str, capfd: pytest.CaptureFixture[str]
+) -> None:
+    """In one line, with status 1."""
+    def work() -> int:
+        raise ImportError("no", name=module)
+
+    assert run.ended("admissions-figures", work) == 1
+    assert capfd.readouterr().err == f"admissions-figures: {said}\n"
+
+
+def test_a_command_names_what_draws_charts(
+    hide: Callable[[str], None], capfd: pytest.CaptureFixture[str]
+) -> None:
+    """Where it is imported, as the import itself fails."""
+    hide("matplotlib")
+    assert run.ended("admissions-trial", lambda: bool(charts.new_figure(1, 1))) == 1
+    assert capfd.readouterr().err == (
+        f"admissions-trial: charts need the Debian package python3-matplotlib, {HOW}\n")
+
+
+def test_a_page_as_pdf(monkeypatch: pytest.MonkeyPatch) -> None:
+    """An officer may print the page meanwhile."""
+    hidden = f"import sys; sys.modules['weasyprint'] = None; {apart.BEGIN}"
+    monkeypatch.setattr(apart, "BEGIN", hidden)
+    with pytest.raises(Refused, match="^print the page from the browser, or tell whoever maintains"
+                       f" the system: a PDF needs the Debian package weasyprint, {HOW}$"):
+        pdf_apart.pdf_of("<p>text", "the page")
+
+
+def test_letters(monkeypatch: pytest.MonkeyPatch, tmp_path: pathlib.Path) -> None:
+    """In the application, where a process of their own lays them out."""
+    hidden = f"import sys; sys.modules['weasyprint'] = None; {letters_apart.BEGIN}"
+    monkeypatch.setattr(letters_apart, "BEGIN", hidden)
+    path = tmp_path / "letters.pdf"
+    with pytest.raises(Refused, match="^tell whoever maintains the system: a PDF needs the Debian"
+                       f" package weasyprint, {HOW}$"):
+        letters_apart.again(Source("letter", "", {}), ["<p>text"], Form(), str(path))
+    assert not path.exists()
+
+
+def test_points(hide: Callable[[str], None]) -> None:
+    """A gazetteer with degrees is refused; degrees in the place of metres are still found."""
+    hide("pyproj")
+    said = "^tell whoever maintains the system: latitudes and longitudes need the Debian package"
+    with pytest.raises(Refused, match=f"{said} python3-pyproj, {HOW}$"):
+        points.grid_of([52.0], [-1.0])
+    assert points.degrees_in({"east": "52.0", "north": "-1.0"}) == (
+        "these look like latitude and longitude, and metres on the grid are needed")
