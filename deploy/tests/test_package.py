@@ -5,7 +5,6 @@ import hashlib
 import json
 import pathlib
 import subprocess
-import sys
 import types
 
 import pytest
@@ -188,17 +187,7 @@ def test_another_version_or_licence_is_refused(
 
 def dependencies(package: str) -> set[str]:
     """What a package depends on, by debian/control and by what the installed tools import."""
-    tool = loaded(ROOT / "debian/dependencies")
-    files = [it for folder in ("office", "office/web", "office/web/screens", "deploy/machine")
-             for it in sorted((ROOT / folder).glob("*.py"))]
-    imported = {name for path in files for name in tool.modules(path)}
-    beside = imported - set(sys.stdlib_module_names) - tool.OWN
-    imports = tool.packages_of(beside, is_large=package == tool.OFFICE)
-    paragraphs = (ROOT / "debian/control").read_text(encoding="utf-8").split("\n\n")
-    found = next(it for it in paragraphs if it.startswith(f"Package: {package}\n"))
-    line = next(it for it in found.splitlines() if it.startswith("Depends: "))
-    assert "${python:Packages}" in line
-    return {*line.removeprefix("Depends: ").split(", "), *imports}
+    return set(loaded(ROOT / "debian/dependencies").of_repository(package))
 
 
 def test_the_package_depends_on_what_a_site_needs() -> None:
@@ -213,9 +202,8 @@ def test_the_package_depends_on_what_a_site_needs() -> None:
 def test_the_office_package_depends_on_the_large_ones() -> None:
     """And on the font of letters."""
     found = dependencies("admissions-office")
-    assert found - {"${misc:Depends}", "${python:Packages}"} == {
-        "admissions", "fonts-dejavu-core", "python3-matplotlib", "python3-pikepdf",
-        "python3-pyproj", "weasyprint"}
+    assert found == {"admissions", "fonts-dejavu-core", "python3-matplotlib", "python3-pikepdf",
+                     "python3-pyproj", "weasyprint"}
 
 
 def test_a_module_whose_package_is_not_known_is_an_error(tmp_path: pathlib.Path) -> None:
