@@ -21,15 +21,16 @@
 #                 and chromium-driver
 #   make install  the proved program that is at bin/admissions (it builds nothing), the office's tools, their manual pages and completions, and the office's
 #                 pages; PREFIX=/usr/local by default, below DESTDIR; deploy/install adds what serves registers (docs/DEPLOYMENT.md)
-#   make package  a Debian package of that program, at out/package, with its manifest, SBOM and SHA-256; builds it twice, which must give equal bytes; needs
+#   make package  the Debian packages of that program, at out/package, with manifest, SBOM and SHA-256; builds them twice, which must give equal bytes; needs
 #                 debhelper and lintian
+#   make release  the same, and a signed folder from which apt installs them, at out/release; KEY= a file with a secret key or its id; needs apt-utils, gpg too
 PREFIX ?= /usr/local
 PROGRAM ?= bin/admissions
 EXAMPLES := first_path applications season
 
 LOOKED_AT := $(addprefix examples/applications/,schools.jsonl children.jsonl applications.jsonl)
 
-.PHONY: look build demo cases test reference mutants sweep refusals killed-opens audits races costs bench bench-more deploy-check pictures install package needs-demo needs-cases needs-sweep needs-refusals needs-office office
+.PHONY: look build demo cases test reference mutants sweep refusals killed-opens audits races costs bench bench-more deploy-check pictures install package release needs-demo needs-cases needs-sweep needs-refusals needs-office office
 
 look:
 	@tools/needs look
@@ -131,3 +132,9 @@ install:
 # From the proved program as it is there, and the commit that is checked out: make package VERDICT=LOG, the log of `make test`, or VERDICT=none
 package:
 	deploy/package $(if $(VERDICT),--verdict $(VERDICT)) $(PROGRAM)
+
+# As package, signed by the key of KEY, or by that of out/release-key.asc, which is made if it is not there
+release:
+	@tools/needs release
+	deploy/package $(if $(VERDICT),--verdict $(VERDICT)) $(PROGRAM)
+	deploy/release $(if $(KEY),--key $(KEY))
