@@ -51,6 +51,15 @@ LINES = {
 }
 
 
+def test_each_unit_names_its_documentation() -> None:
+    """The page for administrators, where the package has it."""
+    units = sorted(it for it in UNITS.iterdir() if it.suffix in (".path", ".service", ".socket", ".timer"))
+    assert len(units) > 15
+    for it in units:
+        found = re.findall(r"(?m)^Documentation=(.*)$", it.read_text(encoding="utf-8"))
+        assert found == ["file:///usr/local/share/doc/admissions/DEPLOYMENT.md"], it.name
+
+
 @pytest.mark.parametrize("unit", LINES)
 def test_the_lines_of_a_unit_are_those_that_the_page_promises(unit: str) -> None:
     found = dict(re.findall(r"(?m)^(\w+)=(.*)$", (UNITS / unit).read_text(encoding="utf-8")))
