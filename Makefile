@@ -6,6 +6,8 @@
 #   make cases    the cases, the same way; they take seconds once the program is built
 #   make test     every proof, mutants, tests, examples, cases and the tests of the office's commands and the deployment; its last line is 'N passed, M failed'
 #   make reference     the definitions, public functions, clauses, mutants and files, as linked pages and one text, at out/reference; needs python3-jinja2, graphviz
+#   make evidence  what an auditor takes away, at out/evidence: claims, promises, clauses and the verdicts that were seen here; LOG=.. names logs of `make test`
+#                 and `make mutants`; needs git, python3-jinja2, graphviz
 #   make mutants  the planted bugs that the gate does not try, each of which the proof must reject
 #   make sweep    each request of the built program for memory refused, in turn: its answers and files are judged; some minutes
 #   make refusals  the same of a script over disks in memory, judged by rules that share no code with the program, and of the calls that need none
@@ -30,7 +32,7 @@ EXAMPLES := first_path applications season
 
 LOOKED_AT := $(addprefix examples/applications/,schools.jsonl children.jsonl applications.jsonl)
 
-.PHONY: look build demo cases test reference mutants sweep refusals killed-opens audits races costs bench bench-more deploy-check pictures install package release needs-demo needs-cases needs-sweep needs-refusals needs-office office
+.PHONY: look build demo cases test reference evidence mutants sweep refusals killed-opens audits races costs bench bench-more deploy-check pictures install package release needs-demo needs-cases needs-sweep needs-refusals needs-office office
 
 look:
 	@tools/needs look
@@ -55,6 +57,9 @@ test:
 
 reference:
 	@tools/reference
+
+evidence:
+	@tools/evidence $(LOG)
 
 mutants:
 	tools/mutants
