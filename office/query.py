@@ -1,10 +1,13 @@
-"""Prints a worklist or figures of a register as CSV, or all worklists as one
-workbook.
+"""Prints a worklist or figures of a register as CSV, all worklists as one
+workbook, or what is held of one child as JSON.
 
   admissions-query                               the names, and what each prints
   admissions-query FILE NAME [TEXT] [OPTIONS]
   admissions-query FILE --workbook OUT.xlsx [--day YYYY-MM-DD]
                               a sheet for each worklist, in a form for print
+  admissions-query FILE subject --child N [--office FOLDER] [--page OUT.html]
+                              all that is held of one child; FOLDER is that of
+                              the office's application, which is only read
 
 FILE is a register that no program has open and whose log holds nothing, or the
 address at which one is served, as http://127.0.0.1:8080, or with --user
@@ -28,6 +31,8 @@ example:
   admissions-query reg.db amend --child 23 > corrections-2024-11-04.jsonl
   admissions-query reg.db moved --round 2 --before copies/before-draw-5.db
   admissions-query reg.db --workbook worklists.xlsx
+  admissions-query reg.db subject --child 23 \\
+    --office /var/lib/admissions-office/secondary-2025 > child-23.json
 
 exit status: 0 printed or written; 1 refused, and nothing is printed; 2 wrong
 arguments.
@@ -40,7 +45,7 @@ import os
 
 from register_files import Refused
 
-from . import book, model, sheet, texts, worklists
+from . import book, model, sheet, subject_query, texts, worklists
 from .model import Register
 from .register_lists import Rows
 from .run import Progress, put
@@ -60,6 +65,8 @@ def arguments(reader: argparse.ArgumentParser) -> None:
     add("--before", metavar="COPY", help="the copy from right before the draw")
     add("--user", metavar="NAME", help="sign in with this name; the password is asked for")
     add("--excel", action="store_true", help="write the CSV for a spreadsheet")
+    add("--office", metavar="FOLDER", help="the folder of the application, for subject")
+    add("--page", metavar="OUT.html", help="write what subject prints as a page too")
     add("--workbook", metavar="OUT.xlsx", help="write all worklists to this new file")
     reader.set_defaults(fail=reader.error)
 
@@ -72,6 +79,12 @@ def see_arguments(given: argparse.Namespace) -> None:
         return
     if given.workbook:
         given.fail("--workbook takes no NAME: it has all worklists")
+    if given.name == subject_query.NAME:
+        if said := subject_query.see(given):
+            given.fail(said)
+        return
+    if given.office or given.page:
+        given.fail(f"--office and --page are for {subject_query.NAME} alone")
     if said := worklists.unfit(given.name, vars(given)):
         given.fail(said)
     if given.name == "amend" and given.excel:
@@ -111,6 +124,8 @@ def write_workbook(register: Register, given: argparse.Namespace) -> str:
 
 def printed(register: Register, given: argparse.Namespace) -> str:
     """What a worklist prints."""
+    if given.name == subject_query.NAME:
+        return subject_query.printed(register, given)
     worklists.see(register, given.name, vars(given))
     found = worklists.made(register, given.name, vars(given))
     return found if isinstance(found, str) else csv_text(found, given.excel)
@@ -119,9 +134,12 @@ def printed(register: Register, given: argparse.Namespace) -> str:
 def main(given: argparse.Namespace) -> int:
     """Prints, or writes."""
     see_arguments(given)
+    if given.page and os.path.lexists(given.page):
+        raise Refused(f"{given.page} is there already: nothing was written; choose another name")
     given.day = given.day or datetime.date.today()
     if given.name is None and not given.workbook:
-        put("".join(f"{name:16} {it.purpose}\n" for name, it in worklists.WORKLISTS.items()))
+        put("".join(f"{name:16} {it.purpose}\n" for name, it in worklists.WORKLISTS.items())
+            + f"{subject_query.NAME:16} {subject_query.PURPOSE}\n")
         return 0
     if given.workbook and os.path.lexists(given.workbook):
         raise Refused(f"{given.workbook} is there already: nothing was written; choose another"

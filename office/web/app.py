@@ -18,7 +18,7 @@ from .screens import (
     activity, answers, applications, applications_add, applications_commit, child, copies, draws,
     figures, gazetteer, help, letter_addresses, letter_sender, letter_templates, letters, lists,
     lots, new_schools, notes, notices, people, points, preferences, register, restores, schools,
-    season, season_end, signing, trials, why,
+    season, season_end, signing, subject, trials, why,
 )
 from .screens import answers_of
 from .screens import flags as flag_screen
@@ -26,8 +26,8 @@ from .screens import flags as flag_screen
 HERE = pathlib.Path(__file__).resolve().parent
 SCREENS = (
     signing, season, new_schools, schools, flag_screen, applications, applications_add,
-    applications_commit, points, gazetteer, child, preferences, why, notes, answers, notices,
-    letters, letter_templates, letter_sender, letter_addresses, draws, trials, lots, lists,
+    applications_commit, points, gazetteer, child, preferences, why, notes, subject, answers,
+    notices, letters, letter_templates, letter_sender, letter_addresses, draws, trials, lots, lists,
     figures, copies, restores, people, activity, season_end, register, help, answers_of,
 )
 # the largest body: a workbook, or a file of commands

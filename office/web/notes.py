@@ -26,7 +26,8 @@ ENDS = ("pdf", "png", "jpg", "jpeg", "gif", "tif", "tiff", "heic", "webp", "docx
 # what is on record of them
 ADDED, STRUCK = "added a note", "struck out a note"
 FILED, REMOVED, READ_FILE = "added a file", "removed a file", "read a file"
-ON_RECORD = (ADDED, STRUCK, FILED, REMOVED, READ_FILE)
+PRINTED = "printed what is held of a child"
+ON_RECORD = (ADDED, STRUCK, FILED, REMOVED, READ_FILE, PRINTED)
 
 
 class Unfit(Refused):

@@ -1,0 +1,271 @@
+"""What is held of one child: all that was typed of it by any route, and nothing of another child.
+
+Each text of child 1 has a word MINE-.. of its own, and each of another child has the word OTHERS.
+"""
+import base64
+import io
+import json
+import os
+import pathlib
+import re
+import sqlite3
+import subprocess
+import zlib
+from collections.abc import Iterator
+
+import pytest
+from applications import ROUND, Browser, Site, office_over, town
+from conftest import make
+from pages import Page, press
+
+from office.web import history, subject
+from office.web.store import Store
+
+NAMES_OF_OTHERS = ("Ben Bell", "Cole", "Dare", "OTHERS")
+FILE = b"%PDF-1.7 a letter of a doctor\x00\xff"
+# of child 1, and of child 2
+ROWS = (
+    (1, "MINE", "Ada Abel"),
+    (2, "OTHERS", "Ben Bell"),
+)
+AT = "2025-03-10T09:00:00.000+00:00"
+
+
+@pytest.fixture(name="office", scope="module")
+def office_fixture(tmp_path_factory: pytest.TempPathFactory) -> Iterator[Site]:
+    """The application over the town after its round, in which much was typed of two children."""
+    with office_over(tmp_path_factory.mktemp("subject"), [*town(), ROUND]) as found:
+        found.add("jane", "officer")
+        found.add("rita", "reader")
+        jane = found.browser("jane")
+        for number, mark, name in ROWS:
+            by_screens(jane, number, mark, name)
+            by_the_history(found, number, mark)
+        in_the_store(found.parts.store)
+        yield found
+
+
+def by_screens(jane: Browser, number: int, mark: str, name: str) -> None:
+    """What an officer types of a child on its screens."""
+    path = f"/children/{number}/notes"
+    page = Page(jane.get(path).text)
+    text = f"{mark}-note\nof two lines \u202e"
+    done = press(jane, path, page, f"Add the note to child {number}", text=text)
+    assert done.status_code == 303
+    given = {"file": (io.BytesIO(FILE), f"{mark}-doctor.pdf")}
+    page = Page(jane.get(path).text)
+    assert press(jane, path, page, f"Add the file to child {number}", **given).status_code == 303
+    command = {"cmd": "amend", "child": number, "name": f"{name} {mark}-name", "east": 7,
+               "north": 100 * number, "looked_after": False, "flags": [], "siblings": []}
+    assert jane.command(command).status_code == 200
+    refused = {"cmd": "remind", "child": number, "school": "B", "day": "2025-03-04"}
+    jane.command(refused)
+
+
+def by_the_history(office: Site, number: int, mark: str) -> None:
+    """What the application puts on record of several children at once, and of an import."""
+    record = office.parts.history
+    head = "child,name,east,north,looked_after,flags,siblings,day,preferences\n"
+    rows = "".join(f"{at},{sign}-imported,1,1,no,,,2024-10-01,A\n" for at, sign, _ in ROWS)
+    sent = record.add("jane", history.SENDS, {
+        "import": head + rows, "points": {str(at): f"{sign}-point" for at, sign, _ in ROWS}})
+    record.add("jane", history.ANSWER, {"of": sent.number, "answer": {
+        "refused": 3, "child": 2, "name": "OTHERS"}})
+    record.add("jane", "recorded letters as sent", {
+        "for": "OTHERS: child 2", "set": 90, "day": "2025-03-03", "children": [1, 2],
+        "again": [2]})
+    record.add("jane", "took letters", {"for": "letters of OTHERS", "set": 7 + number})
+    line = json.dumps({"cmd": "aply", "child": number, "why": f"{mark}-line"})
+    sent = record.add("jane", history.SENDS, {"line": line})
+    record.add("jane", history.SETTLED, {"of": sent.number, "done": False, "why": "no command"})
+    record.add("rita", "refused", {"asked": f"/children/{number}/notes", "role": f"{mark}-role"})
+    record.add("jane", "audited", {
+        "draw": 1, "wrong": [f"{mark}-wrong: child {number} before child {number + 2}"]})
+    # (the number that was typed first was wrong)
+    record.add("jane", "added an application", {
+        "form": number, "child": str(3 - number), "name": f"{mark}-form"})
+    record.add("jane", "corrected an application", {
+        "row": f"row {number} of both.csv", "number": "99", "name": f'"x" to "{mark}-cell"'})
+    record.add("jane", "withdrew applications", {"rows": "1, 2 of both.csv; 5 of OTHERS.csv"})
+
+
+def in_the_store(store: Store) -> None:
+    """What the application keeps of two children, as its parts keep it."""
+    with store.writing() as db:
+        add(db, "staged_file", id=50, name="both.csv", digest="d", is_form=0, is_uk=0,
+            changes="[]", who="jane", added=AT)
+        add(db, "draw", id=1, first=1, fills=0, day="2025-03-03", state="held", version=1,
+            audit=json.dumps({"audits": [[f"child {at}: {sign}-audit" for at, sign, _ in ROWS]],
+                              "wrong": []}))
+        add(db, "copy", number=1, purpose="before", asked=AT)
+        add(db, "restore", id=1, copy=1, state="done", version=1)
+        asked = {"words": "OTHERS", "children": [1, 2], "template": 1, "version": 1,
+                 "day": "2025-03-03", "kind": "pdf"}
+        add(db, "notice_row", id=1, key="k", kind="remind", day="2025-03-20", who="jane", at=AT,
+            said="child 1: MINE-said by child 2")
+        add(db, "staged_file", id=51, name="forms", digest="f", is_form=1, is_uk=0, changes="[]",
+            who="jane", added=AT)
+        for at, sign, _ in ROWS:
+            add(db, "staged_row", id=60 + at, file=51, number=at, cells=json.dumps(
+                {"child": str(at), "name": f"{sign}-typed-in"}), others="{}", notes="[]",
+                state="open", who="jane", added=AT, changed_by="jane", changed=AT)
+            add(db, "staged_row", id=50 + at, file=50, number=at, cells=json.dumps(
+                {"child": f" {at} ", "name": f"{sign}-staged"}), others=json.dumps(
+                {"telephone": f"{sign}-telephone"}), notes="[]", state="open", who="jane",
+                added=AT, changed_by="jane", changed=AT)
+            add(db, "letter_set", id=7 + at, key=f"set {at}", who="jane", at=AT, state="made",
+                asked=json.dumps({**asked, "children": [at]}), total=1)
+            add(db, "letter", set_id=7 + at, place=0, child=at, about=f"{sign}-about", words="w",
+                html=zlib.compress(f"<style>p</style><p>{sign}-letter &amp; more</p>".encode()))
+            add(db, "letter_address", child=at, lines=f"{sign}-street", who="jane", at=AT)
+            add(db, "notice", row_id=1, place=at, child=at, school="A", seen=f"{sign}-seen",
+                state="waits", said=f"{sign}-notice", after=0)
+            add(db, "lot", draw=1, school="A", child=at, fill=0, text=f"{sign}-lot", tie=0)
+            add(db, "draw_step", draw=1, version=at, at=AT, who="jane", state="held",
+                said=f"child {at}: {sign}-step")
+            add(db, "restore_step", restore=1, version=at, at=AT, who="jane", state="done",
+                said=f"child {at}: {sign}-restored")
+            add(db, "letter_audit", draw=at, outcome="x", is_right=0, who="jane", at=AT,
+                said=f"child {at}: {sign}-judged")
+            add(db, "answer", person="jane", typed=f"{at} {sign}-typed", kind="accept", child=at,
+                school="A", name=f"{sign}-called", seen="", state="waits", said="", after=0)
+            add(db, "answer", person="jane", typed=f"{at} {sign}-unread", kind="", school="",
+                name="", seen="", state="waits", said="", after=0)
+
+
+def add(db: sqlite3.Connection, table: str, **cells: object) -> None:
+    """Adds a row."""
+    marks = ", ".join("?" for _ in cells)
+    db.execute(f"INSERT INTO {table} ({', '.join(cells)}) VALUES ({marks})", (*cells.values(),))
+
+
+MINE = {
+    "note", "doctor", "name", "form", "imported", "point", "line", "role", "wrong", "cell", "audit",
+    "said", "staged", "telephone", "about", "letter", "street", "seen", "notice", "lot", "step",
+    "restored", "judged", "typed", "called", "unread",
+}
+
+
+def marks(text: str) -> set[str]:
+    """The words of child 1 that a text has."""
+    return set(re.findall(r"MINE-(\w+)", text))
+
+
+def see_no_other(text: str) -> None:
+    """A text has nothing of another child."""
+    assert [it for it in NAMES_OF_OTHERS if it in text] == []
+    assert not re.search(r"\bchild [2-9]\b", text)
+
+
+def test_all_that_was_typed_of_a_child_is_in_both_and_nothing_of_another(office: Site) -> None:
+    jane = office.browser("jane")
+    answer = jane.get("/children/1/held.json")
+    assert answer.status_code == 200 and answer.mimetype == "application/json"
+    assert answer.headers["Content-Disposition"] == 'attachment; filename="child-1-held.json"'
+    page = jane.get("/children/1/held.html").text
+    assert marks(answer.text) == MINE and marks(page) == MINE
+    see_no_other(answer.text)
+    see_no_other(page)
+    found = json.loads(answer.text)
+    assert [base64.b64decode(it["data"]) for it in found["office"]["child_file"]] == [FILE]
+    # by hand: the second lives nearest after the first, and both have places at A, which has two
+    assert found["register"]["place"] == {"school": "A", "kind": "offered", "day": "2025-03-03"}
+    # (the lots of a round go school by school, and there by the numbers of the children)
+    assert found["register"]["draws"][0]["lots"] == {"A": 1, "B": 5}
+    assert found["register"]["data"]["name"] == "Ada Abel MINE-name"
+    assert "\u202e" in answer.text and "\u202e" not in page and "\\u202e" in page
+    assert "MINE-letter &amp; more" in page and "<script" not in page
+
+
+def test_who_asked_is_on_record_before(office: Site) -> None:
+    jane, before = office.browser("jane"), len(office.parts.history.entries)
+    assert jane.get("/children/1/held.json").status_code == 200
+    entries = [it for it in office.parts.history.entries[before:] if it.what != "signed in"]
+    assert [(it.who, it.what, it.about) for it in entries] == [
+        ("jane", "printed what is held of a child", {"child": 1})]
+
+
+def test_only_who_may_see_notes_gets_it(office: Site) -> None:
+    rita, before = office.browser("rita"), len(office.parts.history.entries)
+    assert rita.get("/children/1/held.json").status_code == 403
+    assert not any(it.what.startswith("printed what")
+                   for it in office.parts.history.entries[before:])
+    assert "held.json" not in rita.get("/children/1").text
+    assert office.browser("jane").get("/children/9/held.json").status_code == 404
+    assert "/children/1/held.json" in office.browser("jane").get("/children/1").text
+
+
+def test_each_table_of_the_application_is_known(tmp_path: pathlib.Path) -> None:
+    """A new table must be said to have something of a child, or nothing."""
+    store = Store(str(tmp_path / "office.db"))
+    names = {it["name"] for it in store.rows(
+        "SELECT name FROM sqlite_master WHERE type='table' AND name NOT LIKE 'sqlite%'")}
+    known = [*subject.OF_CHILD, *subject.IN_LINES, *subject.BY_ITSELF, *subject.OF_NOBODY]
+    assert sorted(known) == sorted(names)
+    for table in names:
+        columns = {it["name"] for it in store.rows(f"SELECT name FROM pragma_table_info('{table}')")}
+        assert ("child" in columns) == (table in subject.OF_CHILD)
+    store.close()
+
+
+def query(tools: pathlib.Path, *arguments: object) -> subprocess.CompletedProcess[str]:
+    """Runs the command."""
+    return subprocess.run(
+        [str(tools / "admissions-query"), *map(str, arguments)], capture_output=True, text=True,
+        check=False, env={**os.environ, "ADMISSIONS": str(tools / "admissions")})
+
+
+def test_the_command_prints_the_same(
+    office: Site, tools: pathlib.Path, tmp_path: pathlib.Path
+) -> None:
+    """From a file of the register and the folder of the application, which is only read."""
+    make(tmp_path / "reg.db", [*town(), ROUND])
+    folder = office.parts.config.folder
+    before = sorted((it.name, it.stat().st_size) for it in folder.iterdir())
+    page = tmp_path / "child.html"
+    done = query(tools, tmp_path / "reg.db", "subject", "--child", 1, "--office", folder,
+                 "--page", page)
+    assert (done.returncode, done.stderr) == (0, "")
+    assert sorted((it.name, it.stat().st_size) for it in folder.iterdir()) == before
+    assert marks(done.stdout) == MINE == marks(page.read_text())
+    see_no_other(done.stdout)
+    see_no_other(page.read_text())
+    assert page.stat().st_mode & 0o777 == 0o600
+    again = query(tools, tmp_path / "reg.db", "subject", "--child", 1, "--page", page)
+    assert again.returncode == 1 and "is there already" in again.stderr and not again.stdout
+    alone = json.loads(query(tools, tmp_path / "reg.db", "subject", "--child", 1).stdout)
+    assert alone["elsewhere"][-1] == subject.NO_OFFICE and alone["register"]["data"]["child"] == 1
+
+
+@pytest.mark.parametrize(("arguments", "status", "said"), [
+    (["subject"], 2, "subject requires --child"),
+    (["subject", "--child", "1", "--round", "1"], 2, "subject takes no --round"),
+    (["subject", "--child", "1", "--excel"], 2, "subject prints JSON, no CSV"),
+    (["season", "--office", "x"], 2, "--office and --page are for subject alone"),
+    (["subject", "--child", "77"], 1, "has no child 77"),
+    (["subject", "--child", "1", "--office", "nowhere"], 1, "history.jsonl"),
+])
+def test_what_the_command_refuses(
+    tools: pathlib.Path, tmp_path: pathlib.Path, arguments: list[str], status: int, said: str
+) -> None:
+    make(tmp_path / "reg.db", town())
+    done = query(tools, tmp_path / "reg.db", *arguments)
+    assert done.returncode == status and said in done.stderr and not done.stdout
+
+
+def test_the_file_of_another_user_is_not_opened(
+    tmp_path: pathlib.Path, monkeypatch: pytest.MonkeyPatch
+) -> None:
+    """SQLite would leave a file beside it that its user cannot open."""
+    from office import subject_query
+    from register_files import Refused
+
+    store = Store(str(tmp_path / "office.db"))
+    store.close()
+    monkeypatch.setattr(os, "geteuid", lambda: os.getuid() + 1)
+    with pytest.raises(Refused, match="who must read it"):
+        with subject_query.opened(str(tmp_path)):
+            pass
+    assert [it.name for it in tmp_path.iterdir()] == ["office.db"]
+
+
