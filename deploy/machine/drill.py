@@ -1,15 +1,18 @@
 """Tries a restore: restores the newest nightly copy of a register into a
 folder of its own, opens it, and counts what it has.
 
-  drill NAME
+  drill NAME [--identity FILE]
 
 The newest copy is the one that was made last, whatever the clock was. The
 register itself and its copies are only read. Where a second place is named,
-its copy of the same name is fetched and tried in the same way. The archive of
-its settings is read, and who may sign in is counted. What was restored is
-removed at the end. The result is in
-/var/backups/admissions/NAME/drill.report, which admissions-status reads. A
-drill that fails leaves the report of the one before it, and its unit fails.
+its copy of the same name is fetched and tried in the same way. Where copies
+are encrypted for the second place, FILE is the identity file of age that opens
+them, /etc/admissions/second-copy-identity by default; without one the drill
+says that the second copy was not tried. The archive of its settings is read,
+and who may sign in is counted. What was restored is removed at the end. The
+result is in /var/backups/admissions/NAME/drill.report, which admissions-status
+reads. A drill that fails leaves the report of the one before it, and its unit
+fails.
 
 example:
   drill secondary-2025
@@ -24,7 +27,7 @@ import tempfile
 from office import drills
 from register_files import Refused
 
-from . import copies
+from . import copies, sealed
 from .programs import call, program
 from .registers import Register, known, open_error, stored
 from .second_copy import fetched, now, place_of, write_report
@@ -35,6 +38,8 @@ REPORT = "drill.report"
 
 def arguments(reader: argparse.ArgumentParser) -> None:
     reader.add_argument("name", metavar="NAME", help="the name of the register")
+    reader.add_argument("--identity", metavar="FILE", type=pathlib.Path,
+                        help="the identity file that opens the copies of the second place")
 
 
 def main(given: argparse.Namespace) -> int:
@@ -46,19 +51,26 @@ def main(given: argparse.Namespace) -> int:
     with tempfile.TemporaryDirectory() as room:
         lines.append(f"{now()} {made[-1]}: {tried(made[-1], room)}")
         if place:
-            back = fetched_whole(place, register, made[-1], room)
-            lines.append(f"{now()} {place}/{register.name}/{back.name}: {tried(back, room)}")
+            where = f"{now()} {place}/{register.name}/{made[-1].name}"
+            lines.append(f"{where}: {second_tried(given.identity, place, register, room)}")
     text = "".join(f"{line}\n" for line in lines)
     write_report(register, REPORT, text)
     print(text, end="")
     return 0
 
 
-def fetched_whole(place: str, register: Register, copy: pathlib.Path, room: str) -> pathlib.Path:
-    """A copy of the second place with the archive of its settings, if the first place has one."""
+def second_tried(
+    given: pathlib.Path | None, place: str, register: Register, room: str
+) -> str:
+    """The same of the newest copy at the second place, which may be encrypted there."""
+    copy, identity = register.nightly_copies()[-1], None
+    if sealed.recipient():
+        identity = given or sealed.identity()
+        if identity is None:
+            return f"not tried: it is encrypted, and no identity file is here ({sealed.IDENTITY})"
     if copies.settings_of(copy).exists():
-        fetched(place, register, copies.settings_of(copy).name, room)
-    return fetched(place, register, copy.name, room)
+        fetched(place, register, copies.settings_of(copy).name, room, identity)
+    return tried(fetched(place, register, copy.name, room, identity), room)
 
 
 def tried(copy: pathlib.Path, room: str) -> str:

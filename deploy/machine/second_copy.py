@@ -15,6 +15,12 @@ compares the history by checksums. The result is in
 /var/backups/admissions/NAME/second-copy.report, which admissions-status reads.
 Where no place is named nothing is done.
 
+With a public key of age in /etc/admissions/second-copy-recipient all of it is
+encrypted before it leaves, as NAME.age, and is compared by its digest. It is
+decrypted and opened only where /etc/admissions/second-copy-identity has the
+identity file. Without age, or with a wrong key, nothing is copied. Copies from
+before the key was set are named: they are not encrypted.
+
 example:
   second-copy secondary-2025
 
@@ -30,7 +36,7 @@ import tempfile
 
 from register_files import Refused
 
-from . import copies, files
+from . import copies, files, history_copies, sealed
 from .history_copies import FOLDER as HISTORY
 from .programs import USER, call, tool
 from .registers import SETTINGS, Register, known, open_error
@@ -112,6 +118,8 @@ def copied(register: Register, place: str) -> str:
     if is_local(place):
         see_place(register, place)
     there = f"{place}/{register.name}/"
+    if key := sealed.recipient():
+        return copied_sealed(register, place, key)
     filters = [it for pattern in copies.PATTERNS for it in ("--include", pattern)]
     rsync("--ignore-existing", "--dirs", *filters, "--exclude", "*", f"{register.copies}/", there)
     has_history = (register.copies / HISTORY).is_dir()
@@ -142,12 +150,110 @@ def copied(register: Register, place: str) -> str:
             f"{there}{HISTORY} is not equal to {register.copies / HISTORY}:"
             f" {' '.join(differs.split())}"
         )
-    is_same = is_local(place) and os.stat(place).st_dev == os.stat(register.copies).st_dev
     return (
         f"{now()} {made[-1].name} is in {place}/{register.name}, equal to the first copy, and opens"
-        + ("" if settings.exists() else "; WARNING: without people and settings")
-        + ("; WARNING: on the same disk as the first copies" if is_same else "")
+        + warnings(register, place)
     )
+
+
+def warnings(register: Register, place: str) -> str:
+    """What is wrong with a copy that was made."""
+    is_same = is_local(place) and os.stat(place).st_dev == os.stat(register.copies).st_dev
+    settings = copies.settings_of(register.nightly_copies()[-1])
+    return ("" if settings.exists() else "; WARNING: without people and settings") + (
+        "; WARNING: on the same disk as the first copies" if is_same else "")
+
+
+def copied_sealed(register: Register, place: str, key: str) -> str:
+    """Encrypts what is not there yet, copies it, fetches back and compares. Returns the line of the
+    report. Nothing is begun without the program that encrypts."""
+    sealed.age()
+    there, newest = f"{place}/{register.name}/", register.nightly_copies()[-1]
+    with tempfile.TemporaryDirectory() as room:
+        rsync("--recursive", f"{room}/", there)
+    listed, sent = sizes(there), sealed.sent(register)
+    for path in to_copy(register):
+        name = str(path.relative_to(register.copies))
+        is_there, first = name + sealed.END in listed, sealed.digest(path)
+        # (of one from before whose digest is lost nothing is known: it stays as it is)
+        is_left = name not in sent and path.stem != newest.stem and path.parent == register.copies
+        if not (is_there and (is_left or sent.get(name, [""])[0] == first)):
+            sent[name] = [first, send_sealed(path, there, key, listed)]
+            sealed.keep_sent(register, sent)
+    see_sealed(register, place, sent)
+    opens = opened_sealed(register, place, newest)
+    plain = sorted(it for it in listed if not it.endswith(sealed.END))
+    return (
+        f"{now()} {newest.name}{sealed.END} is in {place}/{register.name}, encrypted for"
+        f" {key[:16]}.., {opens}" + warnings(register, place)
+        + (f"; WARNING: {len(plain)} files there are not encrypted, as {plain[0]}: they are of"
+           " before, remove them there" if plain else "")
+    )
+
+
+def send_sealed(path: pathlib.Path, there: str, key: str, listed: dict[str, int]) -> str:
+    """Encrypts a file and sends it. Returns the digest of what was sent. A copy of the history that
+    is longer there stays."""
+    folder = "" if path.name.startswith("nightly-") else f"{HISTORY}/"
+    with tempfile.TemporaryDirectory() as room:
+        target = pathlib.Path(room, folder, path.name + sealed.END)
+        target.parent.mkdir(exist_ok=True)
+        sealed.encrypt(path, target, key)
+        if folder and listed.get(f"{folder}{target.name}", 0) > target.stat().st_size:
+            raise Refused(too_long(f"{there}{folder}{target.name}", path))
+        # (another file of the same length and second is another file)
+        rsync("--recursive", "--ignore-times", f"{room}/", there)
+        return sealed.digest(target)
+
+
+def to_copy(register: Register) -> list[pathlib.Path]:
+    """The files that belong at the second place."""
+    nightly = [it for pattern in copies.PATTERNS for it in register.copies.glob(pattern)]
+    return [*sorted(nightly), *history_copies.made(register.copies / HISTORY)]
+
+
+def sizes(there: str) -> dict[str, int]:
+    """The files of a folder of the second place, with their bytes."""
+    listed = rsync("--list-only", "--recursive", "--no-human-readable", there)
+    found = re.findall(r"(?m)^-\S+ +(\d+) \S+ \S+ (.+)$", listed)
+    return {name: int(size) for size, name in found}
+
+
+def see_sealed(register: Register, place: str, sent: dict[str, list[str]]) -> None:
+    """Fetches the newest copy, its settings and the history as they are there, and compares them
+    with what was sent."""
+    newest = register.nightly_copies()[-1]
+    for path in (newest, copies.settings_of(newest), *history_copies.made(
+            register.copies / HISTORY)):
+        name = str(path.relative_to(register.copies))
+        if path.exists():
+            with tempfile.TemporaryDirectory() as room:
+                back = fetched(place, register, name + sealed.END, room)
+                if sealed.digest(back) != sent[name][1]:
+                    raise Refused(f"{place}/{register.name}/{name}{sealed.END} is not what was"
+                                  " sent")
+
+
+def opened_sealed(register: Register, place: str, newest: pathlib.Path) -> str:
+    """Whether the newest copy opens, as far as that can be known here."""
+    identity = sealed.identity()
+    if identity is None:
+        return "as it was sent; not opened, since its identity file is not here"
+    with tempfile.TemporaryDirectory() as room:
+        back = fetched(place, register, newest.name, room, identity)
+        if back.read_bytes() != newest.read_bytes():
+            raise Refused(f"{place}/{register.name}/{newest.name}{sealed.END} is not equal to"
+                          f" {newest}")
+        if error := open_error(back):
+            raise Refused(f"{newest.name}{sealed.END} does not open: {error}")
+    return "equal to the first copy, and opens"
+
+
+def too_long(name: str, here: pathlib.Path) -> str:
+    """Why a copy of the history is not replaced."""
+    return (f"{name} is longer than {here}, and stays as it is."
+            " Does another machine copy to the same place?"
+            " Rename it there to keep it, and repeat this")
 
 
 def see_none_longer(register: Register, there: str) -> None:
@@ -168,17 +274,19 @@ def see_none_longer(register: Register, there: str) -> None:
     for size, name in re.findall(rf"(?m)^-\S+ +(\d+) \S+ \S+ {HISTORY}/(.+)$", listed):
         here = register.copies / HISTORY / name
         if here.exists() and here.stat().st_size < int(size):
-            raise Refused(
-                f"{there}{HISTORY}/{name} is longer than {here}, and stays as it is."
-                " Does another machine copy to the same place?"
-                " Rename it there to keep it, and repeat this"
-            )
+            raise Refused(too_long(f"{there}{HISTORY}/{name}", here))
 
 
-def fetched(place: str, register: Register, name: str, room: str) -> pathlib.Path:
-    """A copy of the second place, fetched into a folder."""
-    call(tool("rsync", "rsync"), "--rsh", SSH, f"{place}/{register.name}/{name}", f"{room}/")
-    return pathlib.Path(room, name)
+def fetched(
+    place: str, register: Register, name: str, room: str, identity: pathlib.Path | None = None
+) -> pathlib.Path:
+    """A copy of the second place, fetched into a folder; with an identity file it is one that is
+    encrypted there, and is decrypted."""
+    end = sealed.END if identity else ""
+    source = f"{place}/{register.name}/{name}{end}"
+    call(tool("rsync", "rsync"), "--rsh", SSH, source, f"{room}/")
+    back = pathlib.Path(room, pathlib.Path(name + end).name)
+    return sealed.decrypt(back, identity) if identity else back
 
 
 def now() -> str:

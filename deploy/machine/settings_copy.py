@@ -4,16 +4,16 @@
 
 It is called as root after each nightly backup. Beside the newest nightly copy,
 as an archive (tar) of the same name, are site-name of /etc/admissions/NAME,
-authority and second-copy of /etc/admissions, and office.db of the office's
-application: its people with their roles and hashed passwords, and what it
-keeps beside the register, but nobody who is signed in. Nothing else is copied,
-and so no key. An archive that is there stays as it is, as the copy does. The
-history, who did what, is in the folder `history` beside the copies,
-compressed. What was copied is only ever made longer: a history that was cut or
-begins otherwise is copied beside it. One in which a line was changed is copied
-too, and named with the line. What cannot be read is named, and all else is
-copied. All copies are of the user admissions alone. The result is in
-settings-copy.report beside them, which admissions-status reads.
+authority, second-copy and second-copy-recipient of /etc/admissions, and
+office.db of the office's application: its people with their roles and hashed
+passwords, and what it keeps beside the register, but nobody who is signed in.
+Nothing else is copied, and so no key. An archive that is there stays as it is,
+as the copy does. The history, who did what, is in the folder `history` beside
+the copies, compressed. What was copied is only ever made longer: a history
+that was cut or begins otherwise is copied beside it. One in which a line was
+changed is copied too, and named with the line. What cannot be read is named,
+and all else is copied. All copies are of the user admissions alone. The result
+is in settings-copy.report beside them, which admissions-status reads.
 
 example:
   settings-copy secondary-2025
@@ -30,14 +30,15 @@ import typing
 
 from register_files import OWNER_ALONE, Refused
 
-from . import copies, files, history_copies, office_store
+from . import copies, files, history_copies, office_store, sealed
 from .programs import OFFICE
 from .registers import SETTINGS, Register, known
 from .second_copy import now, write_report
 
-# What is copied, of a register and of all: a key under whatever name is not, since whoever has the
-# second place shall not have it
-OWN, SHARED = (office_store.NAME, "site-name"), ("authority", "second-copy")
+# What is copied, of a register and of all: a secret key under whatever name is not, since whoever
+# has the second place shall not have it
+OWN = (office_store.NAME, "site-name")
+SHARED = ("authority", "second-copy", sealed.RECIPIENT)
 REPORT = "settings-copy.report"
 
 

@@ -203,7 +203,8 @@ def test_each_table_of_the_application_is_known(tmp_path: pathlib.Path) -> None:
     known = [*subject.OF_CHILD, *subject.IN_LINES, *subject.BY_ITSELF, *subject.OF_NOBODY]
     assert sorted(known) == sorted(names)
     for table in names:
-        columns = {it["name"] for it in store.rows(f"SELECT name FROM pragma_table_info('{table}')")}
+        query_of = f"SELECT name FROM pragma_table_info('{table}')"
+        columns = {it["name"] for it in store.rows(query_of)}
         assert ("child" in columns) == (table in subject.OF_CHILD)
     store.close()
 
@@ -267,5 +268,3 @@ def test_the_file_of_another_user_is_not_opened(
         with subject_query.opened(str(tmp_path)):
             pass
     assert [it.name for it in tmp_path.iterdir()] == ["office.db"]
-
-

@@ -1,0 +1,86 @@
+"""Copies that are encrypted before they leave for the second place, by age: for the recipient whose
+public key is in the settings, who keeps the identity file that opens them.
+
+Where a recipient is set, nothing is copied there in another form: without age, or with a key that
+is none, the copy fails. An encrypted copy differs each time that it is made, so the digest of what
+was sent is kept beside the first copies, and what is there is compared with it.
+"""
+import hashlib
+import json
+import pathlib
+import re
+
+from register_files import Refused
+
+from . import files
+from .programs import call, tool
+from .registers import SETTINGS, Register
+
+RECIPIENT, IDENTITY, END = "second-copy-recipient", "second-copy-identity", ".age"
+SENT = "second-copy.sent"
+KEY = re.compile(r"age1[0-9a-z]{58}|ssh-(?:ed25519|rsa) [A-Za-z0-9+/=]+(?: .*)?")
+
+
+def recipient() -> str | None:
+    """The public key for which copies are encrypted, or None where none is set. A file without a
+    key is an error: it is there for copies to be encrypted."""
+    path = SETTINGS / RECIPIENT
+    try:
+        lines = path.read_text(encoding="utf-8").splitlines()
+    except FileNotFoundError:
+        return None
+    except (OSError, UnicodeDecodeError) as error:
+        raise Refused(f"{path} cannot be read, so nothing is copied: {error}") from error
+    found = [line.strip() for line in lines if line.strip() and not line.lstrip().startswith("#")]
+    if len(found) != 1 or not KEY.fullmatch(found[0]):
+        raise Refused(f"{path} must have one line with a public key of age, as age-keygen prints it"
+                      " (age1..), so nothing is copied. To copy without encryption remove the file")
+    return found[0]
+
+
+def age() -> str:
+    """The program that encrypts."""
+    return tool("age", "age")
+
+
+def encrypt(path: pathlib.Path, target: pathlib.Path, key: str) -> None:
+    """Encrypts a file for a recipient into a new one."""
+    call(age(), "--encrypt", "--recipient", key, "--output", target, path)
+
+
+def decrypt(path: pathlib.Path, identity: pathlib.Path) -> pathlib.Path:
+    """Decrypts a file beside itself, and returns the result."""
+    target = path.with_name(path.name.removesuffix(END))
+    call(age(), "--decrypt", "--identity", identity, "--output", target, path)
+    return target
+
+
+def identity() -> pathlib.Path | None:
+    """The identity file of this machine, if it keeps one."""
+    path = SETTINGS / IDENTITY
+    return path if path.exists() else None
+
+
+def digest(path: pathlib.Path) -> str:
+    """The SHA-256 sum of a file."""
+    with open(path, "rb") as file:
+        return hashlib.file_digest(file, "sha256").hexdigest()
+
+
+def sent(register: Register) -> dict[str, list[str]]:
+    """What was sent, by the name of the first copy: its digest, and that of the encrypted one."""
+    try:
+        found = json.loads((register.copies / SENT).read_text(encoding="utf-8"))
+        return {str(name): [str(one), str(other)] for name, (one, other) in found.items()}
+    except FileNotFoundError:
+        return {}
+    except (OSError, ValueError, AttributeError, TypeError) as error:
+        raise Refused(f"{register.copies / SENT} cannot be read: remove it, and all is sent"
+                      f" again: {error}") from error
+
+
+def keep_sent(register: Register, found: dict[str, list[str]]) -> None:
+    """Keeps what was sent, without copies that are gone here."""
+    there = {name: it for name, it in found.items() if (register.copies / name).exists()}
+    text = json.dumps(there, sort_keys=True, indent=1) + "\n"
+    files.write_as_desk(register.copies / SENT, text.encode())

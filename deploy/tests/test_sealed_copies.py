@@ -1,0 +1,273 @@
+"""Copies that are encrypted before they leave for the second place: what arrives there, what opens
+it, and that nothing leaves otherwise where a key is set. With the real age and rsync."""
+import argparse
+import pathlib
+import shutil
+import subprocess
+import typing
+
+import pytest
+from machine import copies, drill, programs, registers, sealed, second_copy, status
+from register_files import Refused
+
+PLACE = "mnt"
+# what a copy here has, which is no register: it opens where this program says so
+SECRET = b"SECRET name of a child"
+
+
+@pytest.fixture(name="key")
+def key_fixture(tmp_path: pathlib.Path) -> tuple[str, pathlib.Path]:
+    """A public key, and the identity file that opens what is encrypted for it."""
+    return made_key(tmp_path / "identity")
+
+
+def made_key(path: pathlib.Path) -> tuple[str, pathlib.Path]:
+    subprocess.run(["age-keygen", "-o", path], check=True, capture_output=True)
+    done = subprocess.run(["age-keygen", "-y", path], check=True, capture_output=True, text=True)
+    return done.stdout.strip(), path
+
+
+@pytest.fixture(name="copied")
+def copied_fixture(
+    register: registers.Register, machine: pathlib.Path, key: tuple[str, pathlib.Path],
+    monkeypatch: pytest.MonkeyPatch, write_as_me: None,
+) -> registers.Register:
+    """A register with two nightly copies, their settings and a history, and a second place."""
+    monkeypatch.setattr(sealed, "SETTINGS", machine / "etc")
+    monkeypatch.setattr(second_copy, "open_error", lambda _: "")
+    (machine / PLACE).mkdir()
+    (machine / "etc/second-copy").write_text(f"{machine / PLACE}\n")
+    (machine / "etc/second-copy-recipient").write_text(f"# of the vault\n{key[0]}\n")
+    for number in (1, 2):
+        path = register.copies / f"nightly-00000{number}-2025-03-0{number}T023000.db"
+        path.write_bytes(SECRET + b" %d" % number)
+        copies.settings_of(path).write_bytes(SECRET + b" of settings %d" % number)
+    (register.copies / "before-round-1.db").write_bytes(SECRET)
+    history(register, b"one")
+    return register
+
+
+def history(register: registers.Register, data: bytes) -> None:
+    """Gives the copy of the history other bytes."""
+    folder = register.copies / "history"
+    folder.mkdir(exist_ok=True)
+    (folder / "history-000001-0123456789abcdef.gz").write_bytes(SECRET + data)
+
+
+def there(machine: pathlib.Path) -> dict[str, bytes]:
+    """The files at the second place."""
+    place = machine / PLACE
+    return {str(it.relative_to(place)): it.read_bytes() for it in place.rglob("*") if it.is_file()}
+
+
+def send(register: registers.Register, machine: pathlib.Path) -> str:
+    return second_copy.copied(register, str(machine / PLACE))
+
+
+def opened(path: pathlib.Path, identity: pathlib.Path) -> bytes:
+    """What an encrypted file has, for who has the identity file."""
+    return subprocess.run(
+        ["age", "--decrypt", "-i", identity, path], check=True, capture_output=True).stdout
+
+
+def test_what_arrives_is_encrypted_and_opens_with_the_identity_alone(
+    copied: registers.Register, machine: pathlib.Path, key: tuple[str, pathlib.Path],
+    tmp_path: pathlib.Path,
+) -> None:
+    line = send(copied, machine)
+    found = there(machine)
+    names = [f"nightly-00000{at}-2025-03-0{at}T023000.{end}.age" for at in (1, 2)
+             for end in ("db", "tar")]
+    names.append("history/history-000001-0123456789abcdef.gz.age")
+    assert sorted(found) == sorted(f"{copied.name}/{it}" for it in names)
+    assert not any(b"SECRET" in data for data in found.values())
+    for name in names:
+        first = (copied.copies / name.removesuffix(".age")).read_bytes()
+        assert opened(machine / PLACE / copied.name / name, key[1]) == first
+    _, other = made_key(tmp_path / "other")
+    with pytest.raises(subprocess.CalledProcessError):
+        opened(machine / PLACE / copied.name / names[0], other)
+    assert "encrypted for" in line and "its identity file is not here" in line
+    assert "not encrypted" not in line
+
+
+def test_what_is_there_stays_and_a_longer_history_replaces_the_shorter(
+    copied: registers.Register, machine: pathlib.Path
+) -> None:
+    send(copied, machine)
+    before = there(machine)
+    send(copied, machine)
+    assert there(machine) == before
+    history(copied, b"one and more")
+    send(copied, machine)
+    changed = {name for name, data in there(machine).items() if before.get(name) != data}
+    assert changed == {f"{copied.name}/history/history-000001-0123456789abcdef.gz.age"}
+    history(copied, b"")
+    before = there(machine)
+    with pytest.raises(Refused, match="is longer than"):
+        send(copied, machine)
+    assert there(machine) == before
+
+
+def test_a_copy_that_was_changed_there_is_found(
+    copied: registers.Register, machine: pathlib.Path
+) -> None:
+    send(copied, machine)
+    path = next((machine / PLACE).rglob("nightly-000002-*.db.age"))
+    path.write_bytes(path.read_bytes()[:-1] + b"x")
+    with pytest.raises(Refused, match="is not what was sent"):
+        send(copied, machine)
+
+
+def test_a_copy_that_was_removed_there_is_sent_again(
+    copied: registers.Register, machine: pathlib.Path
+) -> None:
+    send(copied, machine)
+    names = set(there(machine))
+    next((machine / PLACE).rglob("nightly-000001-*.db.age")).unlink()
+    send(copied, machine)
+    assert set(there(machine)) == names
+
+
+@pytest.mark.parametrize("text", [
+    "", "# none\n", "age1short\n", "AGE-SECRET-KEY-1QQQQ\n", "--output=/etc/passwd\n",
+    "age1" + "q" * 58 + "\n", "two\nlines\n",
+])
+def test_with_a_wrong_key_nothing_leaves(
+    text: str, copied: registers.Register, machine: pathlib.Path
+) -> None:
+    (machine / "etc/second-copy-recipient").write_text(text)
+    with pytest.raises(Refused, match="public key of age|age: "):
+        send(copied, machine)
+    assert there(machine) == {}
+
+
+def test_without_age_nothing_leaves_and_the_package_is_named(
+    copied: registers.Register, machine: pathlib.Path, monkeypatch: pytest.MonkeyPatch
+) -> None:
+    def missing(name: str, package: str) -> str:
+        if name == "age":
+            raise Refused(f"{name} is missing: apt-get install {package}")
+        return programs.tool(name, package)
+
+    monkeypatch.setattr(sealed, "tool", missing)
+    with pytest.raises(Refused, match="age is missing: apt-get install age"):
+        send(copied, machine)
+    assert there(machine) == {}
+
+
+def test_where_age_fails_at_any_file_nothing_leaves_unencrypted(
+    copied: registers.Register, machine: pathlib.Path, monkeypatch: pytest.MonkeyPatch
+) -> None:
+    for last in range(5):
+        count = iter(range(9))
+        encrypt = sealed.encrypt
+
+        def failing(path: pathlib.Path, target: pathlib.Path, key: str) -> None:
+            if next(count) == last:
+                raise Refused("age: no space left")
+            encrypt(path, target, key)
+            assert b"SECRET" not in target.read_bytes()
+
+        with monkeypatch.context() as patch:
+            patch.setattr(sealed, "encrypt", failing)
+            with pytest.raises(Refused, match="no space left"):
+                send(copied, machine)
+        assert len(there(machine)) == last
+        for it in (machine / PLACE).rglob("*.age"):
+            it.unlink()
+    send(copied, machine)
+    assert len(there(machine)) == 5
+    assert not any(b"SECRET" in data for data in there(machine).values())
+
+
+def test_copies_of_before_the_key_are_named(
+    copied: registers.Register, machine: pathlib.Path
+) -> None:
+    recipient = machine / "etc/second-copy-recipient"
+    text = recipient.read_text()
+    recipient.unlink()
+    send(copied, machine)
+    recipient.write_text(text)
+    line = send(copied, machine)
+    assert "WARNING: 5 files there are not encrypted" in line
+    (copied.copies / "second-copy.report").write_text(f"{line}\n")
+    assert status.second_of(copied)[0] is False
+
+
+def test_with_the_identity_here_the_copy_is_decrypted_and_opened(
+    copied: registers.Register, machine: pathlib.Path, key: tuple[str, pathlib.Path],
+    monkeypatch: pytest.MonkeyPatch,
+) -> None:
+    shutil.copy(key[1], machine / "etc/second-copy-identity")
+    tried: list[bytes] = []
+
+    def open_error(path: pathlib.Path) -> str:
+        tried.append(path.read_bytes())
+        return ""
+
+    monkeypatch.setattr(second_copy, "open_error", open_error)
+    assert "equal to the first copy, and opens" in send(copied, machine)
+    assert tried == [SECRET + b" 2"]
+    monkeypatch.setattr(second_copy, "open_error", lambda _: "it is damaged")
+    with pytest.raises(Refused, match="it is damaged"):
+        send(copied, machine)
+
+
+def drilled(
+    register: registers.Register, monkeypatch: pytest.MonkeyPatch, *options: str
+) -> tuple[list[bytes], list[str]]:
+    """What a drill tries, with the archive beside it, and the lines of its report."""
+    tried: list[bytes] = []
+
+    def try_it(copy: pathlib.Path, room: str) -> str:
+        tried.append(copy.read_bytes() + b", " + copies.settings_of(copy).read_bytes())
+        return "restored"
+
+    monkeypatch.setattr(drill, "tried", try_it)
+    reader = argparse.ArgumentParser()
+    drill.arguments(reader)
+    assert drill.main(reader.parse_args([register.name, *options])) == 0
+    report = (register.copies / drill.REPORT).read_text(encoding="utf-8")
+    return tried, [line.partition(" ")[2] for line in report.splitlines()]
+
+
+def test_the_drill_restores_from_the_second_place_with_the_identity(
+    copied: registers.Register, machine: pathlib.Path, key: tuple[str, pathlib.Path],
+    monkeypatch: pytest.MonkeyPatch,
+) -> None:
+    send(copied, machine)
+    whole = SECRET + b" 2, " + SECRET + b" of settings 2"
+    tried, lines = drilled(copied, monkeypatch)
+    assert tried == [whole] and "not tried: it is encrypted" in lines[1]
+    tried, lines = drilled(copied, monkeypatch, "--identity", str(key[1]))
+    assert tried == [whole, whole] and lines[1].endswith(": restored")
+    shutil.copy(key[1], machine / "etc/second-copy-identity")
+    assert drilled(copied, monkeypatch)[0] == [whole, whole]
+    _, other = made_key(machine / "other")
+    with pytest.raises(Refused, match="age: "):
+        drilled(copied, monkeypatch, "--identity", str(other))
+
+
+def test_a_record_of_what_was_sent_that_is_lost_or_damaged(
+    copied: registers.Register, machine: pathlib.Path, key: tuple[str, pathlib.Path]
+) -> None:
+    """The newest copy is sent again, and what else is there stays as it is."""
+    send(copied, machine)
+    before, record = there(machine), copied.copies / sealed.SENT
+    record.unlink()
+    send(copied, machine)
+    changed = {name for name, data in there(machine).items() if before[name] != data}
+    assert {it.rpartition("/")[2][:14] for it in changed} == {"nightly-000002", "history-000001"}
+    path = next((machine / PLACE).rglob("nightly-000002-*.db.age"))
+    assert opened(path, key[1]) == SECRET + b" 2"
+    record.write_text("{")
+    with pytest.raises(Refused, match="remove it, and all is sent again"):
+        send(copied, machine)
+
+
+def test_the_archive_of_settings_has_the_recipient_and_not_the_identity() -> None:
+    from machine import settings_copy
+
+    names: typing.Collection[str] = settings_copy.OWN + settings_copy.SHARED
+    assert sealed.RECIPIENT in names and sealed.IDENTITY not in names
