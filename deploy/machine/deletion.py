@@ -89,6 +89,14 @@ def record_of(register: Register) -> dict[str, str]:
         raise Wrong("NotKept", f"{record_place(register)} is no record of a deletion") from error
 
 
+def day_in(found: dict[str, str]) -> datetime.date | None:
+    """The day of a record, if there is one."""
+    try:
+        return datetime.date.fromisoformat(found["day"]) if "day" in found else None
+    except ValueError as error:
+        raise Wrong("NotKept", "the record of a deletion has no day as 2026-01-31") from error
+
+
 def record(register: Register, found: dict[str, str]) -> None:
     """Writes the record, which a loss of power leaves there."""
     files.write(record_place(register), json.dumps(found, sort_keys=True) + "\n", 0o644)

@@ -26,12 +26,14 @@ import os
 import pathlib
 import shutil
 import stat
+from collections.abc import Callable, Iterable, Mapping, Sequence
+from types import MappingProxyType
 
 from register_files import Refused
 
 from . import deletion, files, office_requests, second_copy
 from .office_requests import Result, Wrong
-from .programs import call, tool
+from .programs import call, is_booted, tool
 from .registers import SETTINGS, Register, known
 
 
@@ -61,20 +63,30 @@ def deleted(register: Register, number: int) -> Result:
         raise Wrong("NotDeleted", f"the register is not wholly deleted: {error}") from error
 
 
-def delete(register: Register, day: datetime.date) -> Result:
-    """Stops what uses the files, and deletes them. The record is there before the first is gone,
-    and is whole after the last; the day is forgotten then, so that no other register has it.
+def delete(
+    register: Register,
+    day: datetime.date,
+    more: Sequence[pathlib.Path] = (),
+    about: Mapping[str, str] = MappingProxyType({}),
+    remaining: Callable[[Register], str] | None = None,
+) -> Result:
+    """Stops what uses the files, and deletes them, with those in more folders. The record is there
+    before the first is gone, and is whole after the last; the day is forgotten then, so that no
+    other register has it. `about` is said in the record too, and `remaining` returns what is left
+    at the second place.
     """
     stop(register)
+    folders = (register.folder, register.copies, *more)
     found = deletion.record_of(register)
     # (one of this day that has ended is of a command that was killed before it forgot the day)
     if found.get("day") != day.isoformat():
-        files_, size = counted(register)
+        files_, size = counted(folders)
         found = {"day": day.isoformat(), "began": now(), "files": str(files_), "bytes": str(size)}
-        deletion.record(register, found)
-    for folder in (register.folder, register.copies):
+        deletion.record(register, {**found, **about})
+    for folder in folders:
         empty(folder)
-    found = {**found, "ended": now(), "remains": second_place(register)}
+    remains = (remaining or second_place)(register)
+    found = {**found, **about, "ended": now(), "remains": remains}
     deletion.record(register, found)
     deletion.forget(register)
     return found
@@ -87,8 +99,10 @@ def now() -> str:
 
 def stop(register: Register) -> None:
     """Stops for good what uses the files of a register: a backup that ends, or is stopped, starts
-    the second copy and the desk, so these follow it.
+    the second copy and the desk, so these follow it. Where systemd does not run, nothing does.
     """
+    if not is_booted():
+        return
     name, systemctl = register.name, tool("systemctl", "systemd")
     timers = [f"admissions-{it}@{name}.timer" for it in ("backup", "drill")]
     call(systemctl, "disable", "--now", *timers)
@@ -97,10 +111,9 @@ def stop(register: Register) -> None:
     call(systemctl, "disable", "--now", office_requests.unit_of(register))
 
 
-def counted(register: Register) -> tuple[int, int]:
-    """How many files there are, and their bytes."""
-    found = [path.lstat() for folder in (register.folder, register.copies)
-             for path in folder.rglob("*")]
+def counted(folders: Iterable[pathlib.Path]) -> tuple[int, int]:
+    """How many files there are in folders, and their bytes."""
+    found = [path.lstat() for folder in folders for path in folder.rglob("*")]
     there = [it for it in found if not stat.S_ISDIR(it.st_mode)]
     return len(there), sum(it.st_size for it in there)
 

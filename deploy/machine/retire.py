@@ -1,0 +1,200 @@
+"""Deletes a register of this machine for good, when its season is over.
+
+  admissions-retire NAME [--second-place] [--early REASON] [--yes]
+
+It stops and disables the units of the register NAME, and deletes its files: the
+register with its log, all copies, the office's application with people, history,
+letters and files of children, logs of earlier versions, the site, its key and its
+settings. The last day of its waiting lists must have passed; --early deletes it
+before that, for a reason that is kept. With --second-place its folder at the
+second place is deleted too; otherwise the command names what remains there. What
+stays is the record, /etc/admissions/NAME/deleted: when, by whom, how many files
+and bytes, and what remains. It has nothing of a child.
+
+The command shows what it will delete and asks for the name of the register;
+without a terminal --yes confirms. Nothing can be brought back. One that was
+killed is begun again and goes on. Files that were taken away are not found, as
+an archive or letters; disk blocks are not overwritten.
+
+example:
+  admissions-retire secondary-2025 --second-place
+
+exit status: 0 deleted; 1 not, or something remains at the second place, and the
+line says so; 2 wrong arguments.
+"""
+import argparse
+import os
+import pathlib
+import shutil
+import sys
+import tempfile
+
+from register_files import Refused
+
+from . import deletion, files, office_delete, people, second_copy, sites
+from .programs import USER, call, is_booted, tool
+from .registers import Register, named, stored
+from .status import office_units
+
+LOGS, MOST_REASON = pathlib.Path("/var/log/admissions"), 200
+
+
+def arguments(reader: argparse.ArgumentParser) -> None:
+    reader.add_argument("name", metavar="NAME", help="the name of the register")
+    reader.add_argument("--second-place", action="store_true",
+                        help="delete its folder at the second place too")
+    reader.add_argument("--early", metavar="REASON",
+                        help="delete it before its lists have ended, for this reason")
+    reader.add_argument("--yes", action="store_true", help="confirm without a terminal")
+
+
+def main(given: argparse.Namespace) -> int:
+    register = named(given.name)
+    with files.lock():
+        record = deletion.record_of(register)
+        if not anything(register) and not given.second_place:
+            if not record:
+                raise Refused(f"no such register: {register.name}", 2)
+            print(in_words(register, record))
+            return 0
+        see_time(register, record, given.early)
+        confirm(register, given.yes)
+        record = retired(register, given)
+    print(in_words(register, record))
+    return 1 if given.second_place and record["remains"] else 0
+
+
+def folders_of(register: Register) -> tuple[pathlib.Path, ...]:
+    """The folders beside those of register and copies."""
+    return register.office, LOGS / register.name
+
+
+def anything(register: Register) -> bool:
+    """Whether anything of a register is here beside its record."""
+    settings = register.settings
+    beside = [it for it in settings.iterdir() if it != deletion.record_place(register)] if (
+        settings.is_dir()) else []
+    places = (register.folder, register.copies, *folders_of(register), *site_of(register))
+    return bool(beside) or any(map(os.path.lexists, places))
+
+
+def site_of(register: Register) -> list[pathlib.Path]:
+    """The files of its site: the link first, by which nginx reads the other."""
+    name = f"admissions-{register.name}"
+    return [sites.ENABLED / name, sites.AVAILABLE / name]
+
+
+def is_begun(record: dict[str, str]) -> bool:
+    """Whether a deletion has begun and not ended."""
+    return "began" in record and "ended" not in record
+
+
+def see_time(register: Register, record: dict[str, str], reason: str | None) -> None:
+    """Refuses a register whose lists have not ended, unless for a reason. A deletion that has begun
+    goes on."""
+    if reason is not None:
+        if not reason.strip() or not reason.isprintable() or len(reason) > MOST_REASON:
+            raise Refused(f"the reason is one line of 1 to {MOST_REASON} characters", 2)
+        return
+    if is_begun(record) or not (register.file.exists() or register.nightly_copies()):
+        return
+    try:
+        last = stored(register.file).days[2]
+    except (OSError, Refused) as error:
+        raise Refused(f"{register.file} does not say when its lists end: {error}. To delete it all"
+                      " the same, give a reason with --early") from error
+    if deletion.today() <= last:
+        raise Refused(f"the lists of {register.name} end on {last.isoformat()}, and nothing was"
+                      " deleted. To delete it before that, give a reason with --early")
+
+
+def confirm(register: Register, is_yes: bool) -> None:
+    """Shows what will be deleted, and asks for the name."""
+    places = (register.folder, register.copies, *folders_of(register), register.settings)
+    for it in places:
+        count, size = office_delete.counted([it])
+        print(f"{it}: {count} files, {size:,} bytes")
+    if is_yes:
+        return
+    if not sys.stdin.isatty():
+        raise Refused("nothing was deleted: without a terminal --yes confirms", 2)
+    print("Type the name of the register to delete all of it: ", end="", flush=True)
+    if sys.stdin.readline().strip() != register.name:
+        raise Refused("nothing was deleted: another name was typed")
+
+
+def retired(register: Register, given: argparse.Namespace) -> dict[str, str]:
+    """Deletes all of it, the settings last, and returns the record."""
+    files.folder(register.settings, 0o755)
+    stop_application(register)
+    before = deletion.record_of(register)
+    # (what is left of an earlier deletion is deleted under its day)
+    is_left = is_begun(before) or not register.file.exists()
+    day = (deletion.day_in(before) if is_left else None) or deletion.today()
+    about = {"by": people.teller(), **({"early": given.early} if given.early else {})}
+
+    def remaining(_: Register) -> str:
+        return at_second_place(register) if given.second_place else (
+            office_delete.second_place(register))
+
+    found = office_delete.delete(register, day, folders_of(register), about, remaining)
+    for it in (register.folder, register.copies, *folders_of(register)):
+        if it.is_dir():
+            it.rmdir()
+    remove_site(register)
+    for it in register.settings.iterdir():
+        if it != deletion.record_place(register):
+            if it.is_dir() and not it.is_symlink():
+                shutil.rmtree(it)
+            else:
+                it.unlink()
+    deletion.sync(register)
+    return found
+
+
+def stop_application(register: Register) -> None:
+    """Stops the application for good: it keeps its files open."""
+    if is_booted():
+        call(tool("systemctl", "systemd"), "disable", "--now", *office_units(register))
+
+
+def remove_site(register: Register) -> None:
+    """Has nginx forget the site, before its key is gone."""
+    there = [it for it in site_of(register) if os.path.lexists(it)]
+    for it in there:
+        it.unlink()
+    (register.settings / "site-name").unlink(missing_ok=True)
+    if there and sites.MODEL.exists():
+        for line in sites.make_all():
+            print(line)
+
+
+def at_second_place(register: Register) -> str:
+    """Deletes the folder of a register at the second place, as the user who makes the copies, and
+    returns what remains there, or ""."""
+    remains = office_delete.second_place(register)
+    if not remains:
+        return ""
+    try:
+        place = second_copy.place_of()
+        if place and second_copy.is_local(place) and not os.path.isdir(place):
+            raise Refused(f"{place} is not there: is the disk mounted?")
+        with tempfile.TemporaryDirectory() as room:
+            os.chmod(room, 0o755)
+            call(tool("rsync", "rsync"), "--recursive", "--delete", "--force", "--rsh",
+                 second_copy.SSH, f"{room}/", f"{place}/{register.name}/", as_user=USER)
+            left = call(tool("rsync", "rsync"), "--list-only", "--recursive", "--rsh",
+                        second_copy.SSH, f"{place}/{register.name}/", as_user=USER).stdout
+        return remains if len(left.splitlines()) > 1 else ""
+    except Refused as error:
+        print(f"admissions-retire: the second place: {error}", file=sys.stderr)
+        return remains
+
+
+def in_words(register: Register, record: dict[str, str]) -> str:
+    """What the record says."""
+    said = (f"{register.name} is deleted, {record.get('ended', 'not to its end')}:"
+            f" {record.get('files')} files, {record.get('bytes')} bytes. The record is"
+            f" {deletion.record_place(register)}")
+    remains = record.get("remains")
+    return f"{said}\n{remains} remains: delete it there" if remains else said
