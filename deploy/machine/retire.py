@@ -2,25 +2,26 @@
 
   admissions-retire NAME [--second-place] [--early REASON] [--yes]
 
-It stops and disables the units of the register NAME, and deletes its files: the
-register with its log, all copies, the office's application with people, history,
-letters and files of children, logs of earlier versions, the site, its key and its
-settings. The last day of its waiting lists must have passed; --early deletes it
-before that, for a reason that is kept. With --second-place its folder at the
-second place is deleted too; otherwise the command names what remains there. What
-stays is the record, /etc/admissions/NAME/deleted: when, by whom, how many files
-and bytes, and what remains. It has nothing of a child.
+It stops and disables the units of the register NAME, and deletes its files:
+the register with its log, all copies, the office's application with people,
+history, letters and files of children, logs of earlier versions, the site,
+its key and its settings. The last day of its waiting lists must have passed;
+--early deletes it before that, for a reason that is kept. With --second-place
+its folder at the second place is deleted too; otherwise the command names
+what remains there. What stays is the record, /etc/admissions/NAME/deleted:
+when, by whom, how many files and bytes, and what remains. It has nothing of a
+child.
 
 The command shows what it will delete and asks for the name of the register;
 without a terminal --yes confirms. Nothing can be brought back. One that was
-killed is begun again and goes on. Files that were taken away are not found, as
-an archive or letters; disk blocks are not overwritten.
+killed is begun again and goes on. Files that were taken away are not found,
+as an archive or letters; disk blocks are not overwritten.
 
 example:
   admissions-retire secondary-2025 --second-place
 
-exit status: 0 deleted; 1 not, or something remains at the second place, and the
-line says so; 2 wrong arguments.
+exit status: 0 deleted; 1 not, or something remains at the second place, and
+the line says so; 2 wrong arguments.
 """
 import argparse
 import os
