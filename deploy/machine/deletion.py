@@ -15,7 +15,7 @@ from office.days import DELETION_NOTICE
 
 from . import files
 from .office_requests import Wrong
-from .registers import Register, stored
+from .registers import NAME, SETTINGS, Register, all_registers, stored
 
 
 def today() -> datetime.date:
@@ -95,6 +95,13 @@ def day_in(found: dict[str, str]) -> datetime.date | None:
         return datetime.date.fromisoformat(found["day"]) if "day" in found else None
     except ValueError as error:
         raise Wrong("NotKept", "the record of a deletion has no day as 2026-01-31") from error
+
+
+def registers_of_record() -> list[Register]:
+    """The registers of this machine by name, and those that were deleted on it."""
+    names = {it.parent.name for it in SETTINGS.glob("*/deleted")}
+    deleted = {it for it in names if NAME.fullmatch(it)}
+    return [Register(it) for it in sorted(deleted | {it.name for it in all_registers()})]
 
 
 def record(register: Register, found: dict[str, str]) -> None:

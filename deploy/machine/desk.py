@@ -1,7 +1,8 @@
-"""Whether a desk answers, by the door that nginx uses, and its site, as a browser would reach
-it."""
+"""Whether a desk answers, by its door; its site, as a browser would reach it; and what its
+application has counted."""
 import contextlib
 import http.client
+import json
 import pathlib
 import socket
 import ssl
@@ -39,3 +40,16 @@ def site_status_of(host: str, seconds: float = 10) -> tuple[int, bytes]:
         answer = http.client.HTTPResponse(secure)
         answer.begin()
         return answer.status, secure.getpeercert(binary_form=True) or b""
+
+
+def counts_of(path: pathlib.Path, seconds: float = 10) -> dict[str, int]:
+    """How many requests the application at a socket has answered since it began, by their status.
+    OSError, HTTPException or ValueError where it does not say."""
+    with socket.socket(socket.AF_UNIX) as it:
+        it.settimeout(seconds)
+        it.connect(str(path))
+        it.sendall(b"GET /counts HTTP/1.1\r\nHost: localhost\r\nConnection: close\r\n\r\n")
+        answer = http.client.HTTPResponse(it)
+        answer.begin()
+        found = json.loads(answer.read())["requests"] if answer.status == 200 else {}
+        return {f"{int(status)}": int(count) for status, count in found.items()}

@@ -1,18 +1,21 @@
 """Reports how the registers of this machine are: file, desk, site, units,
-people, history, copies, disks, certificates.
+people, history, copies, disks, certificates; and which were deleted.
 
-  admissions-status [NAME ..] [--line]
+  admissions-status [NAME ..] [--line | --json | --metrics [--to FILE]]
 
-Without a NAME it reports all registers. With --line it prints one line, for a
-monitoring system. No register is opened. The site is sent a request of nobody,
-which it must refuse. The people and the history are those of the office's
-application, whose files are only read.
+Without a NAME it reports all registers. With --line it prints one line, with
+--json one object, both for a monitoring system; with --metrics numbers in the
+text format of Prometheus, without personal data, which --to writes into FILE in
+one step. No register is opened. The site is sent a request of nobody, which it
+must refuse. The people and the history are those of the office's application,
+whose files are only read.
 
 example:
   admissions-status --line
 
-exit status: 0 all is well; 1 something needs attention; 2 wrong arguments, or
-no such register.
+exit status: 0 all is well, or the numbers are written; 1 something needs
+attention; 2 wrong arguments, or no such register; 3 an office cannot work: its
+register cannot be read, or its server or its site does not answer.
 """
 import argparse
 import collections
@@ -23,15 +26,17 @@ import shutil
 import ssl
 import stat
 import time
+from collections.abc import Callable
 
 from register_files import Refused
 
 from office.days import DELETION_NOTICE
 
-from . import certificates, copies, deletion, files, histories, office_store
+from . import certificates, copies, deletion, files, findings, histories, metrics, office_store
 from .desk import site_status_of, status_of
 from .drill import REPORT as DRILL
-from .registers import REGISTERS, SETTINGS, Register, all_registers, known, stored
+from .findings import Finding, Level, Report
+from .registers import REGISTERS, SETTINGS, Register, known, stored
 from .programs import OFFICE, call, is_booted, tool
 from .second_copy import NONE, REPORT as SECOND, line_of, place_of
 from .settings_copy import REPORT as BESIDE
@@ -45,40 +50,50 @@ OPEN_SECONDS = 3600
 REQUESTS = ("copy", "restore", "deletion-day", "delete")
 JOBS = ("backup", "second-copy", "drill", *(f"office-{it}" for it in REQUESTS))
 State = tuple[bool, str]
+# the part of a register that the office cannot work without, if it cannot be read
+FILE = "register"
+
+
+class Failed(Refused):
+    """What keeps an office from working."""
 
 
 def arguments(reader: argparse.ArgumentParser) -> None:
     said = "the name of a register; all of them if none is given"
     reader.add_argument("names", nargs="*", metavar="NAME", help=said)
-    reader.add_argument("--line", action="store_true", help="one line for a monitoring system")
+    form = reader.add_mutually_exclusive_group()
+    form.add_argument("--line", action="store_true", help="one line for a monitoring system")
+    form.add_argument("--json", action="store_true", help="one object of JSON")
+    form.add_argument("--metrics", action="store_true", help="numbers, as Prometheus reads them")
+    reader.add_argument("--to", metavar="FILE", help="the file for the numbers")
 
 
 def main(given: argparse.Namespace) -> int:
     if os.geteuid() != 0:
         raise Refused("only root can see all of it")
-    registers = [known(it) for it in given.names] or all_registers()
-    if not registers:
-        print(f"no register is set up in {REGISTERS}: type admissions-setup")
-        return 1
+    if given.to and not given.metrics:
+        raise Refused("--to is for --metrics", 2)
+    registers = [known(it) for it in given.names] or deletion.registers_of_record()
     reports = {it.name: report(it) for it in registers}
-    states = [(name, *it) for name, parts in reports.items() for it in parts.items()]
-    bad = [f"{name} {part}: {text}" for name, part, (is_well, text) in states if not is_well]
-    if given.line:
-        count = f"{len(registers)} register{'s' if len(registers) > 1 else ''}"
-        well = f"OK - {count}: {', '.join(reports)}"
-        print(f"ATTENTION - {count}; {'; '.join(bad)}" if bad else well)
+    if given.metrics:
+        metrics.written({it: reports[it.name] for it in registers}, given.to)
+        return 0
+    if given.json:
+        print(findings.as_json(reports))
+    elif not registers:
+        print(f"no register is set up in {REGISTERS}: type admissions-setup")
+    elif given.line:
+        print(findings.as_line(reports))
     else:
-        for name, parts in reports.items():
-            print(name)
-            for part, (is_well, text) in parts.items():
-                print(f"  {'ok       ' if is_well else 'ATTENTION'} {part}: {text}")
-    return 1 if bad else 0
+        print("\n".join(findings.as_text(reports)))
+    return findings.worst_of(reports).status
 
 
-def report(register: Register) -> dict[str, State]:
-    """What is known of a register: for each part whether it is well, and a text."""
-    parts = {
-        "register": file_of,
+def report(register: Register) -> Report:
+    """What is known of a register: for each part how it is, and a text."""
+    is_deleted = not register.file.exists() and deletion.record_place(register).exists()
+    parts = {"deleted": deleted_of} if is_deleted else {
+        FILE: file_of,
         "desk": desk_of,
         "site": site_of,
         "units": units_of,
@@ -91,15 +106,33 @@ def report(register: Register) -> dict[str, State]:
         "certificate": certificate_of,
         "deletion": deletion_of,
     }
-    out = {}
-    for name, part in parts.items():
-        try:
-            out[name] = part(register)
-        except (Refused, OSError) as error:
-            out[name] = False, str(error)
-        except ValueError as error:
-            out[name] = False, f"cannot be read: {error}"
-    return out
+    return {name: finding_of(name, part, register) for name, part in parts.items()}
+
+
+def finding_of(name: str, part: Callable[[Register], State], register: Register) -> Finding:
+    """How a part is."""
+    bad = Level.FAILED if name == FILE else Level.ATTENTION
+    try:
+        is_well, text = part(register)
+        return Finding(Level.OK if is_well else Level.ATTENTION, text)
+    except Failed as error:
+        return Finding(Level.FAILED, str(error))
+    except (Refused, OSError) as error:
+        return Finding(bad, str(error))
+    except ValueError as error:
+        return Finding(bad, f"cannot be read: {error}")
+
+
+def deleted_of(register: Register) -> State:
+    """What the office has deleted, and what of it remains."""
+    found = deletion.record_of(register)
+    if "ended" not in found:
+        how = f"journalctl -u admissions-office-delete@{register.name}"
+        return False, f"its deletion began at {found.get('began')}, and has not ended: {how}"
+    remains = found.get("remains")
+    rest = f"; {remains} at the second place remains: delete it by hand" if remains else ""
+    text = f"on {found['ended']}, its day being {found.get('day')}: {found.get('files')} files"
+    return True, f"{text} of {found.get('bytes')} bytes{rest}"
 
 
 def deletion_of(register: Register) -> State:
@@ -128,10 +161,10 @@ def desk_of(register: Register) -> State:
     if status in (200, 404):
         return True, f"answers in {1000 * (time.monotonic() - before):.0f} ms"
     if status == 503:
-        return False, "answers 503: it refuses everything, and journalctl has the cause"
+        raise Failed("answers 503: it refuses everything, and journalctl has the cause")
     if status is None:
-        return False, f"does not answer: systemctl status admissions@{register.name}"
-    return False, f"answers {status}"
+        raise Failed(f"does not answer: systemctl status admissions@{register.name}")
+    raise Failed(f"answers {status}")
 
 
 def site_of(register: Register) -> State:
@@ -144,14 +177,14 @@ def site_of(register: Register) -> State:
         status, shown = site_status_of(register.host)
     except (OSError, http.client.HTTPException) as error:
         said = f"does not answer on this machine ({error}): systemctl status nginx"
-        return False, f"https://{register.host}/ {said}"
+        raise Failed(f"https://{register.host}/ {said}") from error
     if status == 502:
         unit = f"admissions-office@{register.name}"
         said = f"answers 502, as its application does not run: systemctl status {unit}"
-        return False, f"https://{register.host}/ {said}"
+        raise Failed(f"https://{register.host}/ {said}")
     if status != 401:
         said = f"answers {status}, and not 401, to who has not signed in"
-        return False, f"https://{register.host}/ {said}"
+        raise Failed(f"https://{register.host}/ {said}")
     if shown != first_certificate(register):
         said = "nginx shows another certificate than that of its file: systemctl reload nginx"
         return False, said

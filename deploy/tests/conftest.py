@@ -12,10 +12,12 @@ sys.dont_write_bytecode = True
 ROOT = pathlib.Path(__file__).resolve().parents[2]
 sys.path[:0] = [str(ROOT), str(ROOT / "deploy"), str(ROOT / "tools")]
 
-from machine import registers, second_copy, settings_copy, setup, sites, status  # noqa: E402
+from machine import (  # noqa: E402
+    deletion, registers, second_copy, settings_copy, setup, sites, status,
+)
 
 # the modules that name a folder of the machine by a constant of registers
-WITH_FOLDERS = (registers, second_copy, settings_copy, setup, sites, status)
+WITH_FOLDERS = (deletion, registers, second_copy, settings_copy, setup, sites, status)
 FOLDERS = {"REGISTERS": "lib", "COPIES": "backups", "SETTINGS": "etc",
            "OFFICES": "office"}
 

@@ -11,6 +11,7 @@ import time
 
 import pytest
 from machine import certificates, deletion, office_store, registers, second_copy, status
+from machine.findings import Level
 from office.web.history import SENDS, SETTLED
 from office.web.store import Store
 from office_files import add_people, history, record
@@ -87,7 +88,8 @@ def test_no_second_place_needs_attention_unless_it_is_decided(
     setting = machine / "etc/second-copy"
     if text is not None:
         setting.write_text(text)
-    found, shown = status.report(register)["second copy"]
+    level, shown = status.report(register)["second copy"]
+    found = level is Level.OK
     assert (found, said in shown, str(setting) in shown or "/mnt" in shown) == (is_well, True, True)
 
 
@@ -216,8 +218,8 @@ def test_a_site_that_does_not_answer_as_it_should(
         return answered, b""
 
     monkeypatch.setattr(status, "site_status_of", ask)
-    is_well, text = status.site_of(register)
-    assert (is_well, said in text) == (False, True)
+    found = status.report(register)["site"]
+    assert (found.level, said in found.text) == (Level.FAILED, True)
 
 
 @pytest.mark.parametrize("above", ["utf-8", "latin-1"])
@@ -275,7 +277,8 @@ def test_a_certificate_that_is_none_is_reported_and_so_is_all_else(
     (register.settings / "site.crt").write_bytes(content)
     monkeypatch.setattr(status, "site_status_of", lambda *_: (401, b""))
     found = status.report(register)
-    assert (found["site"][0], said in found["site"][1], len(found)) == (False, True, 12)
+    level, text = found["site"]
+    assert (level, said in text, len(found)) == (Level.ATTENTION, True, 12)
 
 
 ENABLED = [
@@ -410,7 +413,7 @@ def test_people_that_cannot_be_read(
     file.unlink()
     if content is not None:
         file.write_bytes(content)
-    assert status.report(office)["people"] == (False, f"{file.parent}/{said}")
+    assert status.report(office)["people"] == (Level.ATTENTION, f"{file.parent}/{said}")
 
 
 def test_each_part_is_reported(register: registers.Register) -> None:

@@ -16,9 +16,9 @@ from .parts import Config, Parts
 from .people import READ
 from .screens import (
     activity, answers, applications, applications_add, applications_commit, child, copies, draws,
-    figures, gazetteer, help, letter_addresses, letter_sender, letter_templates, letters, lists,
-    lots, new_schools, notes, notices, people, points, preferences, register, restores, schools,
-    season, season_end, signing, subject, trials, why,
+    figures, gazetteer, health, help, letter_addresses, letter_sender, letter_templates, letters,
+    lists, lots, new_schools, notes, notices, people, points, preferences, register, restores,
+    schools, season, season_end, signing, subject, trials, why,
 )
 from .screens import answers_of
 from .screens import flags as flag_screen
@@ -29,6 +29,7 @@ SCREENS = (
     applications_commit, points, gazetteer, child, preferences, why, notes, subject, answers,
     notices, letters, letter_templates, letter_sender, letter_addresses, draws, trials, lots, lists,
     figures, copies, restores, people, activity, season_end, register, help, answers_of,
+    health,
 )
 # the largest body: a workbook, or a file of commands
 MOST_BYTES = 16 << 20

@@ -17,6 +17,7 @@ from . import plain, wording
 from .desk import Away
 from .parts import Parts
 from .people import Person
+from .watch import Watch
 
 COOKIE = "__Host-admissions"
 # where a site is tried without TLS, a browser takes no such cookie
@@ -64,6 +65,11 @@ def needs(right: str) -> Callable[[View], View]:
 def parts() -> Parts:
     """The parts of the application."""
     return cast(Parts, flask.current_app.extensions["office"])
+
+
+def watch() -> Watch:
+    """What is counted."""
+    return cast(Watch, flask.current_app.extensions["watch"])
 
 
 def person() -> Person:
@@ -205,7 +211,8 @@ def see_own_school(code: str) -> None:
 
 
 def headers(response: flask.Response) -> flask.Response:
-    """Gives a response the headers that keep a browser strict."""
+    """Gives a response the headers that keep a browser strict, and counts it."""
+    watch().add(response.status_code)
     for name, value in HEADERS.items():
         response.headers.setdefault(name, value)
     return response
@@ -261,6 +268,7 @@ def on_http(error: HTTPException) -> AnyResponse | tuple[str, int]:
 def guarded(app: flask.Flask) -> None:
     """Guards an application. Each of its views says which right it needs."""
     app.extensions["refusals"] = Refusals()
+    app.extensions["watch"] = Watch()
     app.before_request(see)
     app.after_request(headers)
     app.register_error_handler(Refused, on_refused)
