@@ -2,7 +2,7 @@
 
 They are office/rules.json, the module of the page that has both, and tables of docs/ERRORS.md.
 office/words.json, which is written by hand, has words for each refusal, error and kind of field,
-and for no other.
+and for no other. The names in docs/ERRORS.md have anchors (error_names.py).
 """
 import importlib
 import json
@@ -12,6 +12,7 @@ from collections.abc import Iterator
 from pathlib import Path
 from typing import Any
 
+import error_names
 import source_rules
 
 RULES, WORDS, PAGE = Path("office/rules.json"), Path("office/words.json"), Path("docs/ERRORS.md")
@@ -65,18 +66,25 @@ def texts_of(words: dict[str, Any]) -> Iterator[tuple[str, str, str]]:
             yield from ((group, name, it.get(key, "")) for key in ("means", "do"))
 
 
+def anchor(group: str, name: str) -> str:
+    """The anchor of a refusal or an error."""
+    return f'<a id="{error_names.of_group(group, name)}"></a>'
+
+
 def tables(document: dict[str, Any]) -> dict[str, list[str]]:
     """The rows of each table of the page, by how it begins. office/rules.json must be as it is."""
     sys.path[:0] = [str(Path.cwd())]
     rules = importlib.import_module("office.rules")
     del sys.path[0]
     made = {
-        TITLES[group]: [f"| {name} | {' | '.join(rules.in_words(group, name))} |"
-                        for name in document[group]]
+        TITLES[group]: [
+            f"| {anchor(group, name)}{name} | {' | '.join(rules.in_words(group, name))} |"
+            for name in document[group]]
         for group in ("refusals", "faults")
     }
     made[TITLES["row_faults"]] = [
-        f"| `fault: row N: {name}` | {' | '.join(rules.in_words('row_faults', name))} |"
+        f"| {anchor('row_faults', name)}`fault: row N: {name}` |"
+        f" {' | '.join(rules.in_words('row_faults', name))} |"
         for name in document["row_faults"]
     ]
     made[TITLES["kinds"]] = [
@@ -125,6 +133,8 @@ def failures(texts: dict[tuple[str, str, str], str]) -> Iterator[str]:
             text = text_in(PAGE)
             has_tables = with_tables(text, tables(document)) == text
             yield "" if has_tables else f"{PAGE} has other tables than these words: {advice}"
+            names = error_names.names(source_rules.Rules(texts), document)
+            yield from [f"{PAGE} {it}" for it in error_names.wrong(text, names)] or [""]
     except (source_rules.FormError, ValueError) as error:
         yield str(error)
 
