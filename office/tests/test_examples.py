@@ -1,19 +1,25 @@
-"""The examples of docs/GUARANTEES.md, which show what is not promised of rounds and fills: each is
-played by the program, and must end as the page says.
+"""The examples of docs/GUARANTEES.md, which show what is not promised of rounds and fills, and the
+season of docs/FORMATS.md, which has each command and each request: they are played by the program,
+and must end as the pages say.
 
-All children live at one place, so that lots alone decide how a school ranks them: the lot of a
-child is its position in the ranking. Who holds a place was offered it in a first round, in which
-the others, who applied too late, took no part.
+In the examples of GUARANTEES all children live at one place, so that lots alone decide how a school
+ranks them: the lot of a child is its position in the ranking. Who holds a place was offered it in a
+first round, in which the others, who applied too late, took no part.
 """
+import http.client
 import json
 import pathlib
 import re
+import socket
 import subprocess
-from collections.abc import Mapping, Sequence
+from collections.abc import Iterator, Mapping, Sequence
 from typing import Any
 
 import pytest
 from conftest import PROGRAM, ROOT, Command, apply, child, do, make, school
+from served import served
+
+from office.rules import RULES
 
 PAGE = (ROOT / "docs" / "GUARANTEES.md").read_text("utf-8")
 NUMBERS = {"Ann": 1, "Bo": 2, "Cy": 3, "Di": 4}
@@ -169,3 +175,129 @@ def test_each_column_of_the_page_is_played() -> None:
     found = [(it, title) for it in numbers for title in Example(it).children[0]
              if title not in given]
     assert found == [(it[0], it[1]) for it in COLUMNS]
+
+
+# the season of FORMATS: what is typed or sent is at the left margin, what is printed is indented
+
+FORMATS = (ROOT / "docs" / "FORMATS.md").read_text("utf-8")
+BLOCK = re.compile(r"(?ms)^```text\n(.*?)^```$")
+STATUS = re.compile(r"\? ([0-9])")
+
+
+class Exchange:
+    """What is typed or sent, its first line apart, what follows, and the exit status."""
+
+    def __init__(self, first: str) -> None:
+        self.first = first
+        self.given: list[str] = []
+        self.printed: list[str] = []
+        self.status = 0
+
+    @property
+    def text(self) -> str:
+        """What is printed: lines, or a document of JSON that the page breaks."""
+        is_typed = self.first.startswith("$ ")
+        if " show " in self.first or not is_typed and self.printed[0].startswith("{"):
+            return "".join(it.strip() for it in self.printed) + "\n" * is_typed
+        return "".join(f"{it}\n" for it in self.printed)
+
+
+def blocks(heading: str) -> list[str]:
+    """The blocks of a part of the page."""
+    found = BLOCK.findall(FORMATS.split(f"\n### {heading}\n")[1].partition("\n## ")[0]
+                          .partition("\n### ")[0])
+    assert found
+    return found
+
+
+def exchanges(text: str, begins: str) -> list[Exchange]:
+    """The exchanges of a block, each of which begins with a line of this form."""
+    found: list[Exchange] = []
+    for line in text.splitlines():
+        if re.match(begins, line):
+            found.append(Exchange(line))
+        elif end := STATUS.fullmatch(line):
+            found[-1].status = int(end[1])
+        elif line.startswith("  "):
+            found[-1].printed.append(line[2:])
+        else:
+            found[-1].given.append(line)
+    return found
+
+
+TYPED = [it for text in blocks("Commands and what is printed") for it in exchanges(text, r"\$ ")]
+*_SENT, WHOLE = blocks("Requests and responses")
+SENT = [it for text in _SENT for it in exchanges(text, "(GET|POST) /")]
+
+
+@pytest.fixture(name="played", scope="module")
+def played_fixture(tmp_path_factory: pytest.TempPathFactory) -> Iterator[pathlib.Path]:
+    """The register of the page after its commands, each of which printed what the page says."""
+    room = tmp_path_factory.mktemp("formats")
+    (room / "admissions").symlink_to(pathlib.Path(PROGRAM).resolve())
+    for it in TYPED:
+        ran = subprocess.run(
+            ["bash", "-c", it.first.removeprefix("$ ").replace("admissions ", "./admissions ", 1)],
+            cwd=room, input="".join(f"{line}\n" for line in it.given), stdout=subprocess.PIPE,
+            stderr=subprocess.STDOUT, text=True, check=False)
+        assert (ran.stdout, ran.returncode) == (it.text, it.status), it.first
+    yield room / "reg.db"
+
+
+def bytes_of(text: str) -> tuple[bytes, bytes]:
+    """The bytes of a request that is shown in whole, and of its response: of each the head, an
+    empty line and the body.
+    """
+    lines = text.splitlines()
+    at = next(number for number, line in enumerate(lines) if line.startswith("  "))
+    asked = "\r\n".join(lines[:at])
+    answered = "\r\n".join(line.removeprefix("  ") for line in lines[at:])
+    return asked.encode(), answered.encode()
+
+
+def test_the_requests_of_the_page_are_answered_as_it_says(played: pathlib.Path) -> None:
+    """The commands before them were, by the fixture."""
+    shown = subprocess.run([PROGRAM, "show", played], check=True, capture_output=True, text=True)
+    with served(played) as (address, _):
+        place = address.removeprefix("http://")
+        for it in SENT:
+            conn = http.client.HTTPConnection(place)
+            method, target = it.first.split()
+            sent = "".join(f"{line}\n" for line in it.given)
+            conn.request(method, target, sent or None)
+            found = conn.getresponse()
+            body = found.read().decode()
+            status, *it.printed = it.printed
+            assert f"{found.status} {found.reason}" == status, it.first
+            if it.text.endswith(".."):
+                assert body.startswith(it.text[:-2]) and f"{body}\n" == shown.stdout, it.first
+            else:
+                assert body == it.text, it.first
+        asked, answered = bytes_of(WHOLE)
+        with socket.create_connection(("127.0.0.1", int(place.partition(":")[2])), 60) as one:
+            one.sendall(asked)
+            assert b"".join(iter(lambda: one.recv(4096), b"")) == answered
+
+
+def test_the_season_of_the_page_has_each_command_error_and_request() -> None:
+    """Those of the rules, and those of its own tables."""
+    lines = [json.loads(line) for it in TYPED if " do " in it.first for line in it.given
+             if line.endswith("}")]
+    assert {it["cmd"] for it in lines} - {"grant"} == set(RULES["commands"])
+    names = {json.loads(line).get("name") for it in TYPED if " do " in it.first
+             for line in it.printed}
+    assert set(RULES["faults"]) <= names
+    typed = {it.first.split()[2] for it in TYPED if it.first.startswith("$ admissions ")}
+    assert typed | {"serve"} == set(re.findall(r"(?m)admissions ([a-z-]+) FILE", FORMATS))
+    routes = re.findall(r"(?m)^\| ((?:GET|POST) `[^`]+`) \|", FORMATS)
+    forms = [re.sub(r"\{\w+\}", "[A-Z0-9]+", it.replace("`", "")) for it in routes]
+    assert len(forms) == 11
+    for form in forms:
+        assert any(re.fullmatch(form, it.first) for it in SENT), form
+
+
+def test_the_refusals_of_the_page_have_their_numbers() -> None:
+    text = FORMATS.split("\nRefusals by number: ")[1].partition("\n\n")[0]
+    found = re.findall(r"([0-9]+)\s\[(\w+)\]\(ERRORS\.md#(\w+)\)", text)
+    assert found == [(str(number), name, name.lower())
+                     for name, number in RULES["refusals"].items()]
