@@ -15,6 +15,7 @@ from draw_site import (
 from register_files import Refused
 
 from office.web.draws import Draws
+from office.web.screens import draws as draws_screen
 
 # what only the office may see of a draw: names, what came of it, and why it does not go on
 HIDDEN = ("Child 1", "new place", "keeps its place", "moves", "Audit of", "rehears", "no answer")
@@ -39,6 +40,37 @@ def seals(sup: Browser, number: int) -> Any:
     """The supervisor seals the lots on the screen."""
     fields = Fields(sup.get(f"/lots/{number}/seal").text).values
     return sup.post(f"/lots/{number}/seal", {it: fields[it] for it in ("seen", "digest")})
+
+
+def test_a_step_that_ends_while_its_page_is_made_was_not_cut_off(
+    small: Machine, monkeypatch: pytest.MonkeyPatch,
+) -> None:
+    """The page would say that nothing runs, of a draw that it has read before the end."""
+    with small.office() as office:
+        number = begun(office)
+        following, go_on = office.parts.following, threading.Event()
+        monkeypatch.setattr(following, "wait", 0.0)
+        real_copy, real_outcome = Draws.copy, draws_screen.outcome_of
+
+        def copy(*given: Any) -> Any:
+            assert go_on.wait(60)
+            return real_copy(*given)
+
+        def outcome_of(*given: Any) -> Any:
+            work = following.under_way()
+            go_on.set()
+            assert work is None or work.is_over.wait(60)
+            return real_outcome(*given)
+
+        monkeypatch.setattr(Draws, "copy", copy)
+        hal = Person(office, HAL.name, "head")
+        assert hal.step(number, "close").status_code == 303
+        monkeypatch.setattr(draws_screen, "outcome_of", outcome_of)
+        page = hal.browser.get(f"/draws/{number}").text
+        assert 'id="work"' in page and 'id="cut-off"' not in page
+        assert following.under_way() is None
+        page = hal.browser.get(f"/draws/{number}").text
+        assert "the supervisor draws the lots" in page and 'id="cut-off"' not in page
 
 
 def sees_nothing(sup: Browser, number: int) -> None:

@@ -13,6 +13,7 @@ from office.model import Register
 
 from .. import draws_again, draws_checks, draws_outcome, explanations, numbers, restores_terms
 from ..draws import held_in, next_state
+from ..draws_following import Work
 from ..draws_lots import sheet_of
 from ..draws_second import alone_since, made_since
 from ..draws_terms import (
@@ -121,20 +122,26 @@ def found_draw(number: int) -> Draw:
         flask.abort(404)
 
 
+def work_on(number: int) -> Work | None:
+    """What runs now of a draw, if anything does."""
+    found = parts().following.under_way()
+    return found if found and found.number == number else None
+
+
 def draw_page(number: int, reason: str = "", status: int = 200) -> Answer:
     """A draw with its steps."""
+    # (before the draw is read: what ends meanwhile was not cut off)
+    work = work_on(number)
     draw, (register, trouble) = found_draw(number), register_now()
     standing, state = standing_of(draw, register), state_to_come(draw, register)
     step = next((it for it in STEPS if it.state == state), None)
     checks = checks_of(draw, register)
     agreed = draws_checks.agreed_to(checks)
     button, outcome = button_of(draw, state, standing), outcome_of(draw, register)
-    following = parts().following
-    work = following.under_way()
-    if work and work.number != number:
-        work = None
+    work = work or work_on(number)
     # (who saw the page before the end of a step reads here why it was not done)
-    if not work and not reason and not draw.trouble and (said := following.refused(number)):
+    if not work and not reason and not draw.trouble and (
+            said := parts().following.refused(number)):
         reason = f"The last step was not done: {sentence(said)}"
     # (while something runs the register may be away for some seconds)
     trouble = "" if work else trouble
