@@ -526,7 +526,8 @@ def test_rows_that_the_register_has(office: Site, screens: Screens) -> None:
     assert "Store 1 application" in screens.see("commit/").buttons
     assert screens.store().status_code == 303
     assert has(office.parts.desk.now()) == expected(GOOD[:4])
-    assert imports(office)[1]["import"].splitlines()[1:] == [",".join(GOOD[3])]
+    sent = imports(office)[1]["import"].splitlines()[1:]
+    assert [it.split(",")[:len(GOOD[3])] for it in sent] == [list(GOOD[3])]
     screens.add(("c.csv", lines(GOOD[:2])))
     assert "Take 2 rows out of the table" in screens.see("commit/").buttons
     assert screens.store().status_code == 303 and len(imports(office)) == 2
