@@ -7,7 +7,9 @@ from collections.abc import Iterator
 import pytest
 from applications import Site, office_over, town
 
-from office.web import app
+from office import rules
+from office.web import app, wording
+from office.web.people import Person
 from office.web.screens import help as help_screen
 
 
@@ -85,8 +87,31 @@ def test_the_help_has_no_picture_that_the_site_would_not_serve(page: Text) -> No
 
 
 def test_other_parts_of_the_handbook_are_not_in_the_help() -> None:
-    book = ("# A\n\n## Before\n\nno\n\n## The office's application\n\nyes\n\n![A](b.png)\n\n"
-            "### In it\n\nyes too\n\n## Other\n\nno\n\n## The screen Register\n\nlast\n")
+    book = ("# A\n\nno [a](B.md)\n\n## The application\n\n[yes](#in-it) and [here](C.md#d)\n\n"
+            "![A](b.png)\n\n"
+            "### In it\n\n[why](ERRORS.md#refusals)\n\n## By commands\n\nno\n\n## Other\n\nno\n")
     assert help_screen.part_of(book) == (
-        "## The office's application\n\nyes\n\n### In it\n\nyes too\n\n"
-        "## The screen Register\n\nlast\n")
+        "## The application\n\n[yes](#in-it) and here\n\n"
+        "### In it\n\n[why](#what-the-register-refuses)\n\n")
+
+
+def test_each_refusal_is_explained_where_its_name_leads(page: Text) -> None:
+    assert rules.RULES["refusals"]
+    for name in rules.RULES["refusals"]:
+        assert wording.by_refusals(f"It is not done ({name}).") == [
+            ("It is not done (", False), (name, True), (").", False)]
+        assert name.lower() in page.targets
+        assert f"{name}\n{rules.in_words('refusals', name)[0]}" in page.text
+
+
+def test_what_is_no_refusal_leads_nowhere() -> None:
+    for text in ("TooSoon (NotJson) (toosoon)", ""):
+        assert wording.by_refusals(text) == ([(text, False)] if text else [])
+
+
+def test_a_refused_command_leads_from_its_child_to_the_help(office: Site) -> None:
+    sent = office.parts.desk.send(
+        Person("bo", "officer"), {"cmd": "accept", "child": 1, "school": "A"})
+    assert "(NotOffered)" in sent.said
+    child = office.browser("officer").get("/children/1").get_data(as_text=True)
+    assert '(<a href="/help#notoffered">NotOffered</a>)' in child

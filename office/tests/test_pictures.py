@@ -14,6 +14,8 @@ from PIL import Image
 
 FOLDER = ROOT / "docs" / "pictures"
 IMAGE = re.compile(r"!\[([^\]]*)\]\(([^)]+)\)")
+# what the words beside a picture repeat of it
+QUOTED, NUMBER = re.compile(r"(?<!\w)'([^']+)'(?!\w)"), re.compile(r"\b[0-9][0-9,]*\b(?<!,)")
 HERE = pathlib.Path(__file__).resolve().parent
 
 
@@ -44,11 +46,26 @@ def test_a_waiting_list_shows_how_children_rank(now: dict[str, str]) -> None:
     assert -1 not in places and places == sorted(places), places
 
 
-def test_a_picture_of_the_first_page_says_what_is_seen() -> None:
-    """For whoever does not see it: the words beside it say what it shows, and not its name alone.
+def shown() -> list[tuple[str, pathlib.Path]]:
+    """The pictures of all pages, each with the words beside it."""
+    pages = [ROOT / "README.md", *sorted((ROOT / "docs").glob("*.md"))]
+    return [(said, page.parent / target) for page in pages
+            for said, target in IMAGE.findall(page.read_text("utf-8"))]
+
+
+def test_each_picture_is_on_a_page() -> None:
+    """And each page finds its pictures."""
+    assert {it.resolve() for _, it in shown()} == {it.resolve() for it in FOLDER.glob("*.png")}
+    first = [target for _, target in IMAGE.findall((ROOT / "README.md").read_text("utf-8"))]
+    assert first == ["docs/pictures/start.png", "docs/pictures/letter.png"]
+
+
+def test_the_words_beside_a_picture_say_what_is_seen() -> None:
+    """For whoever does not see it: more than its name, and each text in quotes and each number is
+    on the picture.
     """
-    shown = IMAGE.findall((ROOT / "README.md").read_text("utf-8"))
-    assert [target for _, target in shown] == [
-        "docs/pictures/start.png", "docs/pictures/letter.png"]
-    for said, target in shown:
-        assert len(said.split()) >= 8, target
+    for said, picture in shown():
+        assert len(said.split()) >= 8, picture
+        words = " ".join(str(Image.open(picture).info.get("Seen")).split())
+        for it in QUOTED.findall(said) + NUMBER.findall(said):
+            assert re.search(rf"(?<!\w){re.escape(it)}(?!\w)", words), (picture.name, it)

@@ -83,6 +83,7 @@ def create(config: Config) -> flask.Flask:
     app.jinja_env.filters["day"] = day
     app.jinja_env.filters["moment"] = wording.moment
     app.jinja_env.filters["sentence"] = wording.sentence
+    app.jinja_env.filters["by_refusals"] = wording.by_refusals
     app.jinja_env.filters["flag_words"] = flags.flag_words
     app.jinja_env.filters["visible"] = texts.visible
     app.jinja_env.globals["count"] = texts.count

@@ -1,9 +1,10 @@
 """What the register says, in an office's words: places, deadlines, classes, states and days."""
 import dataclasses
 import datetime
+import re
 from collections.abc import Mapping
 
-from office import criteria, days, model
+from office import criteria, days, model, rules
 from office.model import Draw, Place, Preference, Register
 from office.days import NOTICE
 
@@ -12,6 +13,8 @@ FOREVER = "This cannot be undone: the school is not offered to the child again."
 NOT_A_DAY = "a day as 17 March 2025 or 17/3/2025"
 WRONG_DECLINE = ("A decline of the wrong child is put right only by a restore of a copy from before"
                  " it, by two persons, and best before the next draw: see Help.")
+# the name of a refusal, as it ends the words of an answer
+REFUSAL = re.compile(rf"(?<=\()({'|'.join(rules.RULES['refusals'])})(?=\))")
 # what came of a school of a child's list
 STATES = {
     model.LEFT: "declined, lapsed or left", model.BEFORE: "before the first round",
@@ -24,6 +27,11 @@ def sentence(text: str) -> str:
     """A text that begins with a capital and ends with a stop."""
     text = text[:1].upper() + text[1:]
     return text if text.endswith((".", "?", "!")) or not text else f"{text}."
+
+
+def by_refusals(text: str) -> list[tuple[str, bool]]:
+    """The parts of a text, and whether each is the name of a refusal, which Help explains."""
+    return [(it, at % 2 == 1) for at, it in enumerate(REFUSAL.split(text)) if it]
 
 
 def weekday(day: datetime.date) -> str:
