@@ -21,20 +21,33 @@ example:
 exit status: 0 deleted; 1 not, and the line says why; 2 wrong arguments.
 """
 import argparse
+import dataclasses
 import datetime
 import os
 import pathlib
 import shutil
 import stat
 from collections.abc import Callable, Iterable, Mapping, Sequence
-from types import MappingProxyType
 
 from register_files import Refused
 
 from . import deletion, files, office_requests, second_copy
 from .office_requests import Result, Wrong
-from .programs import call, is_booted, tool
+from .programs import call, tool
 from .registers import SETTINGS, Register, known
+
+
+@dataclasses.dataclass(frozen=True)
+class Whole:
+    """What a deletion of the whole register does beyond that of the office: how all that uses it is
+    stopped, which more folders are emptied, what the record says too, and what remains at the
+    second place.
+    """
+
+    stop: Callable[[Register], None]
+    folders: Sequence[pathlib.Path]
+    about: Mapping[str, str]
+    remaining: Callable[[Register], str]
 
 
 def arguments(reader: argparse.ArgumentParser) -> None:
@@ -63,20 +76,13 @@ def deleted(register: Register, number: int) -> Result:
         raise Wrong("NotDeleted", f"the register is not wholly deleted: {error}") from error
 
 
-def delete(
-    register: Register,
-    day: datetime.date,
-    more: Sequence[pathlib.Path] = (),
-    about: Mapping[str, str] = MappingProxyType({}),
-    remaining: Callable[[Register], str] | None = None,
-) -> Result:
-    """Stops what uses the files, and deletes them, with those in more folders. The record is there
-    before the first is gone, and is whole after the last; the day is forgotten then, so that no
-    other register has it. `about` is said in the record too, and `remaining` returns what is left
-    at the second place.
+def delete(register: Register, day: datetime.date, whole: Whole | None = None) -> Result:
+    """Stops what uses the files, and deletes them. The record is there before the first is gone,
+    and is whole after the last; the day is forgotten then, so that no other register has it.
     """
-    stop(register)
-    folders = (register.folder, register.copies, *more)
+    (whole.stop if whole else stop)(register)
+    folders = (register.folder, register.copies, *(whole.folders if whole else ()))
+    about = whole.about if whole else {}
     found = deletion.record_of(register)
     # (one of this day that has ended is of a command that was killed before it forgot the day)
     if found.get("day") != day.isoformat():
@@ -85,7 +91,7 @@ def delete(
         deletion.record(register, {**found, **about})
     for folder in folders:
         empty(folder)
-    remains = (remaining or second_place)(register)
+    remains = (whole.remaining if whole else second_place)(register)
     found = {**found, **about, "ended": now(), "remains": remains}
     deletion.record(register, found)
     deletion.forget(register)
@@ -99,10 +105,8 @@ def now() -> str:
 
 def stop(register: Register) -> None:
     """Stops for good what uses the files of a register: a backup that ends, or is stopped, starts
-    the second copy and the desk, so these follow it. Where systemd does not run, nothing does.
+    the second copy and the desk, so these follow it.
     """
-    if not is_booted():
-        return
     name, systemctl = register.name, tool("systemctl", "systemd")
     timers = [f"admissions-{it}@{name}.timer" for it in ("backup", "drill")]
     call(systemctl, "disable", "--now", *timers)

@@ -127,7 +127,6 @@ def confirm(register: Register, is_yes: bool) -> None:
 def retired(register: Register, given: argparse.Namespace) -> dict[str, str]:
     """Deletes all of it, the settings last, and returns the record."""
     files.folder(register.settings, 0o755)
-    stop_application(register)
     before = deletion.record_of(register)
     # (what is left of an earlier deletion is deleted under its day)
     is_left = is_begun(before) or not register.file.exists()
@@ -138,7 +137,8 @@ def retired(register: Register, given: argparse.Namespace) -> dict[str, str]:
         return at_second_place(register) if given.second_place else (
             office_delete.second_place(register))
 
-    found = office_delete.delete(register, day, folders_of(register), about, remaining)
+    found = office_delete.delete(
+        register, day, office_delete.Whole(stop, folders_of(register), about, remaining))
     for it in (register.folder, register.copies, *folders_of(register)):
         if it.is_dir():
             it.rmdir()
@@ -153,10 +153,13 @@ def retired(register: Register, given: argparse.Namespace) -> dict[str, str]:
     return found
 
 
-def stop_application(register: Register) -> None:
-    """Stops the application for good: it keeps its files open."""
+def stop(register: Register) -> None:
+    """Stops all that uses the files of a register for good: first its application, which keeps
+    them open and asks for more. Where systemd does not run, nothing does.
+    """
     if is_booted():
         call(tool("systemctl", "systemd"), "disable", "--now", *office_units(register))
+        office_delete.stop(register)
 
 
 def remove_site(register: Register) -> None:

@@ -173,8 +173,8 @@ def register_fixture(
 
     for module in (retire, office_delete):
         monkeypatch.setattr(module, "call", called)
-        monkeypatch.setattr(module, "is_booted", lambda: True)
         monkeypatch.setattr(module, "tool", lambda name, _: name)
+    monkeypatch.setattr(retire, "is_booted", lambda: True)
     return registers.Register("secondary-2025")
 
 
