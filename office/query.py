@@ -138,8 +138,9 @@ def main(given: argparse.Namespace) -> int:
         raise Refused(f"{given.page} is there already: nothing was written; choose another name")
     given.day = given.day or datetime.date.today()
     if given.name is None and not given.workbook:
-        put("".join(f"{name:16} {it.purpose}\n" for name, it in worklists.WORKLISTS.items())
-            + f"{subject_query.NAME:16} {subject_query.PURPOSE}\n")
+        names = {name: it.purpose for name, it in worklists.WORKLISTS.items()}
+        names[subject_query.NAME] = subject_query.PURPOSE
+        put("".join(f"{name:16} {purpose}\n" for name, purpose in sorted(names.items())))
         return 0
     if given.workbook and os.path.lexists(given.workbook):
         raise Refused(f"{given.workbook} is there already: nothing was written; choose another"
