@@ -22,6 +22,9 @@ from register_files import Refused
 from .registers import SETTINGS, Register, named
 from .sites import share
 
+# where systemd's journal takes structured entries
+JOURNAL = "/run/systemd/journal/socket"
+
 
 def arguments(reader: argparse.ArgumentParser) -> None:
     reader.add_argument("name", metavar="NAME", help="the name of the register")
@@ -45,4 +48,5 @@ def config_of(register: Register) -> parts.Config:
         register.office_copies,
         share("site"),
         name.read_text(encoding="utf-8").strip() if name.exists() else "",
+        JOURNAL,
     )

@@ -92,6 +92,10 @@ def now() -> str:
     return datetime.datetime.now(datetime.timezone.utc).isoformat(timespec="milliseconds")
 
 
+def do_nothing() -> None:
+    """Nobody else is told."""
+
+
 class History:
     """The history of one application, which alone has it open."""
 
@@ -112,6 +116,9 @@ class History:
         self.told: set[str] = set()
         self.restores: list[tuple[int, int]] = []
         self.before, self.length = FIRST, 0
+        # what is done when an entry was added; and when the file is another one
+        self.added: Callable[[], None] = do_nothing
+        self.replaced: Callable[[], None] = do_nothing
         try:
             self.load()
         except BaseException:
@@ -161,6 +168,7 @@ class History:
                               " sent without it") from error
             self.take(entry)
             self.before, self.length = digest(line), self.length + len(line)
+            self.added()
             return entry
 
     def write(self, line: bytes) -> None:
@@ -209,6 +217,8 @@ class History:
             self.restores = []
             self.take(entry)
             self.before, self.length = digest(line), len(line)
+            self.replaced()
+            self.added()
             return entry
 
     def open_requests(self) -> list[Entry]:

@@ -5,6 +5,7 @@ import pathlib
 
 from office import senders
 
+from . import journal
 from .copies import Copies
 from .copy_tests import CopyTests
 from .desk import Desk
@@ -24,7 +25,7 @@ from .trials import Trials
 class Config:
     """Where an application is: the register's name; the address at which browsers find it, without
     a path; the socket of the desk; the folder that is its own; that of the copies; that of the
-    site's files; and the authority's name.
+    site's files; the authority's name; and the socket of the machine's journal, or "" for none.
     """
 
     name: str
@@ -34,6 +35,7 @@ class Config:
     copies: pathlib.Path
     site: pathlib.Path
     authority: str = ""
+    journal: str = ""
 
 
 class Parts:
@@ -43,6 +45,9 @@ class Parts:
         self.config = config
         config.folder.mkdir(mode=0o700, exist_ok=True)
         self.history = History(str(config.folder / "history.jsonl"))
+        if config.journal:
+            self.tell(journal.Journal(
+                config.name, config.folder / "journal", journal.sender(config.journal)))
         self.store = Store(str(config.folder / "office.db"))
         self.people = People(self.store)
         self.notes = Notes(self.store, self.history)
@@ -63,6 +68,12 @@ class Parts:
         self.restores.closed_by_another = self.end.closed
         self.desk.closed = lambda: (
             self.end.closed() or self.draws.closed() or self.restores.closed())
+
+    def tell(self, told: journal.Journal) -> None:
+        """Tells the machine's journal who does what."""
+        record = self.history
+        told.begin(record.entries)
+        record.added, record.replaced = lambda: told.go_on(record.entries), told.anew
 
     def closed_for(self) -> tuple[str, str, int] | None:
         """What has closed the register for all others: in words, its screen and its number there;
