@@ -58,6 +58,11 @@ def main(given: argparse.Namespace) -> int:
     since, found = moment(given.since), record(given)
     if given.rows:
         pathlib.Path(given.rows).mkdir()
+    return listed(found, since, given.rows)
+
+
+def listed(found: histories.Record, since: datetime.datetime, rows: str | None) -> int:
+    """Prints the commands since a moment, and names what is none. Returns the exit status."""
     count = printed = 0
     undone = found.undone()
     for number, it in found.requests.items():
@@ -70,7 +75,7 @@ def main(given: argparse.Namespace) -> int:
         elif it.command is None and not it.is_import:
             count += report(f"{where}, which was done: the history has its begin, send it by hand")
         elif it.command is None:
-            written = kept(it.rows, given.rows, printed)
+            written = kept(it.rows, rows, printed)
             count += report(
                 f"{where}, which was done after {printed} of the printed commands: import its rows"
                 f" there{written}"

@@ -4,6 +4,7 @@ its timers.
   admissions-setup [NAME] [--phase PHASE --year YEAR] [--holiday DAY]..
     [--site HOST] [--authority TEXT] [--user USER --role ROLE]
   admissions-setup [NAME] --copy FILE
+  admissions-setup NAME --standby [PLACE]
   admissions-setup NAME --user USER [--role ROLE] [--new-password]
   admissions-setup NAME --remove USER | --users
   admissions-setup NAME --accounts FILE
@@ -16,13 +17,17 @@ second time. Each register has a NAME, such as secondary-2025, a HOST of its
 own, such as secondary.admissions.example, and people of its own. With --copy
 the register is made from a copy, which has its own phase, year and holidays,
 and people, settings and history from what the nightly backup left beside it.
-The third form adds a person, changes the role of one, draws another password,
+With --standby another machine goes on with a register of one that is lost: what
+PLACE has, or the second place that /etc/admissions/second-copy names, is
+fetched, the register is made from the copy that was made last, and the commands
+that were sent since, as far as the history there has them, are printed, to be
+sent again. The fourth form adds a person, changes the role of one, draws another password,
 removes a person, or lists them. A password is drawn, printed once, and changed
 by whoever signs in with it. The people of a register are otherwise the office's
 own task, on the screen People of the site: what is done here is in the history
-too. The fourth form signs people in by the accounts of the authority over
+too. The fifth form signs people in by the accounts of the authority over
 OpenID Connect: FILE has title, issuer, client, secret and claim as JSON, and
-the word none in place of FILE ends that. The fifth form replaces the holidays
+the word none in place of FILE ends that. The sixth form replaces the holidays
 of a register that is still empty. The last form makes all sites again, after a
 change of /etc/nginx/sites-available/admissions. A change of what is there is
 shown, and is done after a yes on the terminal, or with --yes. --new-password
@@ -47,7 +52,7 @@ from office import model
 from office.libraries import PACKAGES
 from register_files import Refused
 
-from . import answers, certificates, files, holidays, people, settings_copy, sites
+from . import answers, certificates, files, holidays, people, settings_copy, sites, standby
 from .answers import ask, confirm
 from .desk import status_of
 from .programs import OFFICE, USER, call, is_booted, program, tool
@@ -94,6 +99,13 @@ def arguments(reader: argparse.ArgumentParser) -> None:
         metavar="FILE",
         help="begin with this copy of a register, and with what is beside it,"
         " in place of a new one",
+    )
+    add(
+        "--standby",
+        nargs="?",
+        const="",
+        metavar="PLACE",
+        help="take the register over from the second place, or from this one",
     )
     add("--site", metavar="HOST", help="the site's name, by which browsers find this machine")
     add("--user", help="who may sign in: a name or a mail address, in small letters")
@@ -143,6 +155,13 @@ def main(given: argparse.Namespace) -> int:
         if given.accounts:
             return set_accounts(register, given.accounts)
         return list_users(register) if given.users else remove_user(register, given)
+    if given.standby is not None:
+        return standby.take_over(given, lambda: set_up_as_given(given))
+    return set_up_as_given(given)
+
+
+def set_up_as_given(given: argparse.Namespace) -> int:
+    """Makes what is missing of a register."""
     checked(given)
     register = completed(given)
     changes = confirmed(register, given)
@@ -188,7 +207,8 @@ def report(lines: typing.Iterable[str]) -> None:
 
 def see_one_command(given: argparse.Namespace) -> None:
     """Refuses the options of two commands together, of which one would not be done."""
-    options = [name for name, value in vars(given).items() if value and name not in ("name", "yes")]
+    options = [name for name, value in vars(given).items()
+               if value not in (None, False, []) and name not in ("name", "yes")]
     for command in ("sites", "users", "remove", "accounts"):
         if command in options and len(options) > 1:
             other = next(it for it in options if it != command)

@@ -1,0 +1,146 @@
+"""A second machine that takes over: what it fetches, from which copy it goes on, and what it prints
+to be sent again."""
+import argparse
+import datetime
+import getpass
+import os
+import pathlib
+
+import pytest
+from machine import registers, setup, standby
+from office.web.history import ANSWER, SENDS, History
+from register_files import Refused
+
+NAME = "secondary-2025"
+COPIES = ("nightly-2025-03-01T023000.db", "nightly-000002-2025-03-02T023000.db",
+          "nightly-000010-2025-03-03T023000.db")
+
+
+@pytest.fixture(name="place")
+def place_fixture(tmp_path: pathlib.Path, monkeypatch: pytest.MonkeyPatch) -> pathlib.Path:
+    """A second place with three copies, of which the one with the greatest number was made last."""
+    me = getpass.getuser()
+    monkeypatch.setattr(standby, "USER", me)
+    place = tmp_path / "place"
+    (place / NAME / "history").mkdir(parents=True)
+    for name in COPIES:
+        (place / NAME / name).write_text(name, encoding="ascii")
+    for name in (COPIES[2].replace(".db", ".tar"), "second-copy.report", "history/history-1-a.gz"):
+        (place / NAME / name).write_text("x", encoding="ascii")
+    (place / NAME / "nightly-000011-2025-03-04T023000.db").symlink_to("/etc/hostname")
+    return place
+
+
+def test_what_is_fetched(
+    place: pathlib.Path, machine: pathlib.Path, write_as_me: None,
+    capsys: pytest.CaptureFixture[str],
+) -> None:
+    """Copies, archives and the history; no report, and nothing through a link."""
+    copy = standby.fetch(NAME, f"{place}/")
+    assert copy == machine / "backups" / NAME / COPIES[2]
+    assert copy.read_text(encoding="ascii") == COPIES[2]
+    found = {str(it.relative_to(copy.parent)): it.stat().st_mode & 0o777
+             for it in copy.parent.rglob("*")}
+    assert found == {
+        **dict.fromkeys(COPIES, 0o600), COPIES[2].replace(".db", ".tar"): 0o600,
+        "history": 0o700, "history/history-1-a.gz": 0o600}
+    assert f"fetched 3 copies from {place}/{NAME}, the last of them {COPIES[2]}" in (
+        capsys.readouterr().out)
+
+
+def test_the_place_of_the_settings(
+    place: pathlib.Path, machine: pathlib.Path, write_as_me: None
+) -> None:
+    (machine / "etc/second-copy").write_text(f"{place}\n", encoding="utf-8")
+    assert standby.fetch(NAME, "").name == COPIES[2]
+
+
+@pytest.mark.parametrize("line, status", [("none\n", 2), ("", 2)])
+def test_no_place(line: str, status: int, machine: pathlib.Path) -> None:
+    (machine / "etc/second-copy").write_text(line, encoding="utf-8")
+    with pytest.raises(Refused, match="^name the second place, here or in ") as found:
+        standby.fetch(NAME, "")
+    assert found.value.status == status
+
+
+def test_a_machine_that_has_the_register_does_not_take_over(
+    register: registers.Register, place: pathlib.Path, monkeypatch: pytest.MonkeyPatch
+) -> None:
+    monkeypatch.setattr(registers, "is_blank", lambda _: False)
+    with pytest.raises(Refused, match="is there already, so this machine does not take over"):
+        standby.fetch(NAME, str(place))
+    assert not list(register.copies.iterdir())
+
+
+def test_a_place_without_the_register(
+    place: pathlib.Path, machine: pathlib.Path, write_as_me: None
+) -> None:
+    (place / "primary-2026").mkdir()
+    with pytest.raises(Refused, match="has no copy of a register"):
+        standby.fetch("primary-2026", str(place))
+    with pytest.raises(Refused, match="^rsync: .*No such file or directory"):
+        standby.fetch("primary-2027", str(place))
+
+
+@pytest.mark.parametrize(
+    "given",
+    [["--standby"], [NAME, "--standby", "--copy", "x"], [NAME, "--standby", "--year", "2025"],
+     [NAME, "--standby", "--user", "jane"], [NAME, "--standby", "/x", "--holiday", "2025-01-01"],
+     [NAME, "--standby=-x"], [NAME, "--standby", "--sites"]],
+)
+def test_arguments_that_do_not_fit(given: list[str], monkeypatch: pytest.MonkeyPatch) -> None:
+    reader = argparse.ArgumentParser()
+    setup.arguments(reader)
+    monkeypatch.setattr(os, "geteuid", lambda: 0)
+    monkeypatch.setattr(setup, "tool", lambda *_: "")
+    with pytest.raises(Refused) as found:
+        setup.main(reader.parse_args(given))
+    assert found.value.status == 2
+
+
+@pytest.mark.parametrize("written", ["2025-03-03T02:30:07", "2025-03-03T09:00:00"])
+def test_the_moment_of_a_copy(written: str, tmp_path: pathlib.Path) -> None:
+    """A file that was copied later has a later time, and its name has the hour of its machine."""
+    copy = tmp_path / COPIES[2]
+    copy.touch()
+    at = datetime.datetime.fromisoformat(written).timestamp()
+    os.utime(copy, (at, at))
+    assert f"{standby.moment_of(copy):%Y-%m-%dT%H%M%S}" == "2025-03-03T023000"
+    early = datetime.datetime(2025, 3, 3, 1, 30).timestamp()
+    os.utime(copy, (early, early))
+    assert f"{standby.moment_of(copy):%Y-%m-%dT%H%M%S}" == "2025-03-03T013000"
+
+
+def written_at(register: registers.Register, at: str) -> History:
+    """The history of a register, written at this moment."""
+    return History(str(register.history), lambda: at)
+
+
+def test_what_is_to_be_sent_again(
+    register: registers.Register, write_as_me: None, tmp_path: pathlib.Path,
+    capfd: pytest.CaptureFixture[str],
+) -> None:
+    """Commands of after the copy that were done, in their order."""
+    moments = ["2025-03-03T02:29:00", "2025-03-03T02:31:00", "2025-03-03T02:32:00",
+               "2025-03-03T02:33:00"]
+    for child, moment in enumerate(moments, 1):
+        at = datetime.datetime.fromisoformat(moment).astimezone(datetime.timezone.utc).isoformat()
+        record = written_at(register, at)
+        of = record.add("jane", SENDS, {"command": {"cmd": "accept", "child": child}}).number
+        record.add("jane", ANSWER, {"of": of, "answer": {"done": child != 3}})
+        record.close()
+    copy = tmp_path / COPIES[2]
+    copy.touch()
+    standby.report(register, copy)
+    lines = capfd.readouterr().out.splitlines()
+    assert lines[0] == (f"{NAME} is as at 2025-03-03 02:30:00, when {COPIES[2]} was made. Send"
+                        " again what follows, line by line:")
+    assert lines[1:3] == ['{"child":2,"cmd":"accept"}', '{"child":4,"cmd":"accept"}']
+    assert lines[3] == (
+        f"These are all until 2025-03-03 02:33:00, and `admissions-sent {NAME}"
+        " 2025-03-03T02:30:00` prints them again. What was sent later is in no copy: ask who"
+        " worked then.")
+    register.history.unlink()
+    standby.report(register, copy)
+    assert capfd.readouterr().out.startswith(
+        "WARNING: what was sent since 2025-03-03 02:30 is not known: ")
