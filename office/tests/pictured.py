@@ -141,7 +141,7 @@ def screens(office: Site) -> dict[str, str]:
     return {
         START: "/", "child": f"/children/{one}", "waiting-list": "/schools/A",
         "worklist": f"/notices/remind?day={DAY}", "amend": f"/children/{one}/correct",
-        "question": f"/children/{one}/decline",
+        "question": f"/children/{one}/decline", "why": f"/children/{one}/why/1/family",
     }
 
 
