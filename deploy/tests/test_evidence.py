@@ -16,10 +16,13 @@ PROVED = "logic=proved functions=16 sum=dac8208d650f15bf incremental=trusted"
 REFUSED = "refused, as it must be: note: src/seasons.rt:12:5: `search` found no proof"
 
 
-def run(root: pathlib.Path, *command: object) -> subprocess.CompletedProcess[str]:
+def run(
+    root: pathlib.Path, *command: object, **environment: str
+) -> subprocess.CompletedProcess[str]:
     """Runs a command in the copy."""
     texts = [str(it) for it in command]
-    return subprocess.run(texts, cwd=root, capture_output=True, text=True, check=False)
+    return subprocess.run(texts, cwd=root, capture_output=True, text=True, check=False,
+                          env={**os.environ, **environment})
 
 
 @pytest.fixture
@@ -157,3 +160,13 @@ def test_what_is_missing_is_an_error(
 ) -> None:
     change(copy, name, old, new)
     assert wanted in refusal(copy)
+
+
+def test_a_missing_tool_is_named_with_its_package(
+    copy: pathlib.Path, tmp_path: pathlib.Path
+) -> None:
+    (tmp_path / "env").mkdir()
+    (tmp_path / "env/python3").symlink_to("/usr/bin/python3")
+    done = run(copy, "/usr/bin/python3", "tools/evidence", PATH=str(tmp_path / "env"))
+    assert done.returncode == 1 and done.stdout == ""
+    assert "apt-get install git graphviz\n" in done.stderr

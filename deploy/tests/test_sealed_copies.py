@@ -33,7 +33,6 @@ def copied_fixture(
     monkeypatch: pytest.MonkeyPatch, write_as_me: None,
 ) -> registers.Register:
     """A register with two nightly copies, their settings and a history, and a second place."""
-    monkeypatch.setattr(sealed, "SETTINGS", machine / "etc")
     monkeypatch.setattr(second_copy, "open_error", lambda _: "")
     (machine / PLACE).mkdir()
     (machine / "etc/second-copy").write_text(f"{machine / PLACE}\n")

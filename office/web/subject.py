@@ -35,9 +35,10 @@ OF_NOBODY = (
 # what is not in this, and where it is
 ELSEWHERE = (
     "Copies of the register and of the application's file have what these had on their day.",
-    "The log of the site has the commands of programs that send past the application, by day.",
+    "Commands that were sent past the application, as by a file on the machine, are in no history;"
+    " logs of an earlier version may have them.",
     "A row of an import is kept in the register's file as it was read, to know it again: it is"
-    " the row that the history has.",
+    " the row that the history has, where the import came by the application.",
     "Rows of applications that are not stored and have no number are on the screen Applications,"
     " by name.",
 )
