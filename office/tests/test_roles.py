@@ -31,7 +31,7 @@ SCREENS: dict[str, tuple[set[str], set[str]]] = {
     "signing": (ALL, ALL), "why": (READS, set()), "notes": (RECORDS, RECORDS),
     "trials": (READS, RECORDS), "season_end": (RECORDS, {HEAD}), "restores": (READS, {HEAD}),
     "preferences": (RECORDS, RECORDS), "letter_sender": (READS, {HEAD}),
-    "letter_addresses": (READS, RECORDS),
+    "letter_addresses": (READS, RECORDS), "subject": (RECORDS, set()),
 }
 # what differs from its screen
 OTHERS: dict[tuple[str, str], set[str]] = {
@@ -46,7 +46,7 @@ OTHERS: dict[tuple[str, str], set[str]] = {
     ("schools.workbook", "GET"): READS | {SCHOOL}, ("schools.raise_number", "GET"): RECORDS,
 }
 VALUES = {"number": 1, "name": "accept", "code": "A", "kind": "csv", "draw": 1, "reader": "family",
-          "note": 1, "file": 1, "owner": "nobody", "version": 1}
+          "note": 1, "file": 1, "owner": "nobody", "version": 1, "form": "json"}
 NAMES = {"draws.step": "close", "draws.second": "confirm", "lists.one": "waiting",
          "lists.workbook": "waiting", "letters.from_list": "waiting", "notices.choose": "remind",
          "notices.ask": "remind", "lists.csv": "waiting", "lists.save": "waiting"}
