@@ -4,16 +4,18 @@ import argparse
 import datetime
 import pathlib
 import re
+import shutil
 import typing
 
 from register_files import Refused
 
-from . import copies, files, histories, history_copies, second_copy, sent
+from . import copies, files, histories, history_copies, sealed, second_copy, sent
 from .programs import OFFICE, USER, call, tool
 from .registers import SETTINGS, Register, named
 
 # what is fetched: copies with what is beside each, and the history
-WANTED = (*copies.PATTERNS, f"/{history_copies.FOLDER}/", f"/{history_copies.FOLDER}/*")
+WANTED = (*copies.PATTERNS, *(f"{it}{sealed.END}" for it in copies.PATTERNS),
+          f"/{history_copies.FOLDER}/", f"/{history_copies.FOLDER}/*")
 
 
 def fetch(name: str, place: str) -> pathlib.Path:
@@ -35,11 +37,26 @@ def fetch(name: str, place: str) -> pathlib.Path:
         options += ["--include", it]
     call(tool("rsync", "rsync"), *options, "--exclude", "*", f"{place}/{name}/",
          f"{register.copies}/", as_user=None if second_copy.is_local(place) else USER)
+    decrypt_all(register)
     made = register.nightly_copies()
     if not made:
         raise Refused(f"{place}/{name} has no copy of a register")
     print(f"fetched {len(made)} copies from {place}/{name}, the last of them {made[-1].name}")
     return made[-1]
+
+
+def decrypt_all(register: Register) -> None:
+    """Decrypts what was fetched encrypted, with the identity file of this machine."""
+    found = sorted(register.copies.rglob(f"*{sealed.END}"))
+    identity = sealed.identity()
+    if found and identity is None:
+        raise Refused(f"what is at the second place is encrypted: put the identity file that opens"
+                      f" it at {SETTINGS / sealed.IDENTITY}, and repeat the line")
+    for path in found:
+        target = sealed.decrypt(path, typing.cast(pathlib.Path, identity))
+        shutil.copystat(path, target)
+        shutil.chown(target, USER, USER)
+        path.unlink()
 
 
 def moment_of(copy: pathlib.Path) -> datetime.datetime:

@@ -13,11 +13,13 @@ ROOT = pathlib.Path(__file__).resolve().parents[2]
 sys.path[:0] = [str(ROOT), str(ROOT / "deploy"), str(ROOT / "tools")]
 
 from machine import (  # noqa: E402
-    deletion, registers, sealed, second_copy, settings_copy, setup, sites, status,
+    deletion, registers, sealed, second_copy, settings_copy, setup, sites, standby, status,
 )
 
 # the modules that name a folder of the machine by a constant of registers
-WITH_FOLDERS = (deletion, registers, sealed, second_copy, settings_copy, setup, sites, status)
+WITH_FOLDERS = (
+    deletion, registers, sealed, second_copy, settings_copy, setup, sites, standby, status,
+)
 FOLDERS = {"REGISTERS": "lib", "COPIES": "backups", "SETTINGS": "etc",
            "OFFICES": "office"}
 

@@ -5,6 +5,7 @@ import datetime
 import getpass
 import os
 import pathlib
+import subprocess
 
 import pytest
 from machine import registers, setup, standby
@@ -46,6 +47,33 @@ def test_what_is_fetched(
         "history": 0o700, "history/history-1-a.gz": 0o600}
     assert f"fetched 3 copies from {place}/{NAME}, the last of them {COPIES[2]}" in (
         capsys.readouterr().out)
+
+
+def test_what_is_encrypted_is_opened_with_the_identity_of_this_machine(
+    place: pathlib.Path, machine: pathlib.Path, write_as_me: None, tmp_path: pathlib.Path,
+) -> None:
+    """All of it, also the history; without the file nothing is set up, and the message says where
+    it is looked for. What was sent before the key was set is taken as it is.
+    """
+    identity = machine / "etc/second-copy-identity"
+    subprocess.run(["age-keygen", "-o", tmp_path / "vault.key"], check=True, capture_output=True)
+    key = subprocess.run(["age-keygen", "-y", tmp_path / "vault.key"], check=True,
+                         capture_output=True, text=True).stdout.strip()
+    there = place / NAME
+    names = (*COPIES[1:], COPIES[2].replace(".db", ".tar"), "history/history-1-a.gz")
+    wanted = {it: (there / it).read_bytes() for it in names}
+    for it in names:
+        subprocess.run(["age", "-r", key, "-o", there / f"{it}.age", there / it], check=True)
+        (there / it).unlink()
+    with pytest.raises(Refused, match=f"is encrypted: put the identity file .* at {identity}"):
+        standby.fetch(NAME, str(place))
+    identity.write_bytes((tmp_path / "vault.key").read_bytes())
+    copy = standby.fetch(NAME, str(place))
+    assert copy.name == COPIES[2]
+    assert {it: (copy.parent / it).read_bytes() for it in names} == wanted
+    found = {str(it.relative_to(copy.parent)): it.stat().st_mode & 0o777
+             for it in copy.parent.rglob("*") if it.is_file()}
+    assert found == dict.fromkeys((*names, COPIES[0]), 0o600)
 
 
 def test_the_place_of_the_settings(
