@@ -21,17 +21,17 @@ With --standby another machine goes on with a register of one that is lost: what
 PLACE has, or the second place that /etc/admissions/second-copy names, is
 fetched, the register is made from the copy that was made last, and the commands
 that were sent since, as far as the history there has them, are printed, to be
-sent again. The fourth form adds a person, changes the role of one, draws another password,
-removes a person, or lists them. A password is drawn, printed once, and changed
-by whoever signs in with it. The people of a register are otherwise the office's
-own task, on the screen People of the site: what is done here is in the history
-too. The fifth form signs people in by the accounts of the authority over
-OpenID Connect: FILE has title, issuer, client, secret and claim as JSON, and
-the word none in place of FILE ends that. The sixth form replaces the holidays
-of a register that is still empty. The last form makes all sites again, after a
-change of /etc/nginx/sites-available/admissions. A change of what is there is
-shown, and is done after a yes on the terminal, or with --yes. --new-password
-alone ends the old password without a question.
+sent again. The fourth form adds a person, changes the role of one, draws
+another password, removes a person, or lists them. A password is drawn, printed
+once, and changed by whoever signs in with it. The people of a register are
+otherwise the office's own task, on the screen People of the site: what is done
+here is in the history too. The fifth form signs people in by the accounts of
+the authority over OpenID Connect: FILE has title, issuer, client, secret and
+claim as JSON, and the word none in place of FILE ends that. The sixth form
+replaces the holidays of a register that is still empty. The last form makes all
+sites again, after a change of /etc/nginx/sites-available/admissions. A change
+of what is there is shown, and is done after a yes on the terminal, or with
+--yes. --new-password alone ends the old password without a question.
 
 example:
   admissions-setup secondary-2025 --phase secondary --year 2025 \\

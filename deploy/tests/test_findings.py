@@ -86,6 +86,7 @@ def test_one_form_at_a_time(given: tuple[str, str], machine: pathlib.Path) -> No
 def test_what_keeps_an_office_from_working_has_failed(register: registers.Register) -> None:
     """No server answers here; and a file that is no register cannot be read."""
     assert status.report(register)["desk"].level is Level.FAILED
+    register.file.chmod(0o640)
     assert status.report(register)["register"].level is Level.ATTENTION
     register.file.chmod(0o600)
     assert status.report(register)["register"].level is Level.OK
