@@ -30,9 +30,11 @@ VERSION = 1
 Rows = dict[str, list[tuple[Any, ...]]]
 
 
-def rows_of(path: pathlib.Path, tables: dict[str, list[str]] | None = None) -> Rows:
+def rows_of(
+    path: pathlib.Path, tables: dict[str, list[str]] | None = None, how: str = "mode=ro"
+) -> Rows:
     """The rows of a file by its tables; of some columns alone where these are named."""
-    with contextlib.closing(sqlite3.connect(f"file:{path}?mode=ro", uri=True)) as db:
+    with contextlib.closing(sqlite3.connect(f"file:{path}?{how}", uri=True)) as db:
         names = tables or {name: ["*"] for (name,) in db.execute(
             "SELECT name FROM sqlite_schema WHERE type='table' AND name NOT LIKE 'sqlite%'")}
         return {name: sorted(db.execute(f"SELECT {', '.join(columns)} FROM {name}"), key=repr)
@@ -45,7 +47,8 @@ def make_register(path: pathlib.Path, name: str) -> Rows:
     if (log := FIRST / f"{name}.db-wal").exists():
         shutil.copyfile(log, f"{path}-wal")
     path.chmod(0o600)
-    found = rows_of(FIRST / f"{'round' if name == 'stopped' else name}.db")
+    # (nothing is written beside what is kept)
+    found = rows_of(FIRST / f"{'round' if name == 'stopped' else name}.db", how="immutable=1")
     assert found["meta"][0][VERSION] == 1
     return found
 
