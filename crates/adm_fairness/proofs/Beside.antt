@@ -1,12 +1,7 @@
--- Lists side by side: what stands at one index of both, what each gives, and two values at one key of a map.
+-- Lists side by side: what is at one index of both, and what each gives.
 use Rattle.std.proofs.Common.{◌≡◌, sym, subst, refl, ℕ, zero, suc, List, [], ◌∷◌, length, map, Option, Some, None, inl, inr, arith}
 use Rattle.std.specs.Prelude.{⊤}
 use Rattle.std.specs.List.{AllZip, filter_map, cons_option, slice_get}
-use Rattle.std.specs.declared.cmp.Ordering.{Ordering}
-use Rattle.std.specs.declared.cmp.Ordering.TheVariants.{Less, Equal, Greater}
-use Rattle.std.specs.Cmp.{IsTotalOrder}
-use Rattle.std.specs.FinMap.{FinMap, insert, entries, values, put, entries-insert}
-use Rattle.std.specs.FinMap.Entries.{by_order}
 use Rattle.std.proofs.lemmas.Option.{same_Some, none-some}
 use Rattle.adm_lists.proofs.Members.{In}
 
@@ -55,26 +50,6 @@ zip_mapped R S f g [] [] h step = tt
 zip_mapped R S f g [] (y ∷ ys) h step = absurd h
 zip_mapped R S f g (x ∷ xs) [] h step = absurd h
 zip_mapped R S f g (x ∷ xs) (y ∷ ys) h step = (step x y (inl refl) (inl refl) h.0, zip_mapped R S f g xs ys h.1 (λ a b at bt. step a b (inr at) (inr bt)))
-
--- two values at one key of a map, and the others the same
-module _ {K V : Type 0} {R : K → K → Ordering} (total : IsTotalOrder R) (P : V → V → Type 0) (same : (v : V) → P v v) (k : K) (one other : V) (both : P one other) where
-  all_same : (es : List (K × V)) → AllZip P (map (λ e. e.1) es) (map (λ e. e.1) es)
-  all_same [] = tt
-  all_same (e ∷ es) = (same e.1, all_same es)
-
-  put_two : (es : List (K × V)) → AllZip P (map (λ e. e.1) (put R k one es)) (map (λ e. e.1) (put R k other es))
-  put_two [] = (both, tt)
-  put_two (e ∷ es) =
-      elim (R k e.0) as (λ o. AllZip P (map (λ x. x.1) (by_order o ((k, one) ∷ e ∷ es) ((e.0, one) ∷ es) (e ∷ put R k one es)))
-      (map (λ x. x.1) (by_order o ((k, other) ∷ e ∷ es) ((e.0, other) ∷ es) (e ∷ put R k other es)))) [
-        | Less ↦ (both, (same e.1, all_same es))
-        | Equal ↦ (both, all_same es)
-        | Greater ↦ (same e.1, put_two es)
-      ]
-
-  pub values_two : (rows : FinMap R V) → AllZip P (values (insert rows k one)) (values (insert rows k other))
-  values_two rows = subst (λ es. AllZip P (map (λ e. e.1) es) (values (insert rows k other))) (sym (entries-insert total rows k one))
-      (subst (λ es. AllZip P (map (λ e. e.1) (put R k one (entries rows))) (map (λ e. e.1) es)) (sym (entries-insert total rows k other)) (put_two (entries rows)))
 
 -- what each of two lists gives
 pub zip_given_two : {X Y Z : Type 0} (P : X → X → Type 0) (R : Y → Z → Type 0) (f : X → Option Y) (g : X → Option Z) (xs ys : List X) → AllZip P xs ys

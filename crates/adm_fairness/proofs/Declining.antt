@@ -4,7 +4,7 @@ use Rattle.std.specs.Prelude.{bytes_eq, filter, option_map, is_some}
 use Rattle.std.specs.List.{AllZip}
 use Rattle.std.specs.Cmp.{nat_cmp_total}
 use Rattle.std.specs.FinMap.{get, insert, remove, entries, values, nat_cmp-IsAntisymmetric}
-use Rattle.std.proofs.lemmas.Bool.{false≢true, and_parts}
+use Rattle.std.proofs.lemmas.Bool.{false≢true, and_parts, eq-eqb}
 use Rattle.std.proofs.lemmas.Option.{same_Some, none-some}
 use Rattle.adm_lists.proofs.Counts.{count_le}
 use Rattle.adm_lists.proofs.Maps.{entries_in_order}
@@ -18,6 +18,7 @@ use Rattle.adm_types.specs.declared.commands.Command.TheVariants.{Decline}
 use Rattle.adm_types.specs.declared.commands.Refusal.TheVariants as refusal
 use Rattle.adm_match.specs.Market.{Code}
 use Rattle.adm_match.specs.Stability.{IsStable}
+use Rattle.adm_laws.specs.Groups.{NoGroupGains}
 use Rattle.adm_round.specs.declared.applicants.Applicant.{Applicant}
 use Rattle.adm_round.specs.Outcomes.{AllotmentFits}
 use Rattle.adm_register.specs.State.{State, is_plan}
@@ -36,7 +37,7 @@ use Rattle.adm_fairness.specs.Honesty.{KeepsCommonLots, NoGainByDeclining}
 use Rattle.adm_fairness.proofs.Beside.{BothGive, zip_given}
 use Rattle.adm_fairness.proofs.Envy.{kept_well}
 use Rattle.adm_fairness.proofs.Fills.{same_or_other, other_stays}
-use Rattle.adm_fairness.proofs.OneChild.{IsSameOr, gains_nothing}
+use Rattle.adm_fairness.proofs.Group.{IsSameOr, just, gains_nothing}
 use Rattle.adm_fairness.proofs.RoundPlaces.{at_entries}
 use Rattle.adm_fairness.proofs.Waits.{other_kept, HoldsAt, holds_at}
 
@@ -80,43 +81,43 @@ module _ (old : State) (well : WellFormed old) (child : ℕ) (code : Code) (held
       (λ same. apart (ap (λ (p : LeftPair). p.child) same)))
 
   -- who takes part is the same, but for the child
-  each_beside : (a : Application) → In a (values old.applications) → BothGive (IsSameOr child) (applicant_of old a) (applicant_of next a)
+  each_beside : (a : Application) → In a (values old.applications) → BothGive (IsSameOr (just child)) (applicant_of old a) (applicant_of next a)
   each_beside a at = elim (same_or_other a.child child) [
     | inr apart ↦
         let place : get next.places a.child ≡ get old.places a.child = other_kept nat_cmp_total nat_cmp-IsAntisymmetric old.places child a.child apart in
         let wanted : wanted_of next a ≡ wanted_of old a = λ i. filter (λ other. not (same_left a.child apart other i)) (above (place i) a.list) in
-        subst (λ o. BothGive (IsSameOr child) (applicant_of old a) o)
+        subst (λ o. BothGive (IsSameOr (just child)) (applicant_of old a) o)
         (sym (λ i. cond (takes_part old a) (option_map (λ (c : Child). record { child = c; wanted = wanted i; own = own_school (place i) }) (get old.children a.child)) None))
         (itself (applicant_of old a))
     | inl mine ↦ by (takes_part old a) (get old.children a.child) (λ row there. (well.base.children_fit a.child row there).own_number ∙ mine) mine
   ]
     where
-      itself : (o : Option Applicant) → BothGive (IsSameOr child) o o
+      itself : (o : Option Applicant) → BothGive (IsSameOr (just child)) o o
       itself None = tt
       itself (Some x) = inl refl
 
       by : (b : Bool) (o : Option Child) → ((row : Child) → o ≡ Some row → row.no ≡ child) → a.child ≡ child
-          → BothGive (IsSameOr child) (cond b (option_map (λ (c : Child). record { child = c; wanted = wanted_of old a; own = own_school (get old.places a.child) }) o) None)
+          → BothGive (IsSameOr (just child)) (cond b (option_map (λ (c : Child). record { child = c; wanted = wanted_of old a; own = own_school (get old.places a.child) }) o) None)
           (cond b (option_map (λ (c : Child). record { child = c; wanted = wanted_of next a; own = own_school (get next.places a.child) }) o) None)
       by false o number mine = tt
       by true None number mine = tt
       by true (Some row) number mine =
-          inr (number row refl, number row refl, ap (λ n. own_school (get next.places n)) mine ∙ ap own_school (gone nat_cmp_total old.places child))
+          inr (eq-eqb row.no child (number row refl), refl, ap (λ n. own_school (get next.places n)) mine ∙ ap own_school (gone nat_cmp_total old.places child))
 
-  applicants_beside : AllZip (IsSameOr child) (round_applicants old) (round_applicants next)
-  applicants_beside = zip_given (IsSameOr child) (applicant_of old) (applicant_of next) (values old.applications) each_beside
+  applicants_beside : AllZip (IsSameOr (just child)) (round_applicants old) (round_applicants next)
+  applicants_beside = zip_given (IsSameOr (just child)) (applicant_of old) (applicant_of next) (values old.applications) each_beside
 
 held_before : (old : State) (child : ℕ) (code : Code) → first_failing (decline.tests old child code) ≡ None → is_unplanned_at (get old.places child) code ≡ true
 unfolding decline.tests
 held_before old child code passes = passed (decline.tests old child code) passes refusal.NotOffered
 
-pub no_gain_by_declining_law : AllotmentFits → NoGainByDeclining
+pub no_gain_by_declining_law : AllotmentFits → NoGroupGains → NoGainByDeclining
 unfolding decline.change_of
-no_gain_by_declining_law law old new child code numbers drawn before after' first second well accepts none none' lots =
+no_gain_by_declining_law law groups old new child code numbers drawn before after' first second well accepts none none' lots =
     let now : new ≡ after old (decline.change_of child code) = accepts.1.1.2 ∙ ap (after old) accepts.1.1.1.0 in
     let held = held_before old child code (no_row _ accepts.1.0) in
     let well' : WellFormed (after old (decline.change_of child code)) = subst WellFormed now (kept_well law old new (Decline child code) tt well accepts) in
-    gains_nothing old (after old (decline.change_of child code)) child numbers drawn well well' none (subst (λ s. lots_fault s drawn ≡ None) now none')
+    gains_nothing child old (after old (decline.change_of child code)) numbers drawn well well' none (subst (λ s. lots_fault s drawn ≡ None) now none')
     (same_sites old well child code held) refl refl (applicants_beside old well child code held)
-    (subst (λ t. KeepsCommonLots old t (round_lots old numbers) (round_lots t drawn)) now lots) first.allocation second.allocation first.best
+    (subst (λ t. KeepsCommonLots old t (round_lots old numbers) (round_lots t drawn)) now lots) groups first.allocation second.allocation first.best
     (subst (λ s. IsStable (round_market s drawn) second.allocation) now second.best.stable)

@@ -100,7 +100,7 @@ module _ (old : State) (application : Application) (numbers drawn : List ℕ) (w
     not_worse kinds law first second best stable =
         law (round_market old numbers) (round_market next drawn) first second (faultless (sites old) (round_applicants old) first_lots fits) (generous kinds) best stable
 
-not_applied : (old : State) (application : Application) → first_failing (apply.tests old application) ≡ None → get old.applications application.child ≡ None
+pub not_applied : (old : State) (application : Application) → first_failing (apply.tests old application) ≡ None → get old.applications application.child ≡ None
 unfolding apply.tests
 not_applied old application passes = none_of (get old.applications application.child) (passed (apply.tests old application) passes refusal.AlreadyApplied)
 

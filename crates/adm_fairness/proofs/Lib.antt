@@ -19,5 +19,5 @@ pub mod Improved
 pub mod Amended
 pub mod Honest
 pub mod Leaving
-pub mod OneChild
+pub mod Group
 pub mod Declining

@@ -1,6 +1,7 @@
 -- What an application does before a round: another one does not help its child, and none helps another child.
 -- Roth 1982; Dubins and Freedman 1981; Gale and Shapley 1962.
-use Rattle.std.specs.Prelude.{◌≡◌, ◌≤◌, ℕ, true, List, None, All}
+use Rattle.std.specs.Prelude.{◌≡◌, ◌<◌, ◌≤◌, ◌==◌, ℕ, Bool, true, List, length, map, None, All, Any}
+use Rattle.std.specs.List.{AllZip, AllByRecursion, list_any}
 use Rattle.adm_types.specs.Limits.{is_listed}
 use Rattle.adm_types.specs.declared.rows.Application.{Application}
 use Rattle.adm_types.specs.declared.draws.Lot.{Lot}
@@ -14,6 +15,7 @@ use Rattle.adm_register.specs.State.{State}
 use Rattle.adm_register.specs.WellFormed.{WellFormed}
 use Rattle.adm_commands.specs.Commands.{KeptByTypes}
 use Rattle.adm_commands.specs.Commands.Round.{takes_part, round_applicants, round_lots, round_market, AreOutcomes}
+use Rattle.adm_commands.specs.Imports.{Reaches}
 use Rattle.adm_commands.specs.Problem.{lots_fault}
 use Rattle.adm_commands.specs.Steps.{Accepts}
 
@@ -38,6 +40,25 @@ NoApplicationHelps =
     → lots_fault honest numbers ≡ None → lots_fault stated drawn ≡ None
     → KeepsCommonLots honest stated (round_lots honest numbers) (round_lots stated drawn)
     → All (λ entrant. entrant.child ≡ one.child → assigned_rank entrant.list (first.allocation one.child) ≤ assigned_rank entrant.list (second.allocation one.child)) (round_market honest numbers).entrants
+
+-- whether one of the applications is that of the child
+abbrev pub is_of_some : List Application → ℕ → Bool
+is_of_some applications child = list_any (λ application. application.child == child) applications
+
+-- Nor do other applications help a group: of the ones that its children truly mean and any others that they may hand in, by which they
+-- all take part too, the others do not give each of them in the round a school that is before the one that the true ones give it, on its
+-- true list, where all lots are the same. (Dubins and Freedman 1981.)
+abbrev pub NoApplicationsHelp : Type 0
+NoApplicationsHelp =
+    (old honest stated : State) (ones others : List Application) (numbers drawn : List ℕ) (before after : List Outcome)
+    (first : AreOutcomes honest numbers before) (second : AreOutcomes stated drawn after)
+    → WellFormed old → AllByRecursion KeptByTypes (map Apply ones) → AllByRecursion KeptByTypes (map Apply others)
+    → AllZip (λ one other. other.child ≡ one.child) ones others
+    → Reaches old (map Apply ones) honest → Reaches old (map Apply others) stated
+    → All (λ one. takes_part old one ≡ true) ones → All (λ other. takes_part old other ≡ true) others
+    → lots_fault honest numbers ≡ None → lots_fault stated drawn ≡ None
+    → KeepsCommonLots honest stated (round_lots honest numbers) (round_lots stated drawn) → 0 < length ones
+    → Any (λ entrant. (is_of_some ones entrant.child ≡ true) × (assigned_rank entrant.list (first.allocation entrant.child) ≤ assigned_rank entrant.list (second.allocation entrant.child))) (round_market honest numbers).entrants
 
 -- No other child gains by an application: where a child applies, the next round gives each other child that takes part no school that is
 -- before the one that it would have had without it, where all lots are the same. (Gale and Shapley 1962: fewer rivals never hurt.)

@@ -1,6 +1,7 @@
 // Applications and places: what a child may gain by another application or a declined place, and what others may by one.
-ghost use Rattle.adm_fairness.specs.Honesty.{NoApplicationHelps, NoLossByNotApplying, NoGainByDeclining};
+ghost use Rattle.adm_fairness.specs.Honesty.{NoApplicationHelps, NoApplicationsHelp, NoLossByNotApplying, NoGainByDeclining};
 
+use adm_laws::no_group_gains;
 use adm_match_laws::{kinds_of_generosity, no_loss};
 use adm_round::allotment_fits;
 
@@ -10,6 +11,16 @@ pub fn no_application_helps()
     ensures { NoApplicationHelps }
 {
     allotment_fits();
+    no_group_gains();
+}
+
+/// By no other applications together does each child of a group get in the next round a school that
+/// it truly wants more, by the same lots.
+pub fn no_applications_help()
+    ensures { NoApplicationsHelp }
+{
+    allotment_fits();
+    no_group_gains();
 }
 
 /// A child that does not apply gives no other child a worse school in the next round, by the same
@@ -27,4 +38,5 @@ pub fn no_gain_by_declining()
     ensures { NoGainByDeclining }
 {
     allotment_fits();
+    no_group_gains();
 }

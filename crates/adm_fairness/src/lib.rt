@@ -13,7 +13,9 @@ pub use code::{
     looked_after_first, lots_part_equals, ranks_by_rule, standing_is_listed,
 };
 pub use cutoffs::{cutoffs_decide, same_cutoffs_same_places, some_cutoff};
-pub use honesty::{no_application_helps, no_gain_by_declining, no_loss_by_not_applying};
+pub use honesty::{
+    no_application_helps, no_applications_help, no_gain_by_declining, no_loss_by_not_applying,
+};
 pub use improvements::{no_loss_by_amend, no_loss_by_rank};
 pub use rounds::round_is_fair;
 pub use season::{envy_has_cause, no_new_envy, place_ends_fairly, plan_is_kept};
