@@ -21,3 +21,5 @@ pub mod Honest
 pub mod Leaving
 pub mod Group
 pub mod Declining
+pub mod Fairer
+pub mod Better

@@ -4,3 +4,4 @@ pub mod Season
 pub mod Cutoffs
 pub mod Improvements
 pub mod Honesty
+pub mod Optimal

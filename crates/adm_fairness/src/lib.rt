@@ -5,6 +5,7 @@ mod code;
 mod cutoffs;
 mod honesty;
 mod improvements;
+mod optimal;
 mod rounds;
 mod season;
 
@@ -17,5 +18,6 @@ pub use honesty::{
     no_application_helps, no_applications_help, no_gain_by_declining, no_loss_by_not_applying,
 };
 pub use improvements::{no_loss_by_amend, no_loss_by_rank};
+pub use optimal::{none_fairer, not_all_better};
 pub use rounds::round_is_fair;
 pub use season::{envy_has_cause, no_new_envy, place_ends_fairly, plan_is_kept};
