@@ -9,7 +9,7 @@ use Rattle.adm_rank.specs.declared.keys.RankKey.{RankKey}
 use Rattle.adm_rank.specs.Ranking.{precedes}
 use Rattle.adm_match.specs.declared.problem.Wish.{Wish}
 use Rattle.adm_match.specs.Market.{Code, Candidate, Market, preference_rank, assigned_rank, is_tenant, key_at, both_precede, ranks_before, quota_of, first_fault}
-use Rattle.adm_match.specs.Stability.{Allocation, count_at, is_guest, prefers, ranks_after, IsContent, IsStable}
+use Rattle.adm_match.specs.Stability.{Allocation, IsAcceptable, count_at, is_guest, prefers, ranks_after, IsContent, IsStable}
 use Rattle.adm_match.specs.Distinct.{Distinct}
 use Rattle.adm_match.proofs.Posed.{posed, list_any_not}
 use Rattle.adm_match.proofs.Distinct.{distinct}
@@ -127,6 +127,18 @@ module _ (m : Market) (a : Allocation) (fits : first_fault m ≡ None) (stable :
 pub cutoffs_decide_law : CutoffsDecide
 cutoffs_decide_law m a cutoffs fits stable are = All_at (IsDecided a cutoffs) m.entrants (λ k e ek. decided m a fits stable cutoffs are k e ek)
 
+-- two allocations give an entrant the same where this has the same rank on its list
+pub same_by_rank : (m : Market) (a other : Allocation) (k : ℕ) (e : Candidate) → IsAcceptable m a → IsAcceptable m other → slice_get m.entrants k ≡ Some e
+    → assigned_rank e.list (other e.child) ≡ assigned_rank e.list (a e.child) → other e.child ≡ a e.child
+same_by_rank m a other k e fits fits' ek same = by (a e.child) refl (other e.child) refl
+  where
+    by : (o : Option Code) → a e.child ≡ o → (p : Option Code) → other e.child ≡ p → other e.child ≡ a e.child
+    by (Some s) is p is' =
+        let w = wish_at_rank e.list s (on_list m a k e s fits ek is) in
+        same_rank e.list (other e.child) (preference_rank e.list s) w.0 w.1 (same ∙ ap (assigned_rank e.list) is) ∙ (ap Some w.2 ∙ sym is)
+    by None is None is' = is' ∙ sym is
+    by None is (Some t) is' = absurd (omega (arith, on_list m other k e t fits' ek is', sym (ap (assigned_rank e.list) is') ∙ (same ∙ ap (assigned_rank e.list) is)))
+
 -- ---- the same cutoffs
 
 module _ (m : Market) (a other : Allocation) (cutoffs : Code → Cutoff) (fits : first_fault m ≡ None) (stable : IsStable m a) (stable' : IsStable m other)
@@ -150,16 +162,7 @@ module _ (m : Market) (a other : Allocation) (cutoffs : Code → Cutoff) (fits :
           | inr least ↦ omega (arith, most, least)
         ]
       ] in
-      by (a e.child) refl (other e.child) refl same
-    where
-      by : (o : Option Code) → a e.child ≡ o → (p : Option Code) → other e.child ≡ p → assigned_rank e.list (other e.child) ≡ assigned_rank e.list (a e.child) → other e.child ≡ a e.child
-      by (Some s) is p is' same =
-          let w = wish_at_rank e.list s (on_list m a k e s stable.acceptable ek is) in
-          same_rank e.list (other e.child) (preference_rank e.list s) w.0 w.1 (same ∙ ap (assigned_rank e.list) is) ∙ (ap Some w.2 ∙ sym is)
-      by None is None is' same = is' ∙ sym is
-      by None is (Some t) is' same =
-          let less = on_list m other k e t stable'.acceptable ek is' in
-          absurd (omega (arith, less, sym (ap (assigned_rank e.list) is') ∙ (same ∙ ap (assigned_rank e.list) is)))
+      same_by_rank m a other k e stable.acceptable stable'.acceptable ek same
 
 pub same_cutoffs_same_places_law : SameCutoffsSamePlaces
 same_cutoffs_same_places_law m a other cutoffs fits stable stable' are are' =

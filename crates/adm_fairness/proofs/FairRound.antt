@@ -100,14 +100,14 @@ module _ {old : State} {numbers : List ℕ} {outcomes : List Outcome} (facts : I
     listed_is : listed c ≡ wanted_by place ++ option_to_list c.own
     listed_is = ap (λ (codes : List Code). codes ++ option_to_list c.own) taking.wanted
 
-    given_listed : (school : Code) → a (number_of c) ≡ Some school → is_listed (listed c) school ≡ true
+    pub given_listed : (school : Code) → a (number_of c) ≡ Some school → is_listed (listed c) school ≡ true
     given_listed school given = subst (λ o. IfSome o (λ s. is_listed (listed c) s ≡ true)) given (is_given facts HasListedSchool (lists_given facts) c taking.among)
 
     own_apart : (own : Code) → c.own ≡ Some own → is_listed c.wanted own ≡ false
     own_apart own is = subst (λ o. IfSome o (λ s. is_listed c.wanted s ≡ false)) is (All_in (IsListFit (sites old)) (round_applicants old) c facts.posed.lists_fit taking.among).own_apart
 
     -- the schools before one that is wanted
-    until_wanted : (school : Code) → is_listed (above place application.list) school ≡ true → until school (above place application.list) ≡ until school application.list
+    pub until_wanted : (school : Code) → is_listed (above place application.list) school ≡ true → until school (above place application.list) ≡ until school application.list
     until_wanted school there = by place there
       where
         by : (found : Option PlaceRow) → is_listed (above found application.list) school ≡ true → until school (above found application.list) ≡ until school application.list

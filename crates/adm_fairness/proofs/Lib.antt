@@ -23,3 +23,6 @@ pub mod Group
 pub mod Declining
 pub mod Fairer
 pub mod Better
+pub mod Settled
+pub mod Front
+pub mod Again
