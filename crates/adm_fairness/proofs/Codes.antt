@@ -4,6 +4,7 @@ use Rattle.std.specs.Prelude.{bytes_eq, filter, count_by}
 use Rattle.std.specs.List.{position_or_len, take_while, slice_get}
 use Rattle.std.proofs.lemmas.Bool.{cases_Bool, false≢true, or_parts}
 use Rattle.std.proofs.lemmas.List.Sums.{take_while-cons, sum_by-cons}
+use Rattle.std.proofs.lemmas.Option.{none-some, same_Some}
 use Rattle.adm_lists.proofs.Members.{In}
 use Rattle.adm_types.specs.Limits.{is_listed}
 use Rattle.adm_match.specs.declared.problem.Wish.{Wish}
@@ -113,6 +114,12 @@ at_index (y ∷ ys) x at = elim at [
   | inl same ↦ (zero, ap Some same)
   | inr later ↦ let found = at_index ys x later in (suc found.0, found.1)
 ]
+
+-- and what is at an index is in the list
+pub in_index : {X : Type 0} (xs : List X) (k : ℕ) (x : X) → slice_get xs k ≡ Some x → In x xs
+in_index [] k x at = absurd (none-some x at)
+in_index (y ∷ ys) zero x at = inl (same_Some y x at)
+in_index (y ∷ ys) (suc k) x at = inr (in_index ys k x at)
 
 -- those that pass one test are those that pass and fail another
 pub split_count : {X : Type 0} (p q : X → Bool) (xs : List X) → count_by p xs ≡ count_by (λ x. p x && not (q x)) xs + count_by (λ x. p x && q x) xs

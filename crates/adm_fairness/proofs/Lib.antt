@@ -26,3 +26,4 @@ pub mod Better
 pub mod Settled
 pub mod Front
 pub mod Again
+pub mod Joins

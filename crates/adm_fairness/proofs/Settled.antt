@@ -1,5 +1,4 @@
--- A problem in which each entrant is tenant of what the best allocation of another one gave it, and lists that last: its only stable
--- allocation is that one.
+-- A problem in which each entrant is tenant of what the best allocation of another one gave it has that one stable allocation.
 use Rattle.std.proofs.Common.{◌≡◌, ◌∙◌, ap, sym, refl, true, false, ◌&&◌, ◌||◌, ℕ, ◌<◌, ◌≤◌, List, [], ◌∷◌, length, Option, Some, None, inl, inr, arith}
 use Rattle.std.specs.Prelude.{IfSome, nat_lt, count_by}
 use Rattle.std.specs.List.{AllZip, list_any, slice_get}

@@ -5,3 +5,4 @@ pub mod Cutoffs
 pub mod Improvements
 pub mod Honesty
 pub mod Optimal
+pub mod Lattice

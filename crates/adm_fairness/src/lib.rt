@@ -5,6 +5,7 @@ mod code;
 mod cutoffs;
 mod honesty;
 mod improvements;
+mod lattice;
 mod optimal;
 mod rounds;
 mod season;
@@ -18,6 +19,7 @@ pub use honesty::{
     no_application_helps, no_applications_help, no_gain_by_declining, no_loss_by_not_applying,
 };
 pub use improvements::{no_loss_by_amend, no_loss_by_rank};
+pub use lattice::{best_is_last_choice, join_is_stable};
 pub use optimal::{none_fairer, not_all_better};
 pub use rounds::{round_is_fair, same_lots_same_places};
 pub use season::{envy_has_cause, no_new_envy, place_ends_fairly, plan_is_kept};
