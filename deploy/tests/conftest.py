@@ -24,6 +24,14 @@ FOLDERS = {"REGISTERS": "lib", "COPIES": "backups", "SETTINGS": "etc",
            "OFFICES": "office"}
 
 
+@pytest.fixture(autouse=True)
+def umask_fixture() -> typing.Iterator[None]:
+    """A command sets the umask of its process, which is that of all tests."""
+    before = os.umask(0o022)
+    yield
+    os.umask(before)
+
+
 @pytest.fixture(name="machine")
 def machine_fixture(tmp_path: pathlib.Path, monkeypatch: pytest.MonkeyPatch) -> pathlib.Path:
     """A folder whose folders are those of the machine: lib, backups, etc, log, office."""
