@@ -1,12 +1,13 @@
 -- A round that is held again by the same lots, with nothing changed, gives each child what it has.
-use Rattle.std.proofs.Common.{◌≡◌, ◌∙◌, ap, sym, subst, refl, cond, Bool, true, false, not, ◌&&◌, ◌||◌, ℕ, zero, suc, ◌-◌, ◌<◌, List, ◌++◌, [], ◌∷◌, length, map, Option, Some, None, inl, inr, arith}
-use Rattle.std.specs.Prelude.{All, IfSome, bytes_eq, is_some, nat_le, filter, option_map, option_and_then}
-use Rattle.std.specs.List.{AllZip, slice_get}
+use Rattle.std.proofs.Common.{◌≡◌, ◌∙◌, ap, sym, subst, refl, cond, Bool, true, false, not, ◌&&◌, ◌||◌, ℕ, ◌-◌, ◌<◌, List, ◌++◌, [], ◌∷◌, length, map, Option, Some, None, inl, inr, arith}
+use Rattle.std.specs.Prelude.{All, Any, IfSome, bytes_eq, is_some, nat_le, filter, option_map, option_and_then}
+use Rattle.std.specs.List.{AllZip}
 use Rattle.std.specs.Cmp.{nat_cmp_total, unsigned_Decides}
 use Rattle.std.specs.FinMap.{get, insert, entries, values, nat_cmp-IsAntisymmetric}
 use Rattle.std.specs.Option.{option_or, option_to_list}
 use Rattle.std.proofs.lemmas.Bool.{cases_Bool, false≢true, and_parts, not-true}
-use Rattle.std.proofs.lemmas.Option.{same_Some, none-some}
+use Rattle.std.proofs.lemmas.Option.{same_Some, slice_get-get_or}
+use Rattle.adm_laws.proofs.Zips.{zip_any}
 use Rattle.adm_lists.proofs.Counts.{count_le}
 use Rattle.adm_lists.proofs.Keys.{at_key, put_over}
 use Rattle.adm_lists.proofs.Maps.{entries_in_order}
@@ -29,7 +30,7 @@ use Rattle.adm_match.specs.Market.{Code, Candidate, Market, preference_rank, ass
 use Rattle.adm_match.specs.Stability.{Allocation, IsBest}
 use Rattle.adm_match.proofs.Posed as problem
 use Rattle.adm_match.proofs.Distinct.{distinct}
-use Rattle.adm_match.proofs.RanksAndBlocks.{has_tells, has_true, wish_at_rank}
+use Rattle.adm_match.proofs.RanksAndBlocks.{at_All, has_tells, has_true, wish_at_rank}
 use Rattle.adm_round.specs.declared.applicants.Applicant.{Applicant}
 use Rattle.adm_round.specs.Round.{number_of, listed, IsPosed}
 use Rattle.adm_round.specs.Ranks.{site_of, lot_at, candidate_of, seats_of}
@@ -52,11 +53,11 @@ use Rattle.adm_commands.proofs.RoundOffers.{IsRound, offer_made, outcome, is_giv
 use Rattle.adm_commands.proofs.Shows.{no_row}
 use Rattle.adm_fairness.specs.Rounds.{key_in, KeepsWantedLots, SameLotsSamePlaces}
 use Rattle.adm_fairness.proofs.Beside.{BothGive, zip_given, zip_mapped}
-use Rattle.adm_fairness.proofs.Codes.{rank_in, rank_wishes, length_wishes, until, at_index}
+use Rattle.adm_fairness.proofs.Codes.{rank_in, rank_wishes, length_wishes, until, at_index, in_index}
 use Rattle.adm_fairness.proofs.Envy.{kept_well}
 use Rattle.adm_fairness.proofs.FairRound.{round_facts, given_listed, until_wanted}
 use Rattle.adm_fairness.proofs.Front.{IsFront, front_itself, front_until, until_filter}
-use Rattle.adm_fairness.proofs.NoPriority.{each_key}
+use Rattle.adm_fairness.proofs.NoPriority.{its_key}
 use Rattle.adm_fairness.proofs.RoundPlaces.{wanted_here, rank_given, fresh_none, child_of, places_after, at_child, at_entries, now_at, plan_stays}
 use Rattle.adm_fairness.proofs.Settled.{IsSettled, keeps_all}
 use Rattle.adm_fairness.proofs.Taking.{IsTaking, taking, taking_of}
@@ -237,8 +238,7 @@ module _ {old : State} {numbers : List ℕ} {outcomes : List Outcome} (facts : I
             let k = at_index m.entrants (entrant x) (in_map entrant (round_applicants old) x xt) in
             let apart = distinct m (problem.posed m (faultless (sites old) (round_applicants old) first_lots facts.posed)) in
             let key : key_at (entrant x).list s ≡ Some w.0.key = ap (key_at (entrant x).list) (sym w.2) ∙ apart.key_of k.0 (entrant x) (preference_rank (entrant x).list s) w.0 k.1 w.1 in
-            let known = All_in (λ (e : Candidate). (code : Code) → IfSome (key_at e.list code) (λ q. key_in old first_lots code e.child ≡ Some q)) m.entrants (entrant x)
-            (each_key old numbers facts.well none_s) (in_map entrant (round_applicants old) x xt) s in
+            let known = its_key old numbers facts.well none_s x xt s in
             (w.0.key, key, subst (λ o. IfSome o (λ q. key_in old first_lots s (number_of x) ≡ Some q)) key known)
 
         key_now : (s : Code) → preference_rank (entrant' y).list s < length (entrant' y).list → (key : RankKey) × (key_at (entrant' y).list s ≡ Some key) × (key_in next second_lots s (number_of y) ≡ Some key)
@@ -247,8 +247,7 @@ module _ {old : State} {numbers : List ℕ} {outcomes : List Outcome} (facts : I
             let k = at_index m'.entrants (entrant' y) (in_map entrant' (round_applicants next) y yt) in
             let apart = distinct m' (problem.posed m' (faultless (sites next) (round_applicants next) second_lots fits)) in
             let key : key_at (entrant' y).list s ≡ Some w.0.key = ap (key_at (entrant' y).list) (sym w.2) ∙ apart.key_of k.0 (entrant' y) (preference_rank (entrant' y).list s) w.0 k.1 w.1 in
-            let known = All_in (λ (e : Candidate). (code : Code) → IfSome (key_at e.list code) (λ q. key_in next second_lots code e.child ≡ Some q)) m'.entrants (entrant' y)
-            (each_key next drawn well none) (in_map entrant' (round_applicants next) y yt) s in
+            let known = its_key next drawn well none y yt s in
             (w.0.key, key, subst (λ o. IfSome o (λ q. key_in next second_lots s (number_of y) ≡ Some q)) key known)
 
         within : (s : Code) → preference_rank (entrant x).list s < assigned_rank (entrant x).list (a (number_of x)) → (preference_rank (entrant' y).list s ≡ preference_rank (entrant x).list s) × (preference_rank (entrant' y).list s < length (entrant' y).list)
@@ -309,19 +308,14 @@ module _ {old : State} {numbers : List ℕ} {outcomes : List Outcome} (facts : I
       kept_again : (b : Allocation) → IsBest m' b → (y : Applicant) → In y (round_applicants next) → (b (number_of y) ≡ y.own) × (is_fresh y.own (b (number_of y)) ≡ false)
       kept_again b best y yt =
           let j = at_index (round_applicants next) y yt in
-          let x = other_there (round_applicants old) (round_applicants next) applicants_again j.0 y j.1 in
-          let given : b (number_of y) ≡ y.own = ap b (ap (λ (child : Child). child.no) x.2.child) ∙ (same_given b best x.0 x.1 ∙ sym x.2.own) in
+          let x = at_All (λ (z : Applicant). Any (λ x. IsAgain x z) (round_applicants old)) (round_applicants next) j.0 y (zip_any IsAgain (round_applicants old) (round_applicants next) applicants_again) j.1 in
+          let xt = in_index (round_applicants old) x.0 x.1 (slice_get-get_or (round_applicants old) x.0 x.1 x.2 ∙ ap Some x.3) in
+          let given : b (number_of y) ≡ y.own = ap b (ap (λ (child : Child). child.no) x.4.child) ∙ (same_given b best x.1 xt ∙ sym x.4.own) in
           (given, ap (is_fresh y.own) given ∙ not_fresh y.own)
         where
           not_fresh : (own : Option Code) → is_fresh own own ≡ false
           not_fresh None = refl
           not_fresh (Some s) = ap not (has_true (Some s) s refl)
-
-          other_there : (xs ys : List Applicant) → AllZip IsAgain xs ys → (i : ℕ) (z : Applicant) → slice_get ys i ≡ Some z → (x : Applicant) × In x xs × IsAgain x z
-          other_there xs [] h i z at = absurd (none-some z at)
-          other_there [] (w ∷ ws) h i z at = absurd h
-          other_there (v ∷ vs) (w ∷ ws) h zero z at = (v, inl refl, subst (IsAgain v) (same_Some w z at) h.0)
-          other_there (v ∷ vs) (w ∷ ws) h (suc i) z at = let rest = other_there vs ws h.1 i z at in (rest.0, inr rest.1, rest.2)
 
 -- a round was held after one
 held_after : (old : State) (draw day : ℕ) (numbers : List ℕ) (outcomes : List Outcome) → WellFormed old → first_failing (round.tests old draw day numbers) ≡ None

@@ -1,5 +1,5 @@
 -- Lists of codes, places in lists, counts, and a pair that does not block.
-use Rattle.std.proofs.Common.{◌≡◌, ◌∙◌, ap, sym, subst, refl, cond, Bool, true, false, not, ◌||◌, ◌&&◌, ℕ, zero, suc, ◌+◌, ◌<◌, List, [], ◌∷◌, ◌++◌, length, map, Some, inl, inr, arith}
+use Rattle.std.proofs.Common.{◌≡◌, ◌≢◌, ◌∙◌, ap, sym, subst, refl, cond, Bool, true, false, not, ◌||◌, ◌&&◌, ℕ, zero, suc, ◌+◌, ◌<◌, List, [], ◌∷◌, ◌++◌, length, map, Some, inl, inr, arith}
 use Rattle.std.specs.Prelude.{bytes_eq, filter, count_by}
 use Rattle.std.specs.List.{position_or_len, take_while, slice_get}
 use Rattle.std.proofs.lemmas.Bool.{cases_Bool, false≢true, or_parts}
@@ -8,7 +8,9 @@ use Rattle.std.proofs.lemmas.Option.{none-some, same_Some}
 use Rattle.adm_lists.proofs.Members.{In}
 use Rattle.adm_types.specs.Limits.{is_listed}
 use Rattle.adm_match.specs.declared.problem.Wish.{Wish}
-use Rattle.adm_match.specs.Market.{Code, preference_rank}
+use Rattle.adm_match.specs.Market.{Code, Candidate, Market, preference_rank, is_tenant, key_at, both_precede, ranks_before}
+use Rattle.adm_match.specs.Distinct.{Distinct}
+use Rattle.adm_match.proofs.RanksAndBlocks.{wish_at_rank}
 use Rattle.adm_round.proofs.ListedSchools.{school_of_wish}
 
 -- the index of a school among codes
@@ -144,3 +146,16 @@ not_blocked p t r g none wished =
     let first = or_parts t (r || g) rest in
     let second = or_parts r g first.1 in
     (first.0, second.0, second.1)
+
+-- of two that compete for a school of both lists, one that does not rank before the other ranks after it
+pub other_first : (m : Market) → Distinct m → (k l : ℕ) (e c : Candidate) (s : Code) → slice_get m.entrants k ≡ Some e → slice_get m.entrants l ≡ Some c → k ≢ l
+    → preference_rank e.list s < length e.list → preference_rank c.list s < length c.list → is_tenant e s ≡ false → is_tenant c s ≡ false
+    → ranks_before s e c ≡ false → ranks_before s c e ≡ true
+other_first m d k l e c s ek cl differ on on' free free' after' =
+    let w = wish_at_rank e.list s on in
+    let z = wish_at_rank c.list s on' in
+    let e_key : key_at e.list s ≡ Some w.0.key = ap (key_at e.list) (sym w.2) ∙ d.key_of k e (preference_rank e.list s) w.0 ek w.1 in
+    let c_key : key_at c.list s ≡ Some z.0.key = ap (key_at c.list) (sym z.2) ∙ d.key_of l c (preference_rank c.list s) z.0 cl z.1 in
+    (λ i. both_precede (c_key i) (e_key i))
+    ∙ d.keys k l e c (preference_rank e.list s) (preference_rank c.list s) w.0 z.0 differ ek cl w.1 z.1 (w.2 ∙ sym z.2) (ap (is_tenant e) w.2 ∙ free) (ap (is_tenant c) w.2 ∙ free')
+    (sym (λ i. both_precede (e_key i) (c_key i)) ∙ after')

@@ -18,7 +18,7 @@ use Rattle.adm_match.proofs.FoundWishes.{rank_within}
 use Rattle.adm_match.proofs.Placed.{on_list}
 use Rattle.adm_fairness.specs.Cutoffs.{Cutoff, Open, Last, Closed, IsCutoff, ByClass, ByDistance, ByLot, reason_after, reason_by, refusal_at, IsDecided, CutoffsDecide, SameCutoffsSamePlaces, SomeCutoff}
 use Rattle.adm_lists.proofs.Members.{In, in_All}
-use Rattle.adm_fairness.proofs.Codes.{not_blocked, at_index}
+use Rattle.adm_fairness.proofs.Codes.{not_blocked, at_index, other_first}
 
 -- ---- keys
 
@@ -115,10 +115,9 @@ module _ (m : Market) (a : Allocation) (fits : first_fault m ≡ None) (stable :
             omega (arith, ltb-true _ _ (sym (ap (λ o. nat_lt (preference_rank e.list s) (assigned_rank e.list o)) mine) ∙ wished)) in
             let not_later : ranks_before s e g ≡ false =
             sym (ap (λ b. b && ranks_before s e g) had.4.0) ∙ list_any_not (ranks_after a s e) m.entrants l g first gl in
-            let before : precedes w.0.key z.0.key ≡ false = sym (λ i. both_precede (w.3 i) (z.3 i)) ∙ not_later in
             let later : precedes z.0.key w.0.key ≡ true =
-            apart.keys k l e g (preference_rank e.list s) (preference_rank g.list s) w.0 z.0 differ ek gl w.1 z.1 (w.2 ∙ sym z.2)
-            (ap (is_tenant e) w.2 ∙ free) (ap (is_tenant g) w.2 ∙ guest.1) before in
+            sym (λ i. both_precede (z.3 i) (w.3 i))
+            ∙ other_first m apart k l e g s ek gl differ (preferred_on e s wished) (on_list m a l g s stable.acceptable gl guest.0) free guest.1 not_later in
             ap (λ o. is_some (option_and_then (reason_after last) o)) w.3 ∙ is_after last w.0.key (subst (λ (x : RankKey). precedes x w.0.key ≡ true) last_is later)
 
     decided : IsDecided a cutoffs e

@@ -40,7 +40,7 @@ use Rattle.adm_fairness.specs.Rounds.{key_in}
 use Rattle.adm_fairness.specs.Honesty.{KeepsCommonLots}
 use Rattle.adm_fairness.proofs.Codes.{at_index}
 use Rattle.adm_fairness.proofs.Taking.{same_wishes}
-use Rattle.adm_fairness.proofs.NoPriority.{each_key}
+use Rattle.adm_fairness.proofs.NoPriority.{its_key}
 use Rattle.adm_fairness.proofs.Beside.{zip_mapped}
 
 -- an applicant is the same in both, or it is one of the group, which has no place in the second
@@ -110,19 +110,11 @@ module _ (group : ℕ → Bool) (s t : State) (numbers drawn : List ℕ) (well_s
       let lists = on_list (entrant_s x).list (listed x) w.school (its_schools (sites s) (round_applicants s) first_lots fits_s x xt) on in
       let lists' = on_list (entrant_t y).list (listed y) w.school (its_schools (sites t) (round_applicants t) second_lots fits_t y yt) on' in
       let lot = lot_same x y xt yt number w.school lists lists' in
-      let first = at_some (λ q. key_in s first_lots w.school (number_of x) ≡ Some q) (key_at (entrant_s x).list w.school) w.key is (key_of_s x xt w.school) in
-      let second = at_some (λ q. key_in t second_lots w.school (number_of y) ≡ Some q) (key_at (entrant_t y).list w.school) key is' (key_of_t y yt w.school) in
+      let first = at_some (λ q. key_in s first_lots w.school (number_of x) ≡ Some q) (key_at (entrant_s x).list w.school) w.key is (its_key s numbers well_s none_s x xt w.school) in
+      let second = at_some (λ q. key_in t second_lots w.school (number_of y) ≡ Some q) (key_at (entrant_t y).list w.school) key is' (its_key t drawn well_t none_t y yt w.school) in
       let keys : key_in t second_lots w.school (number_of x) ≡ key_in s first_lots w.school (number_of x) =
       λ i. option_and_then (λ (school : School). option_map (λ (row : Child). key_of school row (lot i)) (get (same_children i) (number_of x))) (get (same_schools i) w.school) in
       same_Some key w.key (sym second ∙ (ap (key_in t second_lots w.school) number ∙ (keys ∙ first)))
-    where
-      key_of_s : (x : Applicant) → In x (round_applicants s) → (code : Code) → IfSome (key_at (entrant_s x).list code) (λ q. key_in s first_lots code (number_of x) ≡ Some q)
-      key_of_s x xt = All_in (λ (e : Candidate). (code : Code) → IfSome (key_at e.list code) (λ q. key_in s first_lots code e.child ≡ Some q)) m.entrants (entrant_s x)
-          (each_key s numbers well_s none_s) (in_map entrant_s (round_applicants s) x xt)
-
-      key_of_t : (y : Applicant) → In y (round_applicants t) → (code : Code) → IfSome (key_at (entrant_t y).list code) (λ q. key_in t second_lots code (number_of y) ≡ Some q)
-      key_of_t y yt = All_in (λ (e : Candidate). (code : Code) → IfSome (key_at e.list code) (λ q. key_in t second_lots code e.child ≡ Some q)) m'.entrants (entrant_t y)
-          (each_key t drawn well_t none_t) (in_map entrant_t (round_applicants t) y yt)
 
   -- so it may hand in what it lists in the second
   may : (x y : Applicant) → In x (round_applicants s) → In y (round_applicants t) → number_of y ≡ number_of x → y.own ≡ None → MayHandIn (entrant_t y).list (entrant_t y).tenant (entrant_s x)

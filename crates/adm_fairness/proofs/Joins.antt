@@ -9,7 +9,7 @@ use Rattle.std.proofs.lemmas.Slice.Eq.{bytes_eq-Decides}
 use Rattle.adm_lists.proofs.Members.{finds, find_gives}
 use Rattle.adm_types.specs.Code.{has}
 use Rattle.adm_match.specs.declared.problem.Seats.{Seats}
-use Rattle.adm_match.specs.Market.{Code, Candidate, Market, preference_rank, assigned_rank, is_tenant, key_at, both_precede, ranks_before, quota_of}
+use Rattle.adm_match.specs.Market.{Code, Candidate, Market, preference_rank, assigned_rank, is_tenant, ranks_before, quota_of}
 use Rattle.adm_match.specs.Stability.{Allocation, IsAcceptable, count_at, is_guest, prefers, ranks_after, IsContent, IsStable}
 use Rattle.adm_match.specs.Distinct.{Distinct, Seated}
 use Rattle.adm_match.proofs.Posed.{posed, list_any_not}
@@ -21,7 +21,7 @@ use Rattle.adm_match.proofs.SideBySide.{more_pass}
 use Rattle.adm_match_laws.specs.FullSchools.{SameSchoolsFill}
 use Rattle.adm_match_laws.proofs.Generous.{count_upto}
 use Rattle.adm_fairness.specs.Lattice.{better_of, join, JoinIsStable, BestIsLastChoice}
-use Rattle.adm_fairness.proofs.Codes.{not_blocked, at_index, in_index}
+use Rattle.adm_fairness.proofs.Codes.{not_blocked, at_index, in_index, other_first}
 
 -- a sum with no larger terms, of which one is smaller, is smaller
 sum_less : (f g : Seats → ℕ) (xs : List Seats) (k : ℕ) (x : Seats) → ((y : Seats) → f y ≤ g y) → slice_get xs k ≡ Some x → f x < g x → sum_by f xs < sum_by g xs
@@ -30,19 +30,6 @@ sum_less f g (y ∷ ys) zero x h at less =
     let same : y ≡ x = same_Some y x at in
     omega (arith, sum_by-cons f y ys, sum_by-cons g y ys, sum_upto f g ys h, less, ap f same, ap g same)
 sum_less f g (y ∷ ys) (suc k) x h at less = omega (arith, sum_by-cons f y ys, sum_by-cons g y ys, h y, sum_less f g ys k x h at less)
-
--- of two that compete for a school of both lists, one that does not rank before the other ranks after it
-other_first : (m : Market) → Distinct m → (k l : ℕ) (e c : Candidate) (s : Code) → slice_get m.entrants k ≡ Some e → slice_get m.entrants l ≡ Some c → k ≢ l
-    → preference_rank e.list s < length e.list → preference_rank c.list s < length c.list → is_tenant e s ≡ false → is_tenant c s ≡ false
-    → ranks_before s e c ≡ false → ranks_before s c e ≡ true
-other_first m d k l e c s ek cl differ on on' free free' after' =
-    let w = wish_at_rank e.list s on in
-    let z = wish_at_rank c.list s on' in
-    let e_key : key_at e.list s ≡ Some w.0.key = ap (key_at e.list) (sym w.2) ∙ d.key_of k e (preference_rank e.list s) w.0 ek w.1 in
-    let c_key : key_at c.list s ≡ Some z.0.key = ap (key_at c.list) (sym z.2) ∙ d.key_of l c (preference_rank c.list s) z.0 cl z.1 in
-    (λ i. both_precede (c_key i) (e_key i))
-    ∙ d.keys k l e c (preference_rank e.list s) (preference_rank c.list s) w.0 z.0 differ ek cl w.1 z.1 (w.2 ∙ sym z.2) (ap (is_tenant e) w.2 ∙ free) (ap (is_tenant c) w.2 ∙ free')
-    (sym (λ i. both_precede (e_key i) (c_key i)) ∙ after')
 
 -- what an entrant lacks in an allocation that gives it nothing better it prefers
 prefers_other : (m : Market) (a b : Allocation) (k : ℕ) (e : Candidate) (s : Code) → IsAcceptable m b → slice_get m.entrants k ≡ Some e → b e.child ≡ Some s

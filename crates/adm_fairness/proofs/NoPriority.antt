@@ -1,16 +1,14 @@
 -- By which key a child ranks in a round, and that neither its list nor its day of application has a part in it.
-use Rattle.std.proofs.Common.{◌≡◌, ◌∙◌, ap, sym, subst, refl, cond, true, ℕ, ◌+◌, ◌&&◌, List, [], ◌∷◌, length, map, Option, Some, None, T, arith, Bool, false}
-use Rattle.std.specs.Prelude.{All, IfSome, bytes_eq, is_some, option_map, option_and_then}
-use Rattle.std.specs.List.{filter_map, cons_option}
+use Rattle.std.proofs.Common.{◌≡◌, ◌∙◌, ap, sym, subst, refl, cond, ℕ, List, [], ◌∷◌, map, Option, Some, None}
+use Rattle.std.specs.Prelude.{All, IfSome, bytes_eq, option_map, option_and_then}
+use Rattle.std.specs.List.{AllZip, filter_map, cons_option}
 use Rattle.std.specs.declared.cmp.Ordering.{Ordering}
-use Rattle.std.specs.declared.cmp.Ordering.TheVariants.{Less, Equal, Greater}
-use Rattle.std.specs.Ordering.{is_eq}
 use Rattle.std.specs.Cmp.{IsTotalOrder, nat_cmp_total}
-use Rattle.std.specs.FinMap.{FinMap, get, insert, entries, values, find, put, is_sorted, entries-insert, entries_sorted, get-entries}
-use Rattle.std.specs.FinMap.Entries.{by_order, length-put}
+use Rattle.std.specs.FinMap.{FinMap, get, insert, entries, values, put, entries-insert, entries_sorted, get-entries}
 use Rattle.std.specs.List as list
-use Rattle.std.proofs.lemmas.Option.{none-some, same_Some}
+use Rattle.std.proofs.lemmas.Option.{same_Some}
 use Rattle.std.proofs.lemmas.Slice.Eq.{bytes_eq-Decides}
+use Rattle.adm_laws.proofs.Zips.{put_zip}
 use Rattle.adm_lists.proofs.Members.{In, in_All, from_map, from_filter_map, find_gives}
 use Rattle.adm_types.specs.declared.rows.School.{School}
 use Rattle.adm_types.specs.declared.rows.Child.{Child}
@@ -57,12 +55,15 @@ module _ (s : State) (numbers : List ℕ) (well : WellFormed s) (none : lots_fau
       ∙ (ap (λ c. key_in s lots c taking.0.child) (sym here)
       ∙ (key_of_wish s well lots fits taking.0 x taking.1 from.0 it.0 it.1 ∙ ap (λ (v : Wish). Some v.key) same))
 
+  pub its_key : (x : Applicant) → In x (round_applicants s) → (code : Code) → IfSome (key_at (entrant x).list code) (λ key. key_in s (round_lots s numbers) code (number_of x) ≡ Some key)
+  its_key x at code = key_listed x at code (list.find (λ (w : Wish). bytes_eq w.school code) (entrant x).list) refl
+
   pub each_key : All (λ (e : Candidate). (code : Code) → IfSome (key_at e.list code) (λ key. key_in s (round_lots s numbers) code e.child ≡ Some key)) (round_market s numbers).entrants
   each_key = in_All (λ (e : Candidate). (code : Code) → IfSome (key_at e.list code) (λ key. key_in s (round_lots s numbers) code e.child ≡ Some key)) (round_market s numbers).entrants
       (λ e at.
       let from = from_map entrant (round_applicants s) e at in
       subst (λ (c : Candidate). (code : Code) → IfSome (key_at c.list code) (λ key. key_in s (round_lots s numbers) code c.child ≡ Some key)) from.2
-      (λ code. key_listed from.0 from.1 code (list.find (λ (w : Wish). bytes_eq w.school code) (entrant from.0).list) refl))
+      (its_key from.0 from.1))
 
   -- the key of an entrant is that of its child
   pub key_had : (child : ℕ) (code : Code) (key : RankKey) → HasKey s numbers child code key → key_in s (round_lots s numbers) code child ≡ Some key
@@ -87,35 +88,20 @@ list_gives_no_priority_law one other numbers drawn child code first second well 
 
 -- ---- the day
 
-after_first : (a b : Bool) → T (a && b) → T b
-after_first true b p = p
-after_first false b p = absurd p
+-- what two lists give is the same where what is at each index of them gives the same
+same_given : {V Y : Type 0} (f : V → Option Y) (vs ws : List V) → AllZip (λ v w. f w ≡ f v) vs ws → filter_map f ws ≡ filter_map f vs
+same_given f [] [] h = refl
+same_given f [] (w ∷ ws) h = absurd h
+same_given f (v ∷ vs) [] h = absurd h
+same_given f (v ∷ vs) (w ∷ ws) h = λ i. cons_option (h.0 i) (same_given f vs ws h.1 i)
 
 -- what is made of the values is the same where one is put in place of another that gives the same
 module _ {K V Y : Type 0} {R : K → K → Ordering} (total : IsTotalOrder R) (f : V → Option Y) (k : K) (row now : V) (same : f now ≡ f row) where
-  abbrev given : List (K × V) → List Y
-  given es = filter_map f (map (λ e. e.1) es)
-
-  put_same : (es : List (K × V)) → T (is_sorted R es) → find R k es ≡ Some row → given (put R k now es) ≡ given es
-  put_same [] sorted there = absurd (none-some row there)
-  put_same (e ∷ es) sorted there =
-      elim (R k e.0) as (λ o. R k e.0 ≡ o → given (by_order o ((k, now) ∷ e ∷ es) ((e.0, now) ∷ es) (e ∷ put R k now es)) ≡ given (e ∷ es)) [
-        | Less ↦ λ p. absurd (
-            let more = ap (λ o. length (by_order o ((k, now) ∷ e ∷ es) ((e.0, now) ∷ es) (e ∷ put R k now es))) p in
-            let same_length = length-put R total k now (e ∷ es) sorted ∙ ap (λ b. cond b (length (e ∷ es)) (length (e ∷ es) + 1)) (ap is_some there) in
-            omega (arith, more, same_length))
-        | Equal ↦ λ p.
-            let here = ap (λ o. cond (is_eq o) (Some e.1) (find R k es)) p in
-            let was : row ≡ e.1 = same_Some row e.1 (sym there ∙ here) in
-            ap (λ o. cons_option o (given es)) (same ∙ ap f was)
-        | Greater ↦ λ p.
-            let rest = ap (λ o. cond (is_eq o) (Some e.1) (find R k es)) p in
-            ap (cons_option (f e.1)) (put_same es (after_first _ _ sorted) (sym rest ∙ there))
-      ] refl
-
   pub insert_same : (rows : FinMap R V) → get rows k ≡ Some row → filter_map f (values (insert rows k now)) ≡ filter_map f (values rows)
   insert_same rows there =
-      ap given (entries-insert total rows k now) ∙ put_same (entries rows) (entries_sorted rows) (sym (get-entries rows k) ∙ there)
+      ap (λ (es : List (K × V)). filter_map f (map (λ e. e.1) es)) (entries-insert total rows k now)
+      ∙ same_given f (map (λ e. e.1) (entries rows)) (map (λ e. e.1) (put R k now (entries rows)))
+      (put_zip total (λ v w. f w ≡ f v) (λ v. refl) k row now same (entries rows) (entries_sorted rows) (sym (get-entries rows k) ∙ there))
 
 pub day_gives_no_priority_law : DayGivesNoPriority
 day_gives_no_priority_law s application day numbers there part =
