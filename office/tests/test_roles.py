@@ -31,7 +31,7 @@ SCREENS: dict[str, tuple[set[str], set[str]]] = {
     "signing": (ALL, ALL), "why": (READS, set()), "notes": (RECORDS, RECORDS),
     "trials": (READS, RECORDS), "season_end": (RECORDS, {HEAD}), "restores": (READS, {HEAD}),
     "preferences": (RECORDS, RECORDS), "letter_sender": (READS, {HEAD}),
-    "letter_addresses": (READS, RECORDS), "subject": (RECORDS, set()),
+    "letter_addresses": (READS, RECORDS), "subject": (RECORDS, set()), "health": (ALL, set()),
 }
 # what differs from its screen
 OTHERS: dict[tuple[str, str], set[str]] = {
