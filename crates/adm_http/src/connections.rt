@@ -1,5 +1,5 @@
-// Connections, taken one after the other, through a trait whose contracts see their bytes.
-ghost use Rattle.std.specs.Prelude.{ℕ, [], Option, option_map, take, MatchResult};
+// Connections, taken one after the other, and their port, through traits whose contracts see their bytes.
+ghost use Rattle.std.specs.Prelude.{◌≡◌, ℕ, [], Option, option_map, take, MatchResult, OnOk, OnErr};
 ghost use Rattle.adm_http.specs.Connections.{Traffic, Takes, Ends, IsIdle, IsOpen, PrintsAccepts, errors_of};
 
 use adm_wire::{Input, Output, WriteFailed};
@@ -31,4 +31,21 @@ pub trait Connections {
     fn close(&mut self, connection: Self::Connection)
         requires { IsOpen (traffic self.old) }
         ensures { Ends (traffic self.old) (traffic self.new) [] };
+}
+
+/// The port was not taken.
+#[derive(Clone, Copy, Debug, PartialEq, Eq)]
+pub struct NotTaken;
+
+/// Connections to the port that the arguments name: they come once it is taken.
+pub trait Ports: Connections {
+    // What comes to a port, where it is known.
+    ghost traffic_at: { Self → ℕ → Option Traffic };
+
+    /// Takes a port of this machine: from then on its connections come. At the `Err` it was not taken,
+    /// and nor was a connection.
+    fn listen(&mut self, rt: &HostRuntime, port: u16) -> Result<(), NotTaken>
+        ensures taken { OnOk result (Self.traffic self.new ≡ traffic_at self.old port) }
+        ensures idle { OnOk result (IsIdle (Self.traffic self.new)) }
+        ensures left { OnErr result (Self.traffic self.new ≡ Self.traffic self.old) };
 }

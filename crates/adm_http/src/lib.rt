@@ -20,7 +20,7 @@ mod routes;
 mod serve;
 mod states;
 
-pub use connections::Connections;
+pub use connections::{Connections, NotTaken, Ports};
 pub use desk::{answer, serve_one};
 pub use laws::{bodies_are_commands, judged_in_one_way};
 pub use listen::serve_on;

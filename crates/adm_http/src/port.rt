@@ -2,11 +2,11 @@
 ghost use Rattle.std.specs.Prelude.{None};
 
 use crate::arrivals::{Arrivals, SECONDS_OF_REQUEST};
-use crate::connections::Connections;
+use crate::connections::{Connections, NotTaken, Ports};
 use crate::patience::TimedStream;
 use adm_wire::{Input, Output, Watched, WriteFailed};
 use std::alloc::Global;
-use std::net::TcpListener;
+use std::net::{Ipv4Addr, TcpListener};
 use std::time::{Clock, Duration};
 
 /// How many seconds a response may take to go out.
@@ -18,7 +18,7 @@ const SECONDS_OF_REST: u64 = 2;
 /// How many bytes are read and dropped after the response: 2 MiB.
 const BYTES_OF_REST: usize = 2_097_152;
 
-/// The connections to a port: of those that wait the first on which bytes have come, so that a silent
+/// A port of this machine alone. Before it is taken, no connection comes; then of those that wait the first on which bytes have come, so that a silent
 /// one holds up no other.
 ///
 /// An accept that fails, as where the process has no free descriptor, is no connection and is not
@@ -33,19 +33,29 @@ const BYTES_OF_REST: usize = 2_097_152;
 /// only once it has sent a byte. No clause speaks of time, nor of the bytes of a socket.
 #[derive(Drop)]
 pub struct Port<'a, C: Clock> {
-    listener: &'a TcpListener,
     clock: &'a C,
+    taken: Option<Taken>,
+}
+
+/// What takes the connections of a port, and those that were accepted.
+#[derive(Drop)]
+struct Taken {
+    listener: TcpListener,
     arrivals: Arrivals,
 }
 
 impl<'a, C: Clock> Port<'a, C> {
-    /// The connections that come to a listener.
-    pub fn new(alloc: Global, clock: &'a C, listener: &'a TcpListener) -> Self {
-        Port {
+    /// No port yet.
+    pub fn new(clock: &'a C) -> Self {
+        Port { clock, taken: None }
+    }
+
+    /// Takes the connections that come to a listener.
+    pub fn accept_from(&mut self, alloc: Global, listener: TcpListener) {
+        self.taken = Some(Taken {
             listener,
-            clock,
             arrivals: Arrivals::new(alloc),
-        }
+        });
     }
 }
 
@@ -55,7 +65,12 @@ impl<'a, C: Clock> Connections for Port<'a, C> {
     ghost traffic = { λ _. None };
 
     fn next<E: Output>(&mut self, most: usize, errors: &mut E) -> Option<Self::Connection> {
-        let arrival = self.arrivals.next(self.clock, self.listener, most, errors)?;
+        let Some(taken) = &mut self.taken else {
+            return None;
+        };
+        let arrival = taken
+            .arrivals
+            .next(self.clock, &taken.listener, most, errors)?;
         Some(Watched::new(TimedStream::new(
             arrival.stream,
             self.clock,
@@ -75,6 +90,20 @@ impl<'a, C: Clock> Connections for Port<'a, C> {
 
     fn close(&mut self, connection: Self::Connection) {
         drop(connection);
+    }
+}
+
+impl<'a, C: Clock> Ports for Port<'a, C> {
+    ghost traffic_at = { λ _ _. None };
+
+    fn listen(&mut self, rt: &HostRuntime, port: u16) -> Result<(), NotTaken> {
+        match TcpListener::bind(rt, (Ipv4Addr::LOCALHOST, port)) {
+            Ok(listener) => {
+                self.accept_from(rt.alloc(), listener);
+                Ok(())
+            }
+            Err(_) => Err(NotTaken),
+        }
     }
 }
 

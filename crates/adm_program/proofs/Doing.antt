@@ -26,11 +26,12 @@ use Rattle.adm_host.specs.Exits.{ExitsBy, ending_of, error_of, exit_of_result, l
 use Rattle.adm_wire.specs.Streams.{Stream}
 use Rattle.adm_files.specs.Opened.{IsNotOpened}
 use Rattle.adm_files.specs.Imports.{ImportsAs, ImportsFile, ImportsInto}
-use Rattle.adm_program.specs.Served.{ServesAs, ServesOver}
+use Rattle.adm_program.specs.Served.{ServesAs, ServesOver, Visits}
 use Rattle.adm_host.specs.Texts.{PrintsAs, document_text}
 use Rattle.adm_files.specs.Runs.{LineStep, OpensAndRuns, Prints}
 use Rattle.adm_host.specs.Creation.{Creates, CreatesAs}
 use Rattle.adm_program.specs.Does.{Does, shown}
+use Rattle.adm_program.specs.Given.{Given}
 use Rattle.adm_host.specs.declared.document.Document.{Document}
 use Rattle.adm_host.specs.declared.document.Document.TheVariants as document
 use Rattle.adm_host.specs.declared.connecting.OpenError.{OpenError}
@@ -122,13 +123,13 @@ ran (Err f) e closed reported = subst (λ (y : Result Exit Fault). status y clos
 ran (Ok run) e closed reported = subst (λ (y : Result Exit Fault). status y closed ≢ 2) (sym reported) (run_exit run.failed (nat_lt 0 run.refused) closed)
 
 module _ {D : Type 0} {g : disk.Ghosts D} where
-  pub season_made : (image : Image) (a : Action) (file : Bor (List ℕ)) (phase : Phase) (year : ℕ) (days given : List ℕ) (rows : List ℕ → Stream) (input output : Stream)
-      (e : Result Exit Fault) (closed : Result (Files D) (Error × FileStore D g)) (s : SeasonFacts) → a ≡ action.Init file phase year days → given ≡ days
-      → input.new ≡ input.old → output.new ≡ output.old → (s.phase ≡ phase) × (s.year ≡ year) × IsRising given s.holidays
-      → Creates image s e closed → Does image a rows input output e closed
-  season_made image a file phase year days given rows input output e closed s is same read written facts made =
+  pub season_made : (image : Image) (a : Action) (file : Bor (List ℕ)) (phase : Phase) (year : ℕ) (days listed : List ℕ) (given : Given)
+      (e : Result Exit Fault) (closed : Result (Files D) (Error × FileStore D g)) (s : SeasonFacts) → a ≡ action.Init file phase year days → listed ≡ days
+      → given.input.new ≡ given.input.old → given.output.new ≡ given.output.old → (s.phase ≡ phase) × (s.year ≡ year) × IsRising listed s.holidays
+      → Creates image s e closed → Does image a given e closed
+  season_made image a file phase year days listed given e closed s is same read written facts made =
       let rising = subst (λ (l : List ℕ). IsRising l s.holidays) same facts.2 in
-      subst (λ (x : Action). Does image x rows input output e closed) (sym is) (read, written, s, facts.0, facts.1, rising, made)
+      subst (λ (x : Action). Does image x given e closed) (sym is) (read, written, s, facts.0, facts.1, rising, made)
 
   created : (season : SeasonFacts) (found left : Held (FileStore D g)) (e : Result Exit Fault) (closed : Option Error) → CreatesAs season found left e
       → (status e closed ≡ 0) ⊎ (status e closed ≡ 1)
@@ -165,33 +166,33 @@ module _ {D : Type 0} {g : disk.Ghosts D} where
   document_exit image wanted output e closed (inl left) = inr (not_opened image e closed left.0)
   document_exit image wanted output e closed (inr does) = print_exit (document_text does.0.register wanted) output e (error_of closed) does.2.0
 
-  served : (old new : DeskState (Held (FileStore D g))) (port count : ℕ) (output : Stream) (e : Result Exit Fault) (closed : Option Error)
-      → ServesAs old new port count output e → IsOfServing (status e closed)
-  served old new port count output (Err f) closed ends = inr (inl refl)
-  served old new port count output (Ok x) closed ends = subst (λ (y : Exit). IsOfServing (status (Ok y) closed)) (sym ends.2) (served_exit new.failed closed)
+  served : (old new : DeskState (Held (FileStore D g))) (port count : ℕ) (visits : Visits) (output : Stream) (e : Result Exit Fault) (closed : Option Error)
+      → ServesAs old new port count visits output e → IsOfServing (status e closed)
+  served old new port count visits output (Err f) closed ends = inr (inl refl)
+  served old new port count visits output (Ok x) closed ends = subst (λ (y : Exit). IsOfServing (status (Ok y) closed)) (sym ends.2) (served_exit new.failed closed)
 
-  serve_exit : (image : Image) (port count : ℕ) (output : Stream) (e : Result Exit Fault) (closed : Result (Files D) (Error × FileStore D g))
-      → ServesOver image port count output e closed → IsOfServing (status e (error_of closed))
-  serve_exit image port count output e closed (inl left) = inr (inl (not_opened image e closed left.0))
-  serve_exit image port count output e closed (inr does) = served does.0 does.2.after port count output e (error_of closed) does.2.ends
+  serve_exit : (image : Image) (port count : ℕ) (visits : Visits) (output : Stream) (e : Result Exit Fault) (closed : Result (Files D) (Error × FileStore D g))
+      → ServesOver image port count visits output e closed → IsOfServing (status e (error_of closed))
+  serve_exit image port count visits output e closed (inl left) = inr (inl (not_opened image e closed left.0))
+  serve_exit image port count visits output e closed (inr does) = served does.0 does.2.after port count visits output e (error_of closed) does.2.ends
 
   -- what an action that was taken up did
-  made : (image : Image) (a : Action) (rows : List ℕ → Stream) (input output : Stream) (e : Result Exit Fault) (closed : Result (Files D) (Error × FileStore D g)) → Does image a rows input output e closed
+  made : (image : Image) (a : Action) (given : Given) (e : Result Exit Fault) (closed : Result (Files D) (Error × FileStore D g)) → Does image a given e closed
       → ExitsBy (Ok a) (status e (error_of closed))
-  made image (action.Init file phase year days) rows input output e closed does =
+  made image (action.Init file phase year days) given e closed does =
       created does.2 does.6.found does.6.creates.left e (error_of closed) does.6.creates.made
-  made image (action.Do file) rows input output e closed does = lines_exit (AnswersLine (Handles file_state)) image input output e closed does
-  made image (action.WhatIf file) rows input output e closed does = lines_exit AnswersQuestionLine image input output e closed does
-  made image (action.Import file csv) rows input output e closed does = import_exit image (rows csv.now) output e closed does.1
-  made image (action.Serve file port count) rows input output e closed does = serve_exit image port count output e closed does.1
-  made image (action.Letter file child) rows input output e closed does = document_exit image (document.Letter child) output e closed does.1
-  made image (action.List file school) rows input output e closed does = document_exit image (document.List school) output e closed does.1
-  made image (action.RoundReport file round) rows input output e closed does = document_exit image (document.Report round) output e closed does.1
-  made image (action.Pairs file school) rows input output e closed does = document_exit image (document.Pairs school) output e closed does.1
-  made image (action.Show file draw) rows input output e closed does = document_exit image (shown draw) output e closed does.1
+  made image (action.Do file) given e closed does = lines_exit (AnswersLine (Handles file_state)) image given.input given.output e closed does
+  made image (action.WhatIf file) given e closed does = lines_exit AnswersQuestionLine image given.input given.output e closed does
+  made image (action.Import file csv) given e closed does = import_exit image (given.rows csv.now) given.output e closed does.1
+  made image (action.Serve file port count) given e closed does = serve_exit image port count given.visits given.output e closed does.1
+  made image (action.Letter file child) given e closed does = document_exit image (document.Letter child) given.output e closed does.1
+  made image (action.List file school) given e closed does = document_exit image (document.List school) given.output e closed does.1
+  made image (action.RoundReport file round) given e closed does = document_exit image (document.Report round) given.output e closed does.1
+  made image (action.Pairs file school) given e closed does = document_exit image (document.Pairs school) given.output e closed does.1
+  made image (action.Show file draw) given e closed does = document_exit image (shown draw) given.output e closed does.1
 
   -- the status of an action
-  pub exits : (image : Image) (a : Action) (rows : List ℕ → Stream) (input output : Stream) (r : Result (LineEnd D g) (OpenError D g)) (n : ℕ)
-      → IfOk r (λ ended. Does image a rows input output ended.exit ended.closed) → n ≡ exit_code (exit_of_result (line_outcome r)) → ExitsBy (Ok a) n
-  exits image a rows input output (Ok ended) n does reported = subst (λ (m : ℕ). ExitsBy (Ok a) m) (sym reported) (made image a rows input output ended.exit ended.closed does)
-  exits image a rows input output (Err f) n does reported = subst (λ (m : ℕ). ExitsBy (Ok a) m) (sym reported) (unmade a)
+  pub exits : (image : Image) (a : Action) (given : Given) (r : Result (LineEnd D g) (OpenError D g)) (n : ℕ)
+      → IfOk r (λ ended. Does image a given ended.exit ended.closed) → n ≡ exit_code (exit_of_result (line_outcome r)) → ExitsBy (Ok a) n
+  exits image a given (Ok ended) n does reported = subst (λ (m : ℕ). ExitsBy (Ok a) m) (sym reported) (made image a given ended.exit ended.closed does)
+  exits image a given (Err f) n does reported = subst (λ (m : ℕ). ExitsBy (Ok a) m) (sym reported) (unmade a)

@@ -1,12 +1,16 @@
 -- The result of serving connections over a desk, from the clauses of what it calls.
-use Rattle.std.proofs.Common.{◌≡◌, ℕ, Bool, true, false, if◌then◌else◌, refl, Err, subst}
+use Rattle.std.proofs.Common.{◌≡◌, ℕ, Bool, true, false, if◌then◌else◌, inl, inr, refl, Option, Err, subst}
 use Rattle.sqlite_disk.specs.declared.Disk as disk
 use Rattle.sqlite_store.specs.declared.store.FileStore.{FileStore}
+use Rattle.sqlite.specs.Files.{file_state}
 use Rattle.sqlite.specs.Held.{Held}
 use Rattle.adm_desk.specs.DeskState.{DeskState}
+use Rattle.adm_http.specs.Connections.{Errors, ServesEach, Traffic}
+use Rattle.adm_http.specs.Purposes.{RunsBody}
+use Rattle.adm_http.specs.Shows.{Shows}
 use Rattle.adm_host.specs.Exits.{exit_of_status}
 use Rattle.adm_wire.specs.Streams.{Stream}
-use Rattle.adm_program.specs.Served.{IsListenFault, ServesAs, serving_text}
+use Rattle.adm_program.specs.Served.{AreUntaken, IsListenFault, ServesAs, TakesTurns, Visits, serving_text}
 use Rattle.adm_host.specs.Texts.{Puts}
 use Rattle.adm_host.specs.declared.exit.Exit.{Exit}
 use Rattle.adm_host.specs.declared.exit.Exit.TheVariants as exit
@@ -19,15 +23,22 @@ exit_served true status e is reported = subst (λ (n : ℕ). e ≡ exit_of_statu
 exit_served false status e is reported = subst (λ (n : ℕ). e ≡ exit_of_status n) is reported
 
 module _ {D : Type 0} {g : disk.Ghosts D} where
+  -- turns over the connections that a port was taken for
+  pub takes_turns : (count : ℕ) (old new : DeskState (Held (FileStore D g))) (taken coming left : Option Traffic) (before after : Errors) → taken ≡ coming
+      → ServesEach (RunsBody file_state) Shows count (record { desk = old; traffic = taken; errors = before }) (record { desk = new; traffic = left; errors = after })
+      → TakesTurns count old coming new left
+  takes_turns count old new taken coming left before after is it =
+      (before, after, subst (λ (t : Option Traffic). ServesEach (RunsBody file_state) Shows count (record { desk = old; traffic = t; errors = before }) (record { desk = new; traffic = left; errors = after })) is it)
+
   -- no connection could be waited for
-  pub not_ready : (desk : DeskState (Held (FileStore D g))) (port count : ℕ) (output : Stream) (f : Fault) → IsListenFault f → output.new ≡ output.old
-      → ServesAs desk desk port count output (Err f)
-  not_ready desk port count output fault.Listen is same = (refl, same)
-  not_ready desk port count output fault.Memory is same = (refl, same)
-  not_ready desk port count output f is same = absurd is
+  pub not_ready : (desk : DeskState (Held (FileStore D g))) (port count : ℕ) (visits : Visits) (output : Stream) (f : Fault) → IsListenFault f → output.new ≡ output.old → AreUntaken visits
+      → ServesAs desk desk port count visits output (Err f)
+  not_ready desk port count visits output fault.Listen is same untaken = (refl, same, untaken)
+  not_ready desk port count visits output fault.Memory is same untaken = (refl, same, inl untaken)
+  not_ready desk port count visits output f is same untaken = absurd is
 
   -- the line was not printed
-  pub not_printed : (A : Type 0) (desk : DeskState (Held (FileStore D g))) (port count : ℕ) (output : Stream) (f : Fault) → Puts {A = A} (serving_text port) output (Err f)
-      → ServesAs desk desk port count output (Err f)
-  not_printed A desk port count output fault.Listen puts = absurd puts
-  not_printed A desk port count output f puts = (refl, puts)
+  pub not_printed : (A : Type 0) (desk : DeskState (Held (FileStore D g))) (port count : ℕ) (visits : Visits) (output : Stream) (f : Fault) → Puts {A = A} (serving_text port) output (Err f) → visits.new ≡ visits.coming port
+      → ServesAs desk desk port count visits output (Err f)
+  not_printed A desk port count visits output fault.Listen puts untaken = absurd puts
+  not_printed A desk port count visits output f puts untaken = (refl, puts, inr untaken)

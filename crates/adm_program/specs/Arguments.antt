@@ -12,10 +12,11 @@ use Rattle.adm_words.specs.Lines.{ReadsArguments}
 use Rattle.adm_words.specs.declared.actions.Action.{Action}
 use Rattle.adm_words.specs.declared.faults.WordsFault.{WordsFault}
 use Rattle.adm_host.specs.Exits.{has_many_holidays, IsCauseIn, ending_of, error_of, exit_of_result, exit_code, exit_of_arguments, fault_line}
-use Rattle.adm_wire.specs.Streams.{Stream}
 use Rattle.adm_host.specs.Reports.{ReportsText, ReportsOutcome, ReportsArguments}
 use Rattle.adm_host.specs.Found.{IsUntouched, LeavesAsFound}
-use Rattle.adm_program.specs.Does.{Does}
+use Rattle.adm_program.specs.Does.{Does, TakesByServing}
+use Rattle.adm_program.specs.Given.{Around}
+use Rattle.adm_program.specs.Served.{AreUntaken}
 use Rattle.adm_host.specs.declared.connecting.Remainder.{Remainder}
 use Rattle.adm_host.specs.declared.ended.Remains.{Remains}
 use Rattle.adm_host.specs.declared.ended.Remains.TheVariants.{Closed, Unopened}
@@ -28,37 +29,40 @@ use Rattle.adm_host.specs.declared.fault.Fault.TheVariants.{TooManyHolidays}
 abbrev pub texts : List (Bor (List ℕ)) → List (List ℕ)
 texts arguments = map (λ w. w.now) arguments
 
--- the arguments are a usage error, or could not be read because memory ran out, which is reported; nothing was read or written
-pub record IsUsageError (fault : WordsFault) (input output errors : Stream) (status : ℕ) : Type 0 where
-  pub unread : input.new ≡ input.old
-  pub unwritten : output.new ≡ output.old
-  pub reported : ReportsArguments fault errors
+-- the arguments are a usage error, or could not be read because memory ran out, which is reported; nothing was read or written, and no connection taken
+pub record IsUsageError (fault : WordsFault) (around : Around) (status : ℕ) : Type 0 where
+  pub unread : around.given.input.new ≡ around.given.input.old
+  pub unwritten : around.given.output.new ≡ around.given.output.old
+  pub untaken : AreUntaken around.given.visits
+  pub reported : ReportsArguments fault around.errors
   pub exits : status ≡ exit_code (exit_of_arguments fault)
 
 module _ {D : Type 0} (g : disk.Ghosts D) where
-  -- the action failed before it began, for this cause, which is reported; nothing was read or written, and this remains of files that held the image
-  pub record ActionFails (image : Image) (action : Action) (input output errors : Stream) (status : ℕ) (rest : Remainder D g) : Type 0 where
+  -- the action failed before it began, for this cause, which is reported; nothing was read or written, no connection was taken, and this remains of files that held the image
+  pub record ActionFails (image : Image) (action : Action) (around : Around) (status : ℕ) (rest : Remainder D g) : Type 0 where
     pub cause : Fault
     pub is_cause : IsCauseIn action cause
     pub many : IsTrue (has_many_holidays action) → cause ≡ TooManyHolidays
-    pub unread : input.new ≡ input.old
-    pub unwritten : output.new ≡ output.old
-    pub reported : ReportsText (fault_line cause) errors
+    pub unread : around.given.input.new ≡ around.given.input.old
+    pub unwritten : around.given.output.new ≡ around.given.output.old
+    pub untaken : AreUntaken around.given.visits
+    pub reported : ReportsText (fault_line cause) around.errors
     pub exits : status ≡ 1
     pub left : LeavesAsFound image rest
 
   -- the action was done, from the files as they were found to this close, and its end is reported and makes the status
-  pub record Acts (image : Image) (action : Action) (rows : List ℕ → Stream) (input output errors : Stream) (status : ℕ) (closed : Result (Files D) (Error × FileStore D g)) : Type 0 where
+  pub record Acts (image : Image) (action : Action) (around : Around) (status : ℕ) (closed : Result (Files D) (Error × FileStore D g)) : Type 0 where
     pub ended : Result Exit Fault
-    pub does : Does image action rows input output ended closed
+    pub does : Does image action around.given ended closed
+    pub taken : TakesByServing action around.given.visits
     pub few : IsTrue (has_many_holidays action) → ⊥
-    pub reported : ReportsOutcome (ending_of ended (error_of closed)) errors
+    pub reported : ReportsOutcome (ending_of ended (error_of closed)) around.errors
     pub exits : status ≡ exit_code (exit_of_result (ending_of ended (error_of closed)))
 
   -- an action was done where the files were closed, and failed before it began where they were not opened
-  abbrev pub ActsOrFails : Image → Action → (List ℕ → Stream) → Stream → Stream → Stream → ℕ → Remains D g → Type 0
-  ActsOrFails image action rows input output errors status (Closed closed) = Acts image action rows input output errors status closed
-  ActsOrFails image action rows input output errors status (Unopened rest) = ActionFails image action input output errors status rest
+  abbrev pub ActsOrFails : Image → Action → Around → ℕ → Remains D g → Type 0
+  ActsOrFails image action around status (Closed closed) = Acts image action around status closed
+  ActsOrFails image action around status (Unopened rest) = ActionFails image action around status rest
 
   -- the files were not opened at all
   abbrev pub AreUntouched : Remains D g → Type 0
@@ -66,16 +70,16 @@ module _ {D : Type 0} (g : disk.Ghosts D) where
   AreUntouched (Unopened rest) = IsUntouched rest
 
   -- what follows from the arguments, by what they were read as: the status, what the streams got and what remains of files that held the image
-  abbrev pub FollowsFrom : Image → Result Action WordsFault → (List ℕ → Stream) → Stream → Stream → Stream → RunEnd D g → Type 0
-  FollowsFrom image (Ok action) rows input output errors end = ActsOrFails image action rows input output errors end.status end.remains
-  FollowsFrom image (Err fault) rows input output errors end = IsUsageError fault input output errors end.status × AreUntouched end.remains
+  abbrev pub FollowsFrom : Image → Result Action WordsFault → Around → RunEnd D g → Type 0
+  FollowsFrom image (Ok action) around end = ActsOrFails image action around end.status end.remains
+  FollowsFrom image (Err fault) around end = IsUsageError fault around end.status × AreUntouched end.remains
 
   -- the arguments are read, and this follows from them, over files that held what the start says
-  pub record ActsOn {S : Type 0} (first : start.Ghosts S) (arguments : List (Bor (List ℕ))) (rows : List ℕ → Stream) (input output errors : Stream) (end : RunEnd D g) : Type 0 where
+  pub record ActsOn {S : Type 0} (first : start.Ghosts S) (arguments : List (Bor (List ℕ))) (around : Around) (end : RunEnd D g) : Type 0 where
     pub read : Result Action WordsFault
     pub reads : ReadsArguments (texts arguments) read
-    pub follows : FollowsFrom (image_at first) read rows input output errors end
+    pub follows : FollowsFrom (image_at first) read around end
 
   -- so they do with this status, whatever remains of the files
-  abbrev pub ActsWith : {S : Type 0} → start.Ghosts S → List (Bor (List ℕ)) → (List ℕ → Stream) → Stream → Stream → Stream → ℕ → Type 0
-  ActsWith first arguments rows input output errors status = (end : RunEnd D g) × (end.status ≡ status) × ActsOn first arguments rows input output errors end
+  abbrev pub ActsWith : {S : Type 0} → start.Ghosts S → List (Bor (List ℕ)) → Around → ℕ → Type 0
+  ActsWith first arguments around status = (end : RunEnd D g) × (end.status ≡ status) × ActsOn first arguments around end

@@ -1,4 +1,5 @@
 pub mod Served
+pub mod Given
 pub mod Does
 pub mod Logged
 pub mod Arguments

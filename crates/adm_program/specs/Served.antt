@@ -1,5 +1,5 @@
 -- How serving connections to a port ends.
-use Rattle.std.specs.Prelude.{◌≡◌, ◌++◌, ℕ, List, codes, decimal, Result, Ok, Err, if◌then◌else◌}
+use Rattle.std.specs.Prelude.{◌≡◌, ◌⊎◌, ◌++◌, ℕ, List, codes, decimal, Option, Result, Ok, Err, if◌then◌else◌}
 use Rattle.std.specs.Io.KnownBytes.{Appends}
 use Rattle.sqlite_disk.specs.declared.Disk as disk
 use Rattle.sqlite_disk.specs.declared.Files.{Files}
@@ -10,7 +10,7 @@ use Rattle.sqlite.specs.Held.{Held}
 use Rattle.sqlite.specs.Files.{file_state}
 use Rattle.adm_http.specs.Purposes.{RunsBody}
 use Rattle.adm_desk.specs.DeskState.{DeskState}
-use Rattle.adm_http.specs.Connections.{AnswersUpTo}
+use Rattle.adm_http.specs.Connections.{Errors, ServesEach, Traffic}
 use Rattle.adm_http.specs.Shows.{Shows}
 use Rattle.adm_wire.specs.Streams.{Stream}
 use Rattle.adm_host.specs.Found.{Closes}
@@ -25,24 +25,40 @@ use Rattle.adm_host.specs.declared.fault.Fault.TheVariants as fault
 abbrev pub serving_text : ℕ → List ℕ
 serving_text port = codes "serving on 127.0.0.1:" ++ (decimal port ++ codes "\n")
 
+-- what connections come before a port is taken, what comes to each port, and after the run what still comes and what was answered, where it is known
+pub record Visits : Type 0 where
+  pub old : Option Traffic
+  pub coming : ℕ → Option Traffic
+  pub new : Option Traffic
+
+-- no connection was taken
+abbrev pub AreUntaken : Visits → Type 0
+AreUntaken visits = visits.new ≡ visits.old
+
 module _ {D : Type 0} {g : disk.Ghosts D} where
-  -- How serving ended, from the desk as it was to the desk as it is: the line was printed and at most as many requests were answered, and a store that
-  -- failed makes the exit; or the port could not be taken, the line not printed or memory ran out, and no request was answered.
-  abbrev pub ServesAs : DeskState (Held (FileStore D g)) → DeskState (Held (FileStore D g)) → ℕ → ℕ → Stream → Result Exit Fault → Type 0
-  ServesAs old new port count output (Ok e) = Appends output.old output.new (serving_text port)
-      × AnswersUpTo (RunsBody file_state) Shows count old new × (e ≡ (if new.failed then exit.Failed else exit.Done))
-  ServesAs old new port count output (Err fault.Listen) = (new ≡ old) × (output.new ≡ output.old)
-  ServesAs old new port count output (Err f) = (new ≡ old) × Puts {A = Exit} (serving_text port) output (Err f)
+  -- so many turns over connections, one after another, lead from a desk to a desk
+  abbrev pub TakesTurns : ℕ → DeskState (Held (FileStore D g)) → Option Traffic → DeskState (Held (FileStore D g)) → Option Traffic → Type 0
+  TakesTurns count old coming new left = (before : Errors) × (after : Errors)
+      × ServesEach (RunsBody file_state) Shows count (record { desk = old; traffic = coming; errors = before }) (record { desk = new; traffic = left; errors = after })
+
+  -- How serving ended, from the desk as it was to the desk as it is: the line was printed and each turn served the next connection to the port or none, and a
+  -- store that failed makes the exit; or the port could not be taken, the line not printed or memory ran out, and no connection was taken.
+  abbrev pub ServesAs : DeskState (Held (FileStore D g)) → DeskState (Held (FileStore D g)) → ℕ → ℕ → Visits → Stream → Result Exit Fault → Type 0
+  ServesAs old new port count visits output (Ok e) = Appends output.old output.new (serving_text port)
+      × TakesTurns count old (visits.coming port) new visits.new × (e ≡ (if new.failed then exit.Failed else exit.Done))
+  ServesAs old new port count visits output (Err fault.Listen) = (new ≡ old) × (output.new ≡ output.old) × AreUntaken visits
+  ServesAs old new port count visits output (Err f) = (new ≡ old) × Puts {A = Exit} (serving_text port) output (Err f) × (AreUntaken visits ⊎ (visits.new ≡ visits.coming port))
 
   -- connections to the port are served over the desk, and then its own connection is closed
-  pub record Serves (desk : DeskState (Held (FileStore D g))) (port count : ℕ) (output : Stream) (e : Result Exit Fault) (closed : Result (Files D) (Error × FileStore D g)) : Type 0 where
+  pub record Serves (desk : DeskState (Held (FileStore D g))) (port count : ℕ) (visits : Visits) (output : Stream) (e : Result Exit Fault) (closed : Result (Files D) (Error × FileStore D g)) : Type 0 where
     pub after : DeskState (Held (FileStore D g))
-    pub ends : ServesAs desk after port count output e
+    pub ends : ServesAs desk after port count visits output e
     pub closes : Closes after.conn closed
 
-  -- the same over files that held this
-  abbrev pub ServesOver : Image → ℕ → ℕ → Stream → Result Exit Fault → Result (Files D) (Error × FileStore D g) → Type 0
-  ServesOver image port count output e closed = Opens image (output.new ≡ output.old) e closed (λ desk. Serves desk port count output e closed)
+  -- the same over files that held this; where they are not opened, no connection is taken
+  abbrev pub ServesOver : Image → ℕ → ℕ → Visits → Stream → Result Exit Fault → Result (Files D) (Error × FileStore D g) → Type 0
+  ServesOver image port count visits output e closed =
+      Opens image ((output.new ≡ output.old) × AreUntaken visits) e closed (λ desk. Serves desk port count visits output e closed)
 
 -- ---- for a private clause
 

@@ -4,10 +4,11 @@ ghost use Rattle.sqlite_wal.specs.Files.{image_at};
 ghost use Rattle.adm_host.specs.Exits.{has_many_holidays, IsCauseIn, IsOpenFault, RunsArguments, IsDisk};
 ghost use Rattle.adm_host.specs.declared.fault.Fault.TheVariants.{TooManyHolidays};
 ghost use Rattle.adm_http.specs.Connections.{errors_of};
-ghost use Rattle.adm_program.specs.Does.{Does, shown};
+ghost use Rattle.adm_program.specs.Does.{Does, TakesByServing, shown};
 ghost use Rattle.adm_program.specs.Logged.{Logs, LogsBy, PrintsConnections};
-ghost use Rattle.adm_files.specs.Imports.{files, ImportsInto};
-ghost use Rattle.adm_wire.specs.Streams.{reader, writer};
+ghost use Rattle.adm_files.specs.Imports.{ImportsInto};
+ghost use Rattle.adm_wire.specs.Streams.{writer};
+ghost use Rattle.adm_program.specs.Given.{around, given, visits};
 ghost use Rattle.adm_host.specs.Found.{LeavesAsFound};
 ghost use Rattle.adm_program.specs.Served.{ServesOver};
 ghost use Rattle.adm_files.specs.Runs.{Prints};
@@ -19,6 +20,7 @@ use adm_host::{
     Document, Fault, LineEnd, OpenError, Remains, Rows, RunEnd, before_open, end, init,
     leave_unopened, refuse_arguments,
 };
+use adm_http::Ports;
 use adm_types::Season;
 use adm_wire::{Input, Output};
 use adm_words::{Action, action};
@@ -26,47 +28,54 @@ use sqlite::{FileFrom, Start};
 use sqlite_disk::Disk;
 
 /// Does what `run_arguments` does, and gives the exit status alone: what remains of the files is let go.
-pub fn run_words<S: Start, F: Rows, I: Input, O: Output, E: Output, L: Output>(
+pub fn run_words<S: Start, F: Rows, P: Ports, I: Input, O: Output, E: Output, L: Output>(
     rt: &HostRuntime,
     arguments: &[&str],
     start: S,
     rows: &mut F,
+    ports: &mut P,
     input: &mut I,
     output: &mut O,
     errors: &mut E,
     log: &mut L,
 ) -> u8
-    ensures does { ActsWith ⟦<FileFrom<S> as Disk>⟧ S.Start arguments.entry.now (files F.Rows rows.old rows.new)
-        (reader I.Input input.old input.new) (writer O.Output output.old output.new) (writer E.Output errors.old errors.new) result }
+    ensures does { ActsWith ⟦<FileFrom<S> as Disk>⟧ S.Start arguments.entry.now
+        (around F.Rows rows.old rows.new P.Ports ports.old ports.new
+        I.Input input.old input.new O.Output output.old output.new E.Output errors.old errors.new) result }
     ensures status { RunsArguments (texts arguments.entry.now) result }
     ensures log { Logs (texts arguments.entry.now) (errors_of L.Output log.old) (errors_of L.Output log.new) }
 {
-    run_arguments(rt, arguments, start, rows, input, output, errors, log).status
+    run_arguments(
+        rt, arguments, start, rows, ports, input, output, errors, log,
+    )
+    .status
 }
 
 /// Does what the arguments say, with the program's name first, and gives what remains of the files and
 /// the exit status: 0 done; 1 an error, printed to `errors` as `fault: ` and its name; 2 a usage error;
 /// 3 an import or some line was refused, invalid or ran out of memory; 4 the store failed. What goes
 /// wrong with single connections while `serve` runs is printed to `log`, and nothing else is. `rows`
-/// opens the file that `import` reads.
-pub fn run_arguments<S: Start, F: Rows, I: Input, O: Output, E: Output, L: Output>(
+/// opens the file that `import` reads, and `ports` takes the port of `serve`.
+pub fn run_arguments<S: Start, F: Rows, P: Ports, I: Input, O: Output, E: Output, L: Output>(
     rt: &HostRuntime,
     arguments: &[&str],
     start: S,
     rows: &mut F,
+    ports: &mut P,
     input: &mut I,
     output: &mut O,
     errors: &mut E,
     log: &mut L,
 ) -> RunEnd<FileFrom<S>>
-    ensures does { ActsOn ⟦<FileFrom<S> as Disk>⟧ S.Start arguments.entry.now (files F.Rows rows.old rows.new)
-        (reader I.Input input.old input.new) (writer O.Output output.old output.new) (writer E.Output errors.old errors.new) result }
+    ensures does { ActsOn ⟦<FileFrom<S> as Disk>⟧ S.Start arguments.entry.now
+        (around F.Rows rows.old rows.new P.Ports ports.old ports.new
+        I.Input input.old input.new O.Output output.old output.new E.Output errors.old errors.new) result }
     ensures status { RunsArguments (texts arguments.entry.now) result.status }
     ensures log { Logs (texts arguments.entry.now) (errors_of L.Output log.old) (errors_of L.Output log.new) }
 {
     match action(rt.alloc(), arguments) {
         Ok(action) => {
-            let ended = run_action(rt, action, start, rows, input, output, log);
+            let ended = run_action(rt, action, start, rows, ports, input, output, log);
             end(ended, errors)
         }
         Err(fault) => RunEnd {
@@ -79,23 +88,25 @@ pub fn run_arguments<S: Start, F: Rows, I: Input, O: Output, E: Output, L: Outpu
 /// Does what a line of the command line says. The `Err` is why there is no season of these
 /// values, or why the file was not opened, with what remained of it; then nothing was read or
 /// written.
-fn run_action<S: Start, F: Rows, I: Input, O: Output, L: Output>(
+fn run_action<S: Start, F: Rows, P: Ports, I: Input, O: Output, L: Output>(
     rt: &HostRuntime,
     action: Action<'_>,
     start: S,
     rows: &mut F,
+    ports: &mut P,
     input: &mut I,
     output: &mut O,
     log: &mut L,
 ) -> Result<LineEnd<FileFrom<S>>, OpenError<FileFrom<S>>>
-    ensures ok { IfOk result (λ ended. Does (image_at S.Start) action.entry (files F.Rows rows.old rows.new)
-        (reader I.Input input.old input.new)
-        (writer O.Output output.old output.new)
+    ensures ok { IfOk result (λ ended. Does (image_at S.Start) action.entry
+        (given F.Rows rows.old rows.new P.Ports ports.old ports.new I.Input input.old input.new O.Output output.old output.new)
         ended.exit ended.closed) }
     ensures err { IfErr result (λ e. IsCauseIn action.entry e.fault) }
     ensures left { IfErr result (λ e. LeavesAsFound (image_at S.Start) e.remains) }
     ensures many { IsTrue (has_many_holidays action.entry) → IsErrAnd result (λ e. e.fault ≡ TooManyHolidays) }
-    ensures untouched { OnErr result ((I.remaining input.new ≡ I.remaining input.old) × (O.contents output.new ≡ O.contents output.old)) }
+    ensures untouched { OnErr result ((I.remaining input.new ≡ I.remaining input.old) × (O.contents output.new ≡ O.contents output.old)
+        × (P.traffic ports.new ≡ P.traffic ports.old)) }
+    ensures taken { TakesByServing action.entry (visits P.Ports ports.old ports.new) }
     ensures log { LogsBy (Ok action.entry) (errors_of L.Output log.old) (errors_of L.Output log.new) }
 {
     match action {
@@ -111,7 +122,9 @@ fn run_action<S: Start, F: Rows, I: Input, O: Output, L: Output>(
         Action::Do { file } => do_lines(rt, file, start, input, output),
         Action::WhatIf { file } => answer_questions(rt, file, start, input, output),
         Action::Import { file, csv } => import(rt, file, csv, start, rows, output),
-        Action::Serve { file, port, count } => serve(rt, file, start, port, count, output, log),
+        Action::Serve { file, port, count } => {
+            serve(rt, file, start, ports, port, count, output, log)
+        }
         Action::Letter { file, child } => {
             print(rt, file, start, Document::Letter(child), output)
         }
@@ -138,26 +151,28 @@ fn shown(draw: Option<u32>) -> Document
 
 /// Serves connections to a port over the register in the file, which is there. The `Err` is why it was
 /// not opened; then nothing was written.
-fn serve<S: Start, O: Output, L: Output>(
+fn serve<S: Start, P: Ports, O: Output, L: Output>(
     rt: &HostRuntime,
     file: &str,
     start: S,
+    ports: &mut P,
     port: u16,
     count: u32,
     output: &mut O,
     log: &mut L,
 ) -> Result<LineEnd<FileFrom<S>>, OpenError<FileFrom<S>>>
     ensures ok { IfOk result (λ ended. ServesOver (image_at S.Start) port count
+        (visits P.Ports ports.old ports.new)
         (writer O.Output output.old output.new)
         ended.exit ended.closed) }
     ensures err { IfErr result (λ e. IsOpenFault e.fault) }
     ensures left { IfErr result (λ e. LeavesAsFound (image_at S.Start) e.remains) }
     ensures memory { file.now ≡ codes ":memory:" → IsErrAnd result (λ e. IsDisk e.fault) }
-    ensures untouched { OnErr result (O.contents output.new ≡ O.contents output.old) }
+    ensures untouched { OnErr result ((O.contents output.new ≡ O.contents output.old) × (P.traffic ports.new ≡ P.traffic ports.old)) }
     ensures log { PrintsConnections (errors_of L.Output log.old) (errors_of L.Output log.new) }
 {
     match open_desk(rt, file, start)? {
-        Ok(desk) => Ok(serve_connections(rt, desk, port, count, output, log)),
+        Ok(desk) => Ok(serve_connections(rt, desk, ports, port, count, output, log)),
         Err(ended) => Ok(ended),
     }
 }

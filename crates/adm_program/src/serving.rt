@@ -1,7 +1,8 @@
 // Connections to a port, served over a desk.
-ghost use Rattle.std.specs.Prelude.{◌≡◌, IfOk, IfErr, string_bytes};
+ghost use Rattle.std.specs.Prelude.{◌≡◌, IfOk, IfErr, OnOk, OnErr, string_bytes};
 ghost use Rattle.adm_wire.specs.Streams.{writer};
-ghost use Rattle.adm_http.specs.Connections.{errors_of};
+ghost use Rattle.adm_http.specs.Connections.{IsIdle, errors_of};
+ghost use Rattle.adm_program.specs.Given.{visits};
 ghost use Rattle.adm_program.specs.Logged.{PrintsConnections};
 ghost use Rattle.adm_program.specs.Served.{IsListenFault, Serves, serving_text};
 ghost use Rattle.adm_host.specs.Texts.{Puts};
@@ -9,12 +10,11 @@ ghost use Rattle.adm_host.specs.Texts.{Puts};
 use adm_desk::Desk;
 use adm_files::close;
 use adm_host::{Exit, Fault, LineEnd, put};
-use adm_http::{Port, Routes, serve_on};
+use adm_http::{Ports, Routes, serve_on};
 use adm_wire::Output;
 use sqlite::FileStore;
 use sqlite_disk::Disk;
 use std::alloc::{AllocError, Global};
-use std::net::{Ipv4Addr, TcpListener};
 
 /// What is printed before the first connection is waited for.
 fn serving_text(alloc: Global, port: u16) -> Result<String, AllocError>
@@ -34,40 +34,44 @@ fn put_serving<O: Output>(alloc: Global, port: u16, output: &mut O) -> Result<()
     }
 }
 
-/// The routes of requests, and the port of this machine alone to which they come. The `Err` is
-/// Listen where the port cannot be taken, or Memory.
-fn listen(rt: &HostRuntime, port: u16) -> Result<(Routes, TcpListener), Fault>
-    ensures { IfErr result IsListenFault }
+/// The routes of requests, and the port of this machine alone to which they come is taken. The `Err` is
+/// Listen where it cannot be taken, or Memory.
+fn listen<P: Ports>(rt: &HostRuntime, ports: &mut P, port: u16) -> Result<Routes, Fault>
+    ensures taken { OnOk result (P.traffic ports.new ≡ P.traffic_at ports.old port) }
+    ensures idle { OnOk result (IsIdle (P.traffic ports.new)) }
+    ensures err { IfErr result IsListenFault }
+    ensures left { OnErr result (P.traffic ports.new ≡ P.traffic ports.old) }
 {
     let Ok(routes) = Routes::new(rt.alloc()) else {
         return Err(Fault::Memory);
     };
-    match TcpListener::bind(rt, (Ipv4Addr::LOCALHOST, port)) {
-        Ok(listener) => Ok((routes, listener)),
+    match ports.listen(rt, port) {
+        Ok(()) => Ok(routes),
         Err(_) => Err(Fault::Listen),
     }
 }
 
 /// Prints that the port is served, serves as many connections over the desk, and closes its own
 /// connection, whatever comes.
-pub fn serve_connections<D: Disk + Drop, O: Output, L: Output>(
+pub fn serve_connections<D: Disk + Drop, P: Ports, O: Output, L: Output>(
     rt: &HostRuntime,
     mut desk: Desk<FileStore<D>>,
+    ports: &mut P,
     port: u16,
     count: u32,
     output: &mut O,
     log: &mut L,
 ) -> LineEnd<D>
     ensures serves { Serves desk port count
+        (visits P.Ports ports.old ports.new)
         (writer O.Output output.old output.new)
         result.exit result.closed }
     ensures log { PrintsConnections (errors_of L.Output log.old) (errors_of L.Output log.new) }
 {
-    match listen(rt, port) {
-        Ok((routes, listener)) => match put_serving(rt.alloc(), port, output) {
+    match listen(rt, ports, port) {
+        Ok(routes) => match put_serving(rt.alloc(), port, output) {
             Ok(()) => {
-                let mut connections = Port::new(rt.alloc(), rt, &listener);
-                let status = serve_on(rt.alloc(), &routes, &mut desk, &mut connections, count, log);
+                let status = serve_on(rt.alloc(), &routes, &mut desk, ports, count, log);
                 close(desk, Ok(Exit::of_served(status)))
             }
             Err(fault) => close(desk, Err(fault)),

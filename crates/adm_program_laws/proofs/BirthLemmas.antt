@@ -29,7 +29,6 @@ use Rattle.adm_store.specs.Migration.{IsMigrated}
 use Rattle.adm_store.specs.declared.fault.CreateFault.{CreateFault}
 use Rattle.adm_store.specs.declared.fault.CreateFault.TheVariants as create
 use Rattle.adm_words.specs.declared.actions.Action.TheVariants as action
-use Rattle.adm_wire.specs.Streams.{Stream}
 use Rattle.adm_desk.specs.Files.{IsFileOf}
 use Rattle.adm_host.specs.Creation.{Creates, CreatesAs}
 use Rattle.adm_host.specs.Exits.{of_create}
@@ -42,10 +41,11 @@ use Rattle.adm_host.specs.declared.exit.Exit.{Exit}
 use Rattle.adm_host.specs.declared.fault.Fault.{Fault}
 use Rattle.adm_host.specs.declared.fault.Fault.TheVariants.{InUse}
 use Rattle.adm_program.specs.Arguments.{ActsOrFails, FollowsFrom}
+use Rattle.adm_program.specs.Given.{Around}
 use Rattle.adm_program_laws.specs.Birth.{HoldsNone, HoldsSeason, InitLeaves, InitAgain}
 use Rattle.adm_program_laws.specs.SuccessiveRuns.{MayClose, MayStay, MayRemain}
 use Rattle.adm_program_laws.proofs.Nothing.{nothing_is_empty}
-use Rattle.adm_program_laws.proofs.Remaining.{clean_before, has_tables, remains}
+use Rattle.adm_program_laws.proofs.Remaining.{clean_before, has_tables, remains, taken_over}
 
 -- a database without objects has no table, index or view
 lists_none : (db : Trees) (schema : Schema) → IsEmpty db → IsSound schema db → schema ≡ no_schema
@@ -116,7 +116,13 @@ module _ {D : Type 0} {g : Ghosts D} (seen : SeenMayStay g) where
       | inl was ↦ ∣ subst HoldsNone (sym (found.1.only after was)) none ∣₁
       | inr under_way ↦ ∣ under_way ∣₁
     ]
-    | inr other ↦ absurd (other.0 (subst IsNothing (sym found.1.holds) may.1))
+    | inr other ↦ elim none [
+      | inl nothing ↦ absurd (other.0 (subst IsNothing (sym found.1.holds) nothing))
+      | inr held ↦ elim may.1 [
+        | inl nothing ↦ absurd (other.0 (subst IsNothing (sym found.1.holds) nothing))
+        | inr sized ↦ ∥∥₁_map held (λ w. empty_none after w.0 (taken_over before after now found may.0 sized may.2 w.0 w.1) w.2)
+      ]
+    ]
   ]
   none_stays before after (remainder.Files (leftover.Store store)) none found may =
       let it = found.2 may.0 may.1 may.2 in
@@ -131,22 +137,22 @@ module _ {D : Type 0} {g : Ghosts D} (seen : SeenMayStay g) where
         | inr migrated ↦ absurd (not_migrated before none found.0 found.1 start may.1 migrated)
       ]
 
-  init_ends : (before after : Image) (file : Bor (List ℕ)) (phase : Phase) (year : ℕ) (days : List ℕ) (rows : List ℕ → Stream) (input output errors : Stream) (status : ℕ) (remained : Remains D g)
-      → HoldsNone before → ActsOrFails g before (action.Init file phase year days) rows input output errors status remained → MayRemain before remained after
+  init_ends : (before after : Image) (file : Bor (List ℕ)) (phase : Phase) (year : ℕ) (days : List ℕ) (around : Around) (status : ℕ) (remained : Remains D g)
+      → HoldsNone before → ActsOrFails g before (action.Init file phase year days) around status remained → MayRemain before remained after
       → ∥ HoldsSeason phase year days after ⊎ HoldsNone after ∥₁
-  init_ends before after file phase year days rows input output errors status (Closed closed) none acts may =
+  init_ends before after file phase year days around status (Closed closed) none acts may =
       let did = acts.does in
       ∥∥₁_map (created_or_none before after did.2 acts.ended closed none did.6 may) (λ it. elim it [
         | inl is ↦ inl (record { season = did.2; of_phase = did.3; of_year = did.4; holidays = did.5; file = is })
         | inr still ↦ inr still
       ])
-  init_ends before after file phase year days rows input output errors status (Unopened remained) none fails may =
+  init_ends before after file phase year days around status (Unopened remained) none fails may =
       ∥∥₁_map (none_stays before after remained none fails.left may) (λ still. inr still)
 
   pub init_leaves_lem : InitLeaves g
   init_leaves_lem before after run file phase year days none it is =
-      let follows = subst (λ read. FollowsFrom g before read run.rows run.input run.output run.errors run.end) is it.follows in
-      init_ends before after file phase year days run.rows run.input run.output run.errors run.end.status run.end.remains none follows it.left
+      let follows = subst (λ read. FollowsFrom g before read run.around run.end) is it.follows in
+      init_ends before after file phase year days run.around run.end.status run.end.remains none follows it.left
 
   pub init_again_lem : InitAgain g
   init_again_lem before after season e closed none it may = by e it.creates.made

@@ -1,8 +1,7 @@
 -- What each subcommand keeps of a register, from what it did.
-use Rattle.std.proofs.Common.{◌≡◌, ◌≢◌, ◌∙◌, ◌⊎◌, ◌≤◌, ℕ, ◌-◌, take, drop, length, List, [], ◌∷◌, ◌++◌, Result, Ok, Err, inl, inr, refl, sym, ap, subst, arith}
+use Rattle.std.proofs.Common.{◌≡◌, ◌≢◌, ◌∙◌, ◌⊎◌, ℕ, ◌-◌, take, drop, length, List, [], ◌∷◌, ◌++◌, Result, Ok, Err, inl, inr, refl, sym, ap, subst, arith}
 use Rattle.std.specs.Prelude.{IsErr}
 use Rattle.std.specs.Io.KnownBytes.{Appends, Consumes, IsAtEnd}
-use Rattle.std.specs.List.{AllByRecursion}
 use Rattle.std.proofs.Math.Seq.{take-length}
 use Rattle.std.proofs.lemmas.Bool.{false≢true}
 use Rattle.std.proofs.lemmas.Grind.{flat_map-append}
@@ -33,7 +32,7 @@ use Rattle.adm_desk.specs.declared.run.Run.{Run}
 use Rattle.adm_desk.specs.declared.run.RunFault.{RunFault}
 use Rattle.adm_desk.specs.declared.run.RunFault.TheVariants as run
 use Rattle.adm_desk.proofs.AcknowledgedLemmas.{RunsOver, keeps, keeps_lines, was_clean, lines_clean}
-use Rattle.adm_http.specs.Bodies.{IsOfBody, HandlesEach, AnswersBodies}
+use Rattle.adm_http.specs.Connections.{Moment}
 use Rattle.adm_files.specs.Imports.{ImportsAs}
 use Rattle.adm_files.specs.Opened.{IsNotOpened, IsOpened}
 use Rattle.adm_files.specs.Outcomes.{of_lines}
@@ -51,9 +50,11 @@ use Rattle.adm_host.specs.declared.fault.Fault.{Fault}
 use Rattle.adm_host.specs.declared.fault.Fault.TheVariants as fault
 use Rattle.adm_program.specs.Arguments.{FollowsFrom}
 use Rattle.adm_program.specs.Does.{Does, shown}
-use Rattle.adm_program.specs.Served.{ServesAs}
-use Rattle.adm_program_laws.specs.SuccessiveRuns.{AnswersInput, AnswersRows, AnswersNone, AnswersBy, AnswersFor, ProgramRun}
+use Rattle.adm_program.specs.Served.{AreUntaken, ServesAs, Visits}
+use Rattle.adm_program_laws.specs.Exchanges.{commands_of}
+use Rattle.adm_program_laws.specs.SuccessiveRuns.{AnswersInput, AnswersRows, AnswersConnections, AnswersNone, AnswersBy, AnswersFor, ProgramRun, TakesNone}
 use Rattle.adm_program_laws.proofs.Remaining.{Leaves, not_opened, not_begun, desk_kept, not_created}
+use Rattle.adm_program_laws.proofs.ServingLemmas.{each_answered, each_turn}
 
 -- ---- lines
 
@@ -81,11 +82,6 @@ same_length runs old new [] (a ∷ answers) it = absurd it
 same_length runs old new (l ∷ lines) [] it = absurd it
 same_length runs old new (l ∷ lines) (a ∷ answers) it = let more = same_length runs it.0 new lines answers it.2 in omega (arith, more)
 
--- commands that were answered one after another are a run
-over_each : {S : Type 0} (step : S → Command → Answer → S → Type 0) (old new : S) (answered : List (Command × Answer)) → HandlesEach step old answered new → RunsOver step old answered new
-over_each step old new [] same = same
-over_each step old new ((c, a) ∷ answered) it = (it.0, it.1, over_each step it.0 new answered it.2)
-
 abbrev Desk : {D : Type 0} → disk.Ghosts D → Type 0
 Desk {D} g = DeskState (Held (FileStore D g))
 
@@ -107,9 +103,6 @@ module _ {D : Type 0} {g : disk.Ghosts D} where
 
     keeps_all : (last : Desk g) (lines : List (List ℕ)) (answers : List LineAnswer) → AnswersLines command_line desk lines answers last → KeepsAcknowledged file_state desk last (handled lines answers)
     keeps_all last lines answers it = keeps_lines file_state desk last lines answers opened.alive opened.leaves it
-
-    keeps_each : (last : Desk g) (answered : List (Command × Answer)) → HandlesEach (Handles file_state) desk answered last → KeepsAcknowledged file_state desk last answered
-    keeps_each last answered it = keeps file_state desk last answered opened.alive opened.leaves (over_each (Handles file_state) desk last answered it)
 
     -- the lines of an input
     module _ (last : Desk g) (input output : Stream) where
@@ -191,12 +184,27 @@ module _ {D : Type 0} {g : disk.Ghosts D} where
           clean = was_clean file_state desk last ((Import it.0, answer) ∷ []) run;
         }
 
-    -- the bodies of requests
-    kept_served : AnswersBodies {C = Held (FileStore D g)} file_state → (last : Desk g) (port count : ℕ) (output : Stream) (e : Result Exit Fault) → ServesAs desk last port count output e
-        → (answered : List (Command × Answer)) × (length answered ≤ count) × AllByRecursion IsOfBody answered × HandlesEach (Handles file_state) desk answered last
-    kept_served bodies last port count output (Ok x) it = bodies count desk last it.1
-    kept_served bodies last port count output (Err fault.Listen) it = ([], omega arith, tt, it.0)
-    kept_served bodies last port count output (Err f) it = ([], omega arith, tt, it.0)
+    -- the requests of connections
+    pub record KeepsConnections (status port count : ℕ) (visits : Visits) (last : Desk g) : Type 0 where
+      pub answered : List (Command × Answer)
+      pub run : RunsOver (Handles file_state) desk answered last
+      pub are : TakesNone status port visits answered ⊎ AnswersConnections count (visits.coming port) visits.new answered
+
+    kept_served : (status port count : ℕ) (visits : Visits) (last : Desk g) (output : Stream) (e : Result Exit Fault) → ServesAs desk last port count visits output e → (IsErr e → status ≡ 1)
+        → KeepsConnections status port count visits last
+    kept_served status port count visits last output (Ok x) it ends =
+        let before : Moment (Desk g) = record { desk = desk; traffic = visits.coming port; errors = it.1.0 } in
+        let after : Moment (Desk g) = record { desk = last; traffic = visits.new; errors = it.1.1 } in
+        let so = each_turn file_state count before after it.1.2 in
+        record {
+          answered = commands_of so.served;
+          run = so.run;
+          are = inr (record { served = so.served; few = so.few; exchanged = so.exchanged; each = each_answered file_state desk last so.served so.serves; commands = refl });
+        }
+    kept_served status port count visits last output (Err fault.Listen) it ends =
+        record { answered = []; run = it.0; are = inl (record { ends = ends refl; none = refl; untaken = inl it.2 }) }
+    kept_served status port count visits last output (Err f) it ends =
+        record { answered = []; run = it.0; are = inl (record { ends = ends refl; none = refl; untaken = it.2 }) }
 
   -- ---- each subcommand
 
@@ -210,7 +218,7 @@ module _ {D : Type 0} {g : disk.Ghosts D} where
       → status ≡ 1
   unopened_status image status e closed is it = error_status status e closed is (subst (λ (y : Result Exit Fault). IsErr y) (sym it.reported) refl)
 
-  module _ (seen : SeenMayStay g) (one : OneRegister) (bodies : AnswersBodies {C = Held (FileStore D g)} file_state) (image : Image) (this : ProgramRun g) where
+  module _ (seen : SeenMayStay g) (one : OneRegister) (image : Image) (this : ProgramRun g) where
     -- the commands of the run, with their answers, and what it leaves
     pub record KeepsRun (read : Result Action WordsFault) (remained : Remains D g) : Type 0 where
       pub answered : List (Command × Answer)
@@ -230,7 +238,7 @@ module _ {D : Type 0} {g : disk.Ghosts D} where
         leaves = desk_kept seen one image desk last [] closed opened (stays_clean image desk opened last same) (keeps_none image desk opened last same) closes;
       }
 
-      no_answer : this.output.new ≡ this.output.old → IsNotOpened image e closed → AnswersNone this.end.status this.output []
+      no_answer : this.around.given.output.new ≡ this.around.given.output.old → IsNotOpened image e closed → AnswersNone this.end.status this.around.given.output []
       no_answer unwritten it = (unopened_status image this.end.status e closed exits it, refl, unwritten)
 
       -- an error of a run of lines is one of its end
@@ -239,34 +247,36 @@ module _ {D : Type 0} {g : disk.Ghosts D} where
       run_status (Err f) reported err = error_status this.end.status e closed exits (subst (λ (y : Result Exit Fault). IsErr y) (sym reported) refl)
 
       -- the text of a document was printed, or none
-      printed : (a : Action) → AnswersBy a this [] → (wanted : Document) → Prints image wanted this.output e closed → KeepsRun (Ok a) (remains.Closed closed)
+      printed : (a : Action) → AnswersBy a this [] → (wanted : Document) → Prints image wanted this.around.given.output e closed → KeepsRun (Ok a) (remains.Closed closed)
       printed a none wanted (inl it) = unopened a none it.0
       printed a none wanted (inr (desk, opened, it)) = unchanged a none desk desk opened refl it.1
 
-      pub each : (a : Action) → Does image a this.rows this.input this.output e closed → KeepsRun (Ok a) (remains.Closed closed)
+      pub each : (a : Action) → Does image a this.around.given e closed → KeepsRun (Ok a) (remains.Closed closed)
       each (action.Init file phase year days) did = record { answered = []; are = refl; leaves = not_created seen one image did.2 e closed did.6 }
       each (action.Do file) (inl it) = unopened (action.Do file) (inl (no_answer it.1.1 it.0)) it.0
       each (action.Do file) (inr (desk, opened, it)) =
-          let kept = kept_lines image desk opened it.after this.input this.output this.end.status it.run it.ends (run_status it.run it.reported) in
+          let kept = kept_lines image desk opened it.after this.around.given.input this.around.given.output this.end.status it.run it.ends (run_status it.run it.reported) in
           record { answered = kept.answered; are = inr kept.are; leaves = desk_kept seen one image desk it.after kept.answered closed opened kept.clean kept.kept it.closes }
       each (action.WhatIf file) (inl it) = unopened (action.WhatIf file) refl it.0
       each (action.WhatIf file) (inr (desk, opened, it)) =
-          unchanged (action.WhatIf file) refl desk it.after opened (kept_questions image desk opened it.after this.input this.output it.run it.ends) it.closes
+          unchanged (action.WhatIf file) refl desk it.after opened (kept_questions image desk opened it.after this.around.given.input this.around.given.output it.run it.ends) it.closes
       each (action.Import file csv) (unread, inl it) = unopened (action.Import file csv) (inl (no_answer it.1 it.0)) it.0
       each (action.Import file csv) (unread, inr (desk, opened, inl it)) =
           let failed = error_status this.end.status e closed exits (subst (λ (y : Result Exit Fault). IsErr y) (sym it.1) refl) in
           unchanged (action.Import file csv) (inl (failed, refl, it.3)) desk desk opened refl it.4
       each (action.Import file csv) (unread, inr (desk, opened, inr it)) =
-          let kept = kept_rows image desk opened this.end.status it.after (this.rows csv.now) this.output e it.ends (error_status this.end.status e closed exits) in
+          let kept = kept_rows image desk opened this.end.status it.after (this.around.given.rows csv.now) this.around.given.output e it.ends (error_status this.end.status e closed exits) in
           record { answered = kept.answered; are = kept.are; leaves = desk_kept seen one image desk it.after kept.answered closed opened kept.clean kept.kept it.closes }
-      each (action.Serve file port count) (unread, inl it) = unopened (action.Serve file port count) (omega arith, tt) it.0
+      each (action.Serve file port count) (unread, inl it) =
+          unopened (action.Serve file port count)
+          (inl (record { ends = unopened_status image this.end.status e closed exits it.0; none = refl; untaken = inl it.1.1 })) it.0
       each (action.Serve file port count) (unread, inr (desk, opened, it)) =
-          let leads = kept_served image desk opened bodies it.after port count this.output e it.ends in
-          let run = over_each (Handles file_state) desk it.after leads.0 leads.3 in
+          let kept = kept_served image desk opened this.end.status port count this.around.given.visits it.after this.around.given.output e it.ends (error_status this.end.status e closed exits) in
           record {
-            answered = leads.0;
-            are = (leads.1, leads.2);
-            leaves = desk_kept seen one image desk it.after leads.0 closed opened (was_clean file_state desk it.after leads.0 run) (keeps_each image desk opened it.after leads.0 leads.3) it.closes;
+            answered = kept.answered;
+            are = kept.are;
+            leaves = desk_kept seen one image desk it.after kept.answered closed opened (was_clean file_state desk it.after kept.answered kept.run)
+                (keeps file_state desk it.after kept.answered opened.alive opened.leaves kept.run) it.closes;
           }
       each (action.Letter file child) (unread, it) = printed (action.Letter file child) refl (document.Letter child) it
       each (action.List file school) (unread, it) = printed (action.List file school) refl (document.List school) it
@@ -275,17 +285,17 @@ module _ {D : Type 0} {g : disk.Ghosts D} where
       each (action.Show file draw) (unread, it) = printed (action.Show file draw) refl (shown draw) it
 
     -- an action that failed before it began answers no command
-    none_by : (a : Action) → this.end.status ≡ 1 → this.output.new ≡ this.output.old → AnswersBy a this []
-    none_by (action.Do file) is same = inl (is, refl, same)
-    none_by (action.Import file csv) is same = inl (is, refl, same)
-    none_by (action.Serve file port count) is same = (omega arith, tt)
-    none_by other is same = refl
+    none_by : (a : Action) → this.end.status ≡ 1 → this.around.given.output.new ≡ this.around.given.output.old → AreUntaken this.around.given.visits → AnswersBy a this []
+    none_by (action.Do file) is same untaken = inl (is, refl, same)
+    none_by (action.Import file csv) is same untaken = inl (is, refl, same)
+    none_by (action.Serve file port count) is same untaken = inl (record { ends = is; none = refl; untaken = inl untaken })
+    none_by other is same untaken = refl
 
     -- whatever the arguments were read as
-    pub each_end : (read : Result Action WordsFault) (errors : Stream) (remained : Remains D g)
-        → FollowsFrom g image read this.rows this.input this.output errors (record { status = this.end.status; remains = remained }) → KeepsRun read remained
-    each_end (Ok a) errors (remains.Closed closed) it = each it.ended closed it.exits a it.does
-    each_end (Ok a) errors (remains.Unopened left) it = record { answered = []; are = none_by a it.exits it.unwritten; leaves = not_begun {g = g} seen one image left it.left }
-    each_end (Err fault) errors (remains.Closed closed) it = absurd it.1
-    each_end (Err fault) errors (remains.Unopened (remainder.Untouched left)) it = record { answered = []; are = refl; leaves = not_begun {g = g} seen one image (remainder.Untouched left) tt }
-    each_end (Err fault) errors (remains.Unopened other) it = absurd it.1
+    pub each_end : (read : Result Action WordsFault) (remained : Remains D g)
+        → FollowsFrom g image read this.around (record { status = this.end.status; remains = remained }) → KeepsRun read remained
+    each_end (Ok a) (remains.Closed closed) it = each it.ended closed it.exits a it.does
+    each_end (Ok a) (remains.Unopened left) it = record { answered = []; are = none_by a it.exits it.unwritten it.untaken; leaves = not_begun {g = g} seen one image left it.left }
+    each_end (Err fault) (remains.Closed closed) it = absurd it.1
+    each_end (Err fault) (remains.Unopened (remainder.Untouched left)) it = record { answered = []; are = refl; leaves = not_begun {g = g} seen one image (remainder.Untouched left) tt }
+    each_end (Err fault) (remains.Unopened other) it = absurd it.1

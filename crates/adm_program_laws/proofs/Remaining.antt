@@ -1,17 +1,22 @@
 -- What a run leaves of two files that held a register, from what it did up to the close of its connection.
-use Rattle.std.proofs.Common.{◌≡◌, ◌≢◌, ◌≤◌, ◌∙◌, inl, inr, refl, ap, sym, subst, arith, Option, Some, None, List, [], ◌∷◌, ◌++◌, length, Result, Ok, Err}
+use Rattle.std.proofs.Common.{◌≡◌, ◌≢◌, ◌≤◌, ◌∙◌, ℕ, IsTrue, inl, inr, refl, ap, sym, subst, arith, Option, Some, None, List, [], ◌∷◌, ◌++◌, length, Result, Ok, Err}
 use Rattle.std.proofs.Math.Logic.{∥∥₁_elim, ∥∥₁_map}
 use Rattle.sqlite_disk.specs.declared.Disk.{Ghosts}
 use Rattle.sqlite_disk.specs.declared.Files.{Files}
+use Rattle.sqlite_wal.specs.PageSize.{IsPageSize}
 use Rattle.sqlite_wal.specs.Recovery.{Image}
 use Rattle.sqlite_wal.proofs.LogLemmas.{SeenMayStay}
+use Rattle.sqlite_pool.specs.Stored.{stored_size, StandsAs}
 use Rattle.sqlite_trees.specs.View.{doubt}
 use Rattle.sqlite_store.specs.declared.store.FileStore.{FileStore}
 use Rattle.sqlite_store.specs.FileStore.{recovers}
+use Rattle.sqlite_store.specs.Unopened.{state_of}
+use Rattle.sqlite_store.specs.declared.store.open.Unopened.{Unopened as NotOpened}
 use Rattle.sqlite_store.specs.Laws.{settled_at, stays_at}
 use Rattle.sqlite.specs.declared.error.Error.{Error}
 use Rattle.sqlite.specs.declared.file.Leftover.TheVariants as leftover
-use Rattle.sqlite.specs.Files.{HoldsDatabase, file_state}
+use Rattle.sqlite.specs.Files.{HoldsDatabase, IsNothing, file_state}
+use Rattle.sqlite.specs.Opening.{HoldsIn}
 use Rattle.sqlite.specs.Held.{Held}
 use Rattle.sqlite.specs.Start.{FindsIn}
 use Rattle.sqlite.specs.State.{State, HasCleanDisk}
@@ -46,7 +51,7 @@ use Rattle.adm_host.specs.declared.ended.Remains.TheVariants.{Closed, Unopened}
 use Rattle.adm_host.specs.declared.exit.Exit.{Exit}
 use Rattle.adm_host.specs.declared.exit.Exit.TheVariants as exit
 use Rattle.adm_host.specs.declared.fault.Fault.{Fault}
-use Rattle.adm_program_laws.specs.SuccessiveRuns.{MayClose, MayStay, MayRemain, IsEffect}
+use Rattle.adm_program_laws.specs.SuccessiveRuns.{HavePagesOf, MayClose, MayStay, MayRemain, IsEffect}
 
 -- commands after commands
 pub reaches_more : (xs ys : List Command) (a b c : Register) → Reaches a xs b → Reaches b ys c → Reaches a (xs ++ ys) c
@@ -85,7 +90,29 @@ uncreated season found left (Err f) made used clean db may = elim (made.2 clean 
 pub clean_before : (old new : State) → doubt old.is_clean ≤ doubt new.is_clean → HasCleanDisk new → HasCleanDisk old
 clean_before old new falls clean = omega arith
 
+-- what is in pages of this size stays, where the files after it are as a log that was taken over by that size leaves them
+kept_by_size : (size : ℕ) (before after : Image) (db : Trees) → HavePagesOf size before → StandsAs size before after → HoldsDatabase before db → HoldsDatabase after db
+kept_by_size size before after db sized stands held =
+    let here = subst (λ (n : ℕ). IsPageSize (stored_size n) × HoldsIn n before db) (sized db held) (held.1, held.2) in
+    let in_it = here.1 in (
+      size,
+      here.0,
+      record { pages = in_it.pages; wanted = in_it.wanted; schema = in_it.schema; found = stands.1 in_it.pages in_it.found; ours = in_it.ours; reads = in_it.reads; sound = in_it.sound },
+    )
+
 module _ {D : Type 0} {g : Ghosts D} where
+  -- an open that failed while it took over the log of a database leaves that database
+  pub taken_over : (before after : Image) (now : NotOpened D g) → LeavesAsFound {g = g} before (remainder.Files (leftover.Unopened now)) → IsTrue (state_of now).is_clean
+      → HavePagesOf (state_of now).page_size before → (state_of now).may_leave after → (db : Trees) → HoldsDatabase before db → HoldsDatabase after db
+  taken_over before after now found clean sized may db held = elim (found.2 clean) [
+    | inl made ↦ absurd (is_something before db held (subst IsNothing found.1.holds made.0))
+    | inr kept ↦ elim (kept.4 after may).same [
+      | inl was ↦ subst (λ (image : Image). HoldsDatabase image db) (sym (found.1.only after was)) held
+      | inr stands ↦
+          kept_by_size (state_of now).page_size before after db sized (subst (λ (image : Image). StandsAs (state_of now).page_size image after) found.1.holds stands) held
+    ]
+  ]
+
   -- Of files that held a register: after the run they hold the one to which these commands lead, which took effect.
   abbrev pub Leaves : Image → Remains D g → List (Command × Answer) → Type 0
   Leaves before remained answered =
@@ -158,7 +185,10 @@ module _ {D : Type 0} {g : Ghosts D} (seen : SeenMayStay g) where
       → IsFileOf old after
   stays_file one before (remainder.Untouched it) found old file after same = subst (IsFileOf old) (sym same) file
   stays_file one before (remainder.Files (leftover.Files now)) found old file after may = subst (IsFileOf old) (sym (found.1.only after (found.2 may.0 after may.1))) file
-  stays_file one before (remainder.Files (leftover.Unopened now)) found old file after may = ∥∥₁_map file (λ w. absurd (is_something before w.0 w.1 may.1))
+  stays_file one before (remainder.Files (leftover.Unopened now)) found old file after may = elim may.1 [
+    | inl nothing ↦ ∥∥₁_map file (λ w. absurd (is_something before w.0 w.1 nothing))
+    | inr sized ↦ ∥∥₁_map file (λ w. (w.0, taken_over before after now found may.0 sized may.2 w.0 w.1, w.2))
+  ]
   stays_file one before (remainder.Files (leftover.Store store)) found old file after may =
       ∥∥₁_map file (λ w.
       let holds = subst (λ (image : Image). HoldsDatabase image w.0) (sym found.1.holds) w.1 in

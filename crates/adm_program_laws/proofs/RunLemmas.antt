@@ -5,9 +5,6 @@ use Rattle.std.proofs.lemmas.List.{append-nil}
 use Rattle.sqlite_disk.specs.declared.Disk.{Ghosts}
 use Rattle.sqlite_wal.specs.Recovery.{Image}
 use Rattle.sqlite_wal.proofs.LogLemmas.{SeenMayStay}
-use Rattle.sqlite_store.specs.declared.store.FileStore.{FileStore}
-use Rattle.sqlite.specs.Files.{file_state}
-use Rattle.sqlite.specs.Held.{Held}
 use Rattle.sqlite.specs.Tree.{Trees}
 use Rattle.adm_types.specs.declared.commands.Command.{Command}
 use Rattle.adm_register.specs.State.{State as Register}
@@ -20,7 +17,6 @@ use Rattle.adm_crashes.specs.Rounds.{RoundsAreRecorded}
 use Rattle.adm_rows.specs.Represents.{OneRegister, Represents}
 use Rattle.adm_desk.specs.Files.{IsFileOf}
 use Rattle.adm_desk.specs.declared.answer.Answer.{Answer}
-use Rattle.adm_http.specs.Bodies.{AnswersBodies}
 use Rattle.adm_program_laws.specs.SuccessiveRuns.{ProgramRun, AreAnswered, IsEffect, AreEffects, IsFoundAfterRuns, HoldsAfterRuns, RunInOrder, OneMoreRun, AllRuns, PlacesAfterRuns, OpensAfterRuns, NeverNoRegister}
 use Rattle.adm_program_laws.proofs.Keeping.{each_end}
 use Rattle.adm_program_laws.proofs.Remaining.{reaches_more, same_register, never_none}
@@ -42,7 +38,7 @@ draws_in_order db r is =
 pub places_after_runs : PlacesHaveCause → PlacesAfterRuns
 places_after_runs law season runs image held = ∥∥₁_map held (λ w. (w.0, w.1, w.2, law season w.1.done w.0 w.1.reached))
 
-module _ {D : Type 0} (g : Ghosts D) (seen : SeenMayStay g) (one : OneRegister) (bodies : AnswersBodies {C = Held (FileStore D g)} file_state) (kept : DrawsKept) (recorded : RoundsAreRecorded) where
+module _ {D : Type 0} (g : Ghosts D) (seen : SeenMayStay g) (one : OneRegister) (kept : DrawsKept) (recorded : RoundsAreRecorded) where
   -- what commands that lead from a register leave of its rounds and draws
   found_after : (first found : Register) (runs : List (List (Command × Answer))) (done : List Command) → AreEffects runs done → Reaches first done found → DrawsInOrder first
       → IsFoundAfterRuns first runs found
@@ -61,7 +57,7 @@ module _ {D : Type 0} (g : Ghosts D) (seen : SeenMayStay g) (one : OneRegister) 
 
   pub one_more_run : OneMoreRun g
   one_more_run first runs before after run held it =
-      let did = each_end {g = g} seen one bodies before run run.read run.errors run.end.remains it.follows in (
+      let did = each_end {g = g} seen one before run run.read run.end.remains it.follows in (
         did.answered,
         did.are,
         ∥∥₁_elim held squash₁ (λ was. ∥∥₁_map (did.leaves was.0 was.2 after it.left) (λ now. (

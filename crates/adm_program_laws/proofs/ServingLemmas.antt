@@ -1,7 +1,7 @@
 -- What serving connections keeps, turn by turn.
 use Rattle.std.proofs.Common.{◌≡◌, ◌≤◌, ◌∙◌, inl, inr, refl, ap, sym, subst, arith, ℕ, zero, suc, Bool, true, false, MatchBool, nat_le, List, [], ◌∷◌, ◌++◌, map, length, length-append, take, drop, Option, Some, None, Result, Ok, Err, append_assoc}
 use Rattle.std.specs.Io.KnownBytes.{Consumes}
-use Rattle.std.specs.List.{AllZip}
+use Rattle.std.specs.List.{AllByRecursion, AllZip}
 use Rattle.std.proofs.Math.Seq.{take-length}
 use Rattle.std.proofs.lemmas.List.{append-nil}
 use Rattle.std.proofs.lemmas.Option.{none-some, same_Some}
@@ -33,7 +33,7 @@ use Rattle.adm_http.specs.declared.routes.Purpose.{Purpose}
 use Rattle.adm_http.specs.declared.routes.Purpose.TheVariants as purpose
 use Rattle.adm_http.specs.declared.serve.ServeFault.{ServeFault}
 use Rattle.adm_http.specs.declared.serve.ServeFault.TheVariants.{Read, Write, Memory}
-use Rattle.adm_program_laws.specs.Exchanges.{AnswersTo, AreExchanged, Exchange, Moves, SentFirst, ServedIsKept, ServesExchange, ServesExchanges, commands_of, with_answered}
+use Rattle.adm_program_laws.specs.Exchanges.{AnswersTo, AreExchanged, Exchange, HasNoCommand, IsAnswered, Moves, SentFirst, ServedIsKept, ServesExchange, ServesExchanges, commands_of, with_answered}
 
 -- ---- lists
 
@@ -64,8 +64,8 @@ module _ {C : Type 0} (disk : C → Disk) where
     pub moves : Moves disk answered old new
     pub is : AnswersTo input output answered
 
-  did_nothing : (old new : DeskState C) (input output : List ℕ) → new ≡ old → Did old new input output
-  did_nothing old new input output same = record { answered = None; moves = same; is = tt }
+  did_nothing : (old new : DeskState C) (input output : List ℕ) → AnswersTo input output None → new ≡ old → Did old new input output
+  did_nothing old new input output none same = record { answered = None; moves = same; is = none }
 
   no_command : (old new : DeskState C) (body : List ℕ) (f : WireFault) → AnswersLine (Handles disk) old body (Faulty f) new → new ≡ old
   no_command old new body fault.Memory it = it
@@ -76,48 +76,60 @@ module _ {C : Type 0} (disk : C → Disk) where
   no_command old new body fault.ExtraField it = it.1
 
   module _ (old new : DeskState C) (input output : List ℕ) where
+    -- nothing was done for bytes that are judged so
+    unchanged : (judgement : Judgement) → IsJudgement input judgement → HasNoCommand judgement output → new ≡ old → Did old new input output
+    unchanged judgement judged none same = did_nothing old new input output (inr (judgement, judged, none)) same
+
+    -- the body was short
+    short : (for : Purpose) (head size : ℕ) → output ≡ response_bytes (bare 400) → HasNoCommand (Whole head (Run for size)) output
+    short purpose.Command head size is = inl is
+    short purpose.Import head size is = inl is
+    short purpose.Question head size is = tt
+
     ran : (for : Purpose) (head size : ℕ) → IsJudgement input (Whole head (Run for size)) → (answer : BodyAnswer) → RunsBody disk for old (take size (drop head input)) answer new
         → output ≡ response_bytes (of_answer answer) → Did old new input output
     ran purpose.Command head size judged (Line (Handled a)) it is = record {
       answered = Some (it.0, a);
       moves = it.2;
-      is = (record { head = head; size = size; purpose = purpose.Command; judged = judged; body = inl it.1 }, is);
+      is = (record { head = head; size = size; purpose = purpose.Command; judged = judged; body = it.1 }, is);
     }
-    ran purpose.Command head size judged (Line (Faulty f)) it is = did_nothing old new input output (no_command old new (take size (drop head input)) f it)
+    ran purpose.Command head size judged (Line (Faulty f)) it is =
+        unchanged (Whole head (Run purpose.Command size)) judged (inr (f, is)) (no_command old new (take size (drop head input)) f it)
     ran purpose.Command head size judged (Line (Queried a)) it is = absurd it
     ran purpose.Command head size judged (Unread f) it is = absurd it
     ran purpose.Import head size judged (Line (Handled a)) it is = record {
       answered = Some (command.Import it.0, a);
       moves = it.2;
-      is = (record { head = head; size = size; purpose = purpose.Import; judged = judged; body = inr (it.0, it.1, refl) }, is);
+      is = (record { head = head; size = size; purpose = purpose.Import; judged = judged; body = (it.0, it.1, refl) }, is);
     }
     ran purpose.Import head size judged (Line (Faulty f)) it is = absurd it
     ran purpose.Import head size judged (Line (Queried a)) it is = absurd it
-    ran purpose.Import head size judged (Unread f) it is = did_nothing old new input output it.1
-    ran purpose.Question head size judged (Line a) it is = did_nothing old new input output it.1
+    ran purpose.Import head size judged (Unread f) it is = unchanged (Whole head (Run purpose.Import size)) judged (inr (f, is)) it.1
+    ran purpose.Question head size judged (Line a) it is = unchanged (Whole head (Run purpose.Question size)) judged tt it.1
     ran purpose.Question head size judged (Unread f) it is = absurd it
 
     run_or_short : (for : Purpose) (head size : ℕ) → IsJudgement input (Whole head (Run for size)) → (response : Response) → output ≡ response_bytes response → (is_whole : Bool)
         → MatchBool is_whole ((answer : BodyAnswer) × RunsBody disk for old (take size (drop head input)) answer new × (response ≡ of_answer answer)) ((response ≡ bare 400) × (new ≡ old))
         → Did old new input output
     run_or_short for head size judged response is true it = ran for head size judged it.0 it.1 (is ∙ ap response_bytes it.2)
-    run_or_short for head size judged response is false it = did_nothing old new input output it.1
+    run_or_short for head size judged response is false it =
+        unchanged (Whole head (Run for size)) judged (short for head size (is ∙ ap response_bytes it.0)) it.1
 
     carried : (head : ℕ) (verdict : Verdict) → IsJudgement input (Whole head verdict) → (response : Response) → output ≡ response_bytes response
         → Carries (RunsBody disk) Shows old (drop head input) verdict response new → Did old new input output
-    carried head (Reject status) judged response is it = did_nothing old new input output it.1
-    carried head (NotAllowed verb) judged response is it = did_nothing old new input output it.1
-    carried head (Show resource) judged response is it = did_nothing old new input output it.3
+    carried head (Reject status) judged response is it = unchanged (Whole head (Reject status)) judged tt it.1
+    carried head (NotAllowed verb) judged response is it = unchanged (Whole head (NotAllowed verb)) judged tt it.1
+    carried head (Show resource) judged response is it = unchanged (Whole head (Show resource)) judged tt it.3
     carried head (Run for size) judged response is it = run_or_short for head size judged response is (nat_le size (length (drop head input))) it
 
     judged_so : (judgement : Judgement) → IsJudgement input judgement → (response : Response) → output ≡ response_bytes response
         → OnJudgement (RunsBody disk) Shows old input judgement response new → Did old new input output
     judged_so (Whole head verdict) judged response is it = carried head verdict judged response is it
-    judged_so Malformed judged response is it = did_nothing old new input output it.1
-    judged_so Unfinished judged response is it = did_nothing old new input output it.1
+    judged_so Malformed judged response is it = unchanged Malformed judged tt it.1
+    judged_so Unfinished judged response is it = unchanged Unfinished judged tt it.1
 
   responded : (old new : DeskState C) (input output : List ℕ) → Responds (RunsBody disk) Shows old input output new → Did old new input output
-  responded old new [] output it = did_nothing old new [] output it.1
+  responded old new [] output it = did_nothing old new [] output (inl it.0) it.1
   responded old new (b ∷ input) output it = judged_so old new (b ∷ input) output it.1.0 it.1.1 it.0 it.2 it.1.2
 
   -- ---- one turn
@@ -139,7 +151,7 @@ module _ {C : Type 0} (disk : C → Disk) where
         left = left;
         consumed = consumed;
         answered = did.answered;
-        serves = record { response = output; responds = inl it; size = n; written = is; command = did.is; moves = did.moves };
+        serves = record { is = record { response = output; size = n; written = is; command = did.is }; responds = inl it; moves = did.moves };
       }
 
   -- nothing was done for these bytes
@@ -149,7 +161,7 @@ module _ {C : Type 0} (disk : C → Disk) where
     left = left;
     consumed = consumed;
     answered = None;
-    serves = record { response = []; responds = inr (refl, same); size = 0; written = none; command = tt; moves = same };
+    serves = record { is = record { response = []; size = 0; written = none; command = inl refl }; responds = inr (refl, same); moves = same };
   }
 
   turn : (old new : DeskState C) (unread left : Option (List ℕ)) (written : List ℕ) (result : Result ℕ ServeFault)
@@ -211,7 +223,7 @@ module _ {C : Type 0} (disk : C → Disk) where
       subst (λ (xs : List (Command × Answer)). RunsOver (Handles disk) old xs new) (sym (append-nil (commands_of served))) (subst (λ (s : DeskState C). RunsOver (Handles disk) old (commands_of served) s) (sym same) run)
   last_command old mid new served (Some (c, a)) run by = runs_more (Handles disk) old mid new (commands_of served) c a run by
 
-  each_turn : (count : ℕ) (old new : Moment (DeskState C)) → ServesEach (RunsBody disk) Shows count old new → ServedSo count old new
+  pub each_turn : (count : ℕ) (old new : Moment (DeskState C)) → ServesEach (RunsBody disk) Shows count old new → ServedSo count old new
   each_turn zero old new same = record { served = []; few = omega arith; exchanged = none old.traffic new.traffic (ap (λ (m : Moment (DeskState C)). m.traffic) same); serves = ap (λ (m : Moment (DeskState C)). m.desk) same; run = ap (λ (m : Moment (DeskState C)). m.desk) same }
     where
       none : (a b : Option Traffic) → b ≡ a → AreExchanged a b []
@@ -241,7 +253,12 @@ module _ {C : Type 0} (disk : C → Disk) where
             }
       ]
 
+  -- what was written to each
+  pub each_answered : (old new : DeskState C) (served : List Exchange) → ServesExchanges disk old served new → AllByRecursion IsAnswered served
+  each_answered old new [] it = tt
+  each_answered old new (e ∷ served) it = (it.1.is, each_answered it.0 new served it.2)
+
   pub served_is_kept_lem : ServedIsKept disk
-  served_is_kept_lem count old new alive leaves it =
+  served_is_kept_lem count old new it alive leaves =
       let so = each_turn count old new it in
       record { served = so.served; few = so.few; exchanged = so.exchanged; serves = so.serves; kept = keeps disk old.desk new.desk (commands_of so.served) alive leaves so.run }

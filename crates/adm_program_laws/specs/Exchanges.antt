@@ -1,24 +1,32 @@
 -- What `serve` keeps: the commands in the requests of connections, and the responses to them.
-use Rattle.std.specs.Prelude.{◌≡◌, ◌≤◌, ◌⊎◌, ⊤, ℕ, false, List, [], ◌∷◌, ◌++◌, length, map, take, drop, Option, Some, None}
+use Rattle.std.specs.Prelude.{◌≡◌, ◌≤◌, ◌⊎◌, ⊤, ℕ, false, List, [], ◌∷◌, ◌++◌, length, map, take, drop, Option, Some, None, Ok}
 use Rattle.std.specs.List.{AllZip}
 use Rattle.sqlite.specs.State.{State as Disk}
+use Rattle.adm_csv.specs.declared.fault.RowFault.{RowFault}
 use Rattle.adm_types.specs.declared.commands.Command.{Command}
+use Rattle.adm_types.specs.declared.commands.Command.TheVariants as command
+use Rattle.adm_types.specs.declared.rows.Row.{Row as ImportRow}
 use Rattle.adm_rows.specs.Represents.{LeavesOnly}
 use Rattle.adm_desk.specs.Acknowledged.{KeepsAcknowledged}
 use Rattle.adm_desk.specs.DeskState.{DeskState, Handles}
 use Rattle.adm_desk.specs.Lines.{answer_text}
 use Rattle.adm_desk.specs.declared.answer.Answer.{Answer}
-use Rattle.adm_http.specs.Bodies.{IsCommand}
+use Rattle.adm_desk.specs.declared.answer.LineAnswer.TheVariants.{Faulty}
 use Rattle.adm_http.specs.Connections.{Moment, ServesEach, Traffic}
 use Rattle.adm_http.specs.Heads.{IsJudgement}
-use Rattle.adm_http.specs.Purposes.{RunsBody}
+use Rattle.adm_http.specs.Purposes.{HasRows, RunsBody}
 use Rattle.adm_http.specs.Replies.{status_of_command}
-use Rattle.adm_http.specs.Responses.{Responds}
+use Rattle.adm_http.specs.Responses.{Responds, of_answer}
 use Rattle.adm_http.specs.Shows.{Shows}
-use Rattle.adm_http.specs.Texts.{json, response_bytes}
+use Rattle.adm_http.specs.Texts.{bare, json, response_bytes}
+use Rattle.adm_http.specs.declared.body_answer.BodyAnswer.TheVariants.{Line, Unread}
+use Rattle.adm_http.specs.declared.heads.Judgement.{Judgement}
 use Rattle.adm_http.specs.declared.heads.Judgement.TheVariants.{Whole}
 use Rattle.adm_http.specs.declared.heads.Verdict.TheVariants.{Run}
 use Rattle.adm_http.specs.declared.routes.Purpose.{Purpose}
+use Rattle.adm_http.specs.declared.routes.Purpose.TheVariants as purpose
+use Rattle.adm_wire.specs.Commands.{command_of}
+use Rattle.adm_wire.specs.declared.fault.WireFault.{WireFault}
 
 -- what was read of a connection as its request, and what was written to it; with the command that the request was and its answer, or none
 pub record Exchange : Type 0 where
@@ -26,21 +34,34 @@ pub record Exchange : Type 0 where
   pub written : List ℕ
   pub answered : Option (Command × Answer)
 
+-- a body for this is this command: a line of commands, or for an import its rows
+abbrev pub IsCommandFor : Purpose → List ℕ → Command → Type 0
+IsCommandFor purpose.Command body c = command_of body ≡ Ok c
+IsCommandFor purpose.Import body c = (rows : List ImportRow) × HasRows body (Ok rows) × (c ≡ command.Import rows)
+IsCommandFor purpose.Question body c = ⊥
+
 -- the request has a head for a body of this size, and the body is this command
 pub record SendsCommand (request : List ℕ) (command : Command) : Type 0 where
   pub head : ℕ
   pub size : ℕ
   pub purpose : Purpose
   pub judged : IsJudgement request (Whole head (Run purpose size))
-  pub body : IsCommand (take size (drop head request)) command
+  pub body : IsCommandFor purpose (take size (drop head request)) command
 
 -- the response to a command: 200 just where it was answered Done, 409 where it was refused, and else 503
 abbrev pub command_response : Answer → List ℕ
 command_response answer = response_bytes (json (status_of_command answer) (answer_text answer))
 
--- a request that was a command is this one, and the response is the one to its answer
+-- Of a request that is judged so, a response to no command: the head is for no command; or the body was short, and the response is 400; or it is that of the error
+-- for which the body is no command or has no rows.
+abbrev pub HasNoCommand : Judgement → List ℕ → Type 0
+HasNoCommand (Whole head (Run purpose.Command size)) response = (response ≡ response_bytes (bare 400)) ⊎ ((fault : WireFault) × (response ≡ response_bytes (of_answer (Line (Faulty fault)))))
+HasNoCommand (Whole head (Run purpose.Import size)) response = (response ≡ response_bytes (bare 400)) ⊎ ((fault : RowFault) × (response ≡ response_bytes (of_answer (Unread fault))))
+HasNoCommand judgement response = ⊤
+
+-- A request that was a command is this one, and the response is the one to its answer. Where none is named, the response is to no command, or there is none.
 abbrev pub AnswersTo : List ℕ → List ℕ → Option (Command × Answer) → Type 0
-AnswersTo request response None = ⊤
+AnswersTo request response None = (response ≡ []) ⊎ ((judgement : Judgement) × IsJudgement request judgement × HasNoCommand judgement response)
 AnswersTo request response (Some answered) = SendsCommand request answered.0 × (response ≡ command_response answered.1)
 
 -- the command was handled, or there was none and nothing changed
@@ -48,14 +69,17 @@ abbrev pub Moves : {C : Type 0} → (C → Disk) → Option (Command × Answer) 
 Moves disk None old new = new ≡ old
 Moves disk (Some answered) old new = Handles disk old answered.0 answered.1 new
 
--- The request got the response of its route, or none where it could not be read or memory ran out; of that, a beginning was written. Its command, if it was one, was
--- handled, and its answer makes the response.
-pub record ServesExchange {C : Type 0} (disk : C → Disk) (old : DeskState C) (e : Exchange) (new : DeskState C) : Type 0 where
+-- What was written is a beginning of a response. Its command is in the request, if it was one, and the answer to it makes the response.
+pub record IsAnswered (e : Exchange) : Type 0 where
   pub response : List ℕ
-  pub responds : Responds (RunsBody disk) Shows old e.request response new ⊎ ((response ≡ []) × (new ≡ old))
   pub size : ℕ
   pub written : e.written ≡ take size response
   pub command : AnswersTo e.request response e.answered
+
+-- The response is that of the request's route, or none where it could not be read or memory ran out. Its command, if it was one, was handled.
+pub record ServesExchange {C : Type 0} (disk : C → Disk) (old : DeskState C) (e : Exchange) (new : DeskState C) : Type 0 where
+  pub is : IsAnswered e
+  pub responds : Responds (RunsBody disk) Shows old e.request is.response new ⊎ ((is.response ≡ []) × (new ≡ old))
   pub moves : Moves disk e.answered old new
 
 -- so were these, one after another
@@ -93,8 +117,10 @@ pub record KeepsServed {C : Type 0} (disk : C → Disk) (count : ℕ) (old new :
   pub serves : ServesExchanges disk old.desk served new.desk
   pub kept : KeepsAcknowledged disk old.desk new.desk (commands_of served)
 
+-- where a desk had not failed, and a crash leaves its register
+abbrev pub KeepsIfSound : {C : Type 0} → (C → Disk) → ℕ → Moment (DeskState C) → Moment (DeskState C) → Type 0
+KeepsIfSound disk count old new = old.desk.failed ≡ false → LeavesOnly old.desk.register (disk old.desk.conn) → KeepsServed disk count old new
+
 -- So it is after as many turns of connections as `serve_on` serves.
 abbrev pub ServedIsKept : {C : Type 0} → (C → Disk) → Type 0
-ServedIsKept {C} disk =
-    (count : ℕ) (old new : Moment (DeskState C)) → old.desk.failed ≡ false → LeavesOnly old.desk.register (disk old.desk.conn) → ServesEach (RunsBody disk) Shows count old new
-    → KeepsServed disk count old new
+ServedIsKept {C} disk = (count : ℕ) (old new : Moment (DeskState C)) → ServesEach (RunsBody disk) Shows count old new → KeepsIfSound disk count old new

@@ -1,4 +1,5 @@
 pub mod NextRun
 pub mod SuccessiveRuns
 pub mod Birth
+pub mod OneRun
 pub mod Exchanges

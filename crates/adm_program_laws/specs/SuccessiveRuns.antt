@@ -1,5 +1,5 @@
 -- Runs of the program, one after another, each over what a crash may have left of the same two files.
-use Rattle.std.specs.Prelude.{◌≡◌, ◌≢◌, ◌≤◌, ◌⊎◌, ⊤, ℕ, IsTrue, List, [], ◌∷◌, ◌++◌, length, take, Some, Result, Ok, Err}
+use Rattle.std.specs.Prelude.{◌≡◌, ◌≢◌, ◌≤◌, ◌⊎◌, ⊤, ℕ, IsTrue, List, [], ◌∷◌, ◌++◌, length, take, Option, Some, Result, Ok, Err}
 use Rattle.std.specs.Io.KnownBytes.{Appends, Consumes, IsAtEnd}
 use Rattle.std.specs.List.{AllByRecursion}
 use Rattle.std.specs.FinMap.{get}
@@ -40,7 +40,7 @@ use Rattle.adm_desk.specs.Lines.{answer_text, answers_text, lines_of}
 use Rattle.adm_desk.specs.Written.{IsBeginning}
 use Rattle.adm_desk.specs.declared.answer.Answer.{Answer}
 use Rattle.adm_desk.specs.declared.answer.LineAnswer.{LineAnswer}
-use Rattle.adm_http.specs.Bodies.{IsOfBody}
+use Rattle.adm_http.specs.Connections.{Traffic}
 use Rattle.adm_files.specs.Imports.{FileGives}
 use Rattle.adm_files.specs.Opened.{IsNotOpened, IsOpened}
 use Rattle.adm_host.specs.Creation.{Creates}
@@ -54,14 +54,14 @@ use Rattle.adm_host.specs.declared.exit.Exit.{Exit}
 use Rattle.adm_host.specs.declared.exit.Exit.TheVariants as exit
 use Rattle.adm_host.specs.declared.fault.Fault.{Fault}
 use Rattle.adm_program.specs.Arguments.{FollowsFrom}
+use Rattle.adm_program.specs.Given.{Around}
+use Rattle.adm_program.specs.Served.{AreUntaken, Visits}
+use Rattle.adm_program_laws.specs.Exchanges.{AreExchanged, Exchange, IsAnswered, commands_of}
 
--- a run: what its arguments were read as, the streams before and after it, and its end: the exit status, and what remains of the files
+-- a run: what its arguments were read as, the streams and the connections to ports before and after it, and its end: the exit status, and what remains of the files
 pub record ProgramRun {D : Type 0} (g : disk.Ghosts D) : Type 0 where
   pub read : Result Action WordsFault
-  pub rows : List ℕ → Stream
-  pub input : Stream
-  pub output : Stream
-  pub errors : Stream
+  pub around : Around
   pub end : RunEnd D g
 
 -- ---- the commands of a run, with their answers
@@ -90,16 +90,31 @@ pub record AnswersRows (status : ℕ) (file output : Stream) (answered : List (C
   pub written : Puts (answer_text answer ++ 10 ∷ []) output result
   pub all : status ≢ 1 → Appends output.old output.new (answer_text answer ++ 10 ∷ [])
 
+-- At most so many connections to the port were served: each got a response to its request, or a beginning of one, and these are the commands of the requests, with
+-- their answers.
+pub record AnswersConnections (count : ℕ) (coming left : Option Traffic) (answered : List (Command × Answer)) : Type 0 where
+  pub served : List Exchange
+  pub few : length served ≤ count
+  pub exchanged : AreExchanged coming left served
+  pub each : AllByRecursion IsAnswered served
+  pub commands : answered ≡ commands_of served
+
+-- the run ended with an error, no command was answered, and no connection was taken
+pub record TakesNone (status port : ℕ) (visits : Visits) (answered : List (Command × Answer)) : Type 0 where
+  pub ends : status ≡ 1
+  pub none : answered ≡ []
+  pub untaken : AreUntaken visits ⊎ (visits.new ≡ visits.coming port)
+
 -- the run ended with an error, no command was answered, and nothing was written
 abbrev pub AnswersNone : ℕ → Stream → List (Command × Answer) → Type 0
 AnswersNone status output answered = (status ≡ 1) × (answered ≡ []) × (output.new ≡ output.old)
 
--- `do` answers commands in its lines or none, `import` one of all rows or none, `serve` at most as many as it serves requests, each of which some body is, and the others none
+-- `do` answers commands in its lines or none, `import` one of all rows or none, `serve` those in the requests of its connections or none, and the others none
 abbrev pub AnswersBy : {D : Type 0} {g : disk.Ghosts D} → Action → ProgramRun g → List (Command × Answer) → Type 0
-AnswersBy (action.Do file) run answered = AnswersNone run.end.status run.output answered ⊎ AnswersInput run.end.status run.input run.output answered
-AnswersBy (action.Import file csv) run answered = AnswersNone run.end.status run.output answered ⊎ AnswersRows run.end.status (run.rows csv.now) run.output answered
+AnswersBy (action.Do file) run answered = AnswersNone run.end.status run.around.given.output answered ⊎ AnswersInput run.end.status run.around.given.input run.around.given.output answered
+AnswersBy (action.Import file csv) run answered = AnswersNone run.end.status run.around.given.output answered ⊎ AnswersRows run.end.status (run.around.given.rows csv.now) run.around.given.output answered
 AnswersBy (action.Serve file port count) run answered =
-    (length answered ≤ count) × AllByRecursion IsOfBody answered
+    TakesNone run.end.status port run.around.given.visits answered ⊎ AnswersConnections count (run.around.given.visits.coming port) run.around.given.visits.new answered
 AnswersBy other run answered = answered ≡ []
 
 -- so does a run by what its arguments were read as; by none where they are a usage error
@@ -149,6 +164,10 @@ PlacesAfterRuns =
 
 -- ---- runs over the files
 
+-- a database that the files hold has pages of this size
+abbrev pub HavePagesOf : ℕ → Image → Type 0
+HavePagesOf size image = (db : Trees) (held : HoldsDatabase image db) → held.0 ≡ size
+
 module _ {D : Type 0} {g : disk.Ghosts D} where
   -- where its tables are numbered, what a crash may leave of the store; or files that hold a database which an open after a crash may find
   abbrev pub MayHold : FileStore D g → Image → Type 0
@@ -161,11 +180,11 @@ module _ {D : Type 0} {g : disk.Ghosts D} where
   MayClose (Err (error, store)) after = IsClean (view store) × MayHold store after
 
   -- The same of files that held the image `before` and were not opened as a register: what was not opened is as it was; what an open of `sqlite` that failed may leave,
-  -- but for one that failed while it took over the log of a database; or files that hold a database which an open after a crash may find.
+  -- where one that failed while it took over the log of a database did so by the size of its pages; or files that hold a database which an open after a crash may find.
   abbrev pub MayStay : Image → Remainder D g → Image → Type 0
   MayStay before (remainder.Untouched it) after = after ≡ before
   MayStay before (remainder.Files (leftover.Files files)) after = AreClean g files.log files.db × outcomes g files.log files.db after
-  MayStay before (remainder.Files (leftover.Unopened it)) after = IsTrue (state_of it).is_clean × IsNothing before × (state_of it).may_leave after
+  MayStay before (remainder.Files (leftover.Unopened it)) after = IsTrue (state_of it).is_clean × (IsNothing before ⊎ HavePagesOf (state_of it).page_size before) × (state_of it).may_leave after
   MayStay before (remainder.Files (leftover.Store store)) after = IsTrue (view store).is_clean × (db : Trees) × recovers store db × HoldsDatabase after db
   MayStay before (remainder.Connection c) after = HasCleanDisk (file_state c) × (db : Trees) × recovers c.store db × HoldsDatabase after db
 
@@ -177,7 +196,7 @@ module _ {D : Type 0} {g : disk.Ghosts D} where
 module _ {D : Type 0} (g : disk.Ghosts D) where
   -- One run, as `run_arguments` says of it, over files that held `before`: what it returned remains, and after it, whether it ended or a crash came, they hold `after`.
   pub record RunsOver (before : Image) (run : ProgramRun g) (after : Image) : Type 0 where
-    pub follows : FollowsFrom g before run.read run.rows run.input run.output run.errors run.end
+    pub follows : FollowsFrom g before run.read run.around run.end
     pub left : MayRemain before run.end.remains after
 
   -- runs, one after another

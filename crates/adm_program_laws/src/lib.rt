@@ -2,9 +2,11 @@
 #![tactic(auto)]
 
 mod birth;
+mod once_more;
 mod runs;
 mod serving;
 
 pub use birth::first_runs;
+pub use once_more::run_once_more;
 pub use runs::{next_run, runs_in_order};
-pub use serving::served_is_kept;
+pub use serving::{serve_and_keep, served_is_kept};

@@ -5,7 +5,6 @@ ghost use Rattle.adm_program_laws.specs.SuccessiveRuns.{InitMakesFile, OneMoreRu
 use adm_command_laws::{draws_kept, places_have_cause};
 use adm_crashes::rounds_are_recorded;
 use adm_desk::Desk;
-use adm_http::bodies_are_commands;
 use adm_rows::one_register;
 use sqlite::FileStore;
 use sqlite_disk::Disk;
@@ -39,10 +38,9 @@ pub fn runs_in_order<D: Disk + Drop>()
     ensures opened { OpensAfterRuns D.Disk }
     ensures never { NeverNoRegister D.Disk }
 {
-    // that a file represents one register, that requests are commands, and what commands leave of
-    // rounds, draws and places, calls of the laws say
+    // that a file represents one register, and what commands leave of rounds, draws and places, calls
+    // of the laws say
     one_register();
-    bodies_are_commands::<FileStore<D>>();
     draws_kept();
     rounds_are_recorded();
     places_have_cause();

@@ -2,6 +2,7 @@
 #![tactic(auto)]
 
 use adm_host::{FileRows, print_memory_fault};
+use adm_http::Port;
 use adm_program::run_words;
 use adm_wire::Watched;
 use sqlite::Unknown;
@@ -36,6 +37,7 @@ fn run(rt: &HostRuntime) -> io::Result<u8> {
         arguments.as_slice(),
         Unknown,
         &mut FileRows::new(),
+        &mut Port::new(rt),
         &mut Watched::new(rt.stdin()),
         &mut Watched::new(rt.stdout()),
         &mut Watched::new(rt.stderr()),

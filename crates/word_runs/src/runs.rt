@@ -1,5 +1,6 @@
 // A run with the lines that were given for it, and what it prints.
 use adm_host::FileRows;
+use adm_http::Port;
 use adm_program::run_words;
 use adm_wire::Watched;
 use sqlite::Unknown;
@@ -87,6 +88,7 @@ impl Runs {
             words.as_slice(),
             Unknown,
             &mut FileRows::new(),
+            &mut Port::new(rt),
             &mut Watched::new(self.input.as_slice()),
             &mut output,
             &mut errors,

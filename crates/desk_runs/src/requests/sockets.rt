@@ -30,7 +30,8 @@ impl Connection {
         let mut client = TcpStream::connect(rt, listener.local_addr()?)?;
         client.write_all(request)?;
         let mut errors = Watched::new(Vec::new(alloc));
-        let mut port = Port::new(alloc, rt, &listener);
+        let mut port = Port::new(rt);
+        port.accept_from(alloc, listener);
         let status = serve_on(alloc, routes, desk, &mut port, 1, &mut errors);
         let mut answer = Vec::new(alloc);
         client.read_to_end(&mut answer)?;

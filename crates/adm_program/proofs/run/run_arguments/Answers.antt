@@ -1,6 +1,5 @@
 use Rattle.std.proofs.Common.{ℕ, Ok, Err, refl, ap, ◌∙◌, sym, subst}
 use Rattle.adm_host.specs.Exits.{ExitsBy, exit_code}
-use Rattle.adm_wire.specs.Streams.{Stream}
 use Rattle.adm_program.proofs.Doing.{exits, refused}
 use Rattle.adm_program.proofs.Wording.{taken}
 use Rattle.adm_program.proofs.run.run_arguments.Goals as goal
@@ -8,14 +7,13 @@ use Rattle.adm_program.proofs.run.run_arguments.Goals as goal
 -- arguments that name an action
 pub returns-in-Ok-clause-does : goal.returns-in-Ok-clause-does
 returns-in-Ok-clause-does g c =
-    let errors : Stream = record { old = g.E.Output.contents c.args.errors.now; new = g.E.Output.contents c.end.new.errors; has_failed = g.E.Output.has_failed c.end.new.errors } in
     let did = c.run_action-ended.ensures in
     let is = c.end.ensures in
-    taken g.S.Start _ c.in-Ok.action _ _ _ errors c.run_action-ended.result c.end.result c.in-Ok.ensures.reads did.ok did.err did.left did.many did.untouched is.status is.remains is.reported
+    taken g.S.Start _ c.in-Ok.action _ c.run_action-ended.result c.end.result c.in-Ok.ensures.reads did.ok did.err did.left did.many did.untouched did.taken is.status is.remains is.reported
 
 pub returns-in-Ok-clause-status : goal.returns-in-Ok-clause-status
 returns-in-Ok-clause-status g c =
-    (Ok c.in-Ok.action, c.in-Ok.ensures.reads, exits _ c.in-Ok.action _ _ _ c.run_action-ended.result c.end.result.status c.run_action-ended.ensures.ok c.end.ensures.status)
+    (Ok c.in-Ok.action, c.in-Ok.ensures.reads, exits _ c.in-Ok.action _ c.run_action-ended.result c.end.result.status c.run_action-ended.ensures.ok c.end.ensures.status)
 
 -- arguments that are a usage error
 pub returns-in-Err-clause-does : goal.returns-in-Err-clause-does
@@ -24,7 +22,7 @@ returns-in-Err-clause-does g c =
       read = Err c.in-Err.fault;
       reads = c.in-Err.ensures.reads;
       follows = (
-        record { unread = refl; unwritten = refl; reported = c.refuse_arguments.ensures.reported; exits = c.code.ensures ∙ ap exit_code c.refuse_arguments.ensures.exit },
+        record { unread = refl; unwritten = refl; untaken = refl; reported = c.refuse_arguments.ensures.reported; exits = c.code.ensures ∙ ap exit_code c.refuse_arguments.ensures.exit },
         c.leave_unopened.ensures,
       );
     }

@@ -1,0 +1,11 @@
+use Rattle.adm_program_laws.proofs.once_more.run_once_more.Goals as goal
+
+pub returns-clause-kept : goal.returns-clause-kept
+returns-clause-kept g c =
+    let did = c.run_arguments.ensures.does in
+    (did.read, did.reads, λ first runs after held left. c.runs_in_order.ensures.run first runs _ after _ held (record { follows = did.follows; left = left }))
+
+pub returns-clause-first : goal.returns-clause-first
+returns-clause-first g c =
+    let did = c.run_arguments.ensures.does in
+    (did.read, did.reads, λ file phase year days after is none left. c.first_runs.ensures.leaves _ after _ file phase year days none (record { follows = did.follows; left = left }) is)
