@@ -109,14 +109,64 @@ class Groups:
             self.all_better += all(own[i].place(other[i]) < own[i].place(was[i]) for i in members)
 
 
+def allocations(entrants):
+    """Everything that the entrants may have, each a school of its list or none."""
+    return product(*[(tuple(e.list) + ("",)) if e else ("",) for e in entrants])
+
+
+def has_claim(e, had, ranks, index, guests):
+    """Whether a school that the entrant wants more than what it has is its own of before, or has a guest that ranks after it."""
+    for school in e.list:
+        if school == had:
+            return False
+        if e.tenant == school or any(ranks[j][school] > ranks[index][school] for j in guests[school]):
+            return True
+    return False
+
+
+class Others:
+    """What other allocations do beside the best one."""
+
+    def __init__(self):
+        self.fair = self.fairer = self.better_for_each = self.joined = self.torn = self.rather = self.moved = 0
+
+    def count(self, entrants, quotas):
+        chosen, quota = best(entrants, quotas), dict(quotas)
+        ranks = [dict(e.ranks) for e in entrants]
+        for given in allocations(entrants):
+            at = {school: [i for i, had in enumerate(given) if had == school] for school in quota}
+            guests = {school: [i for i in there if entrants[i].tenant != school] for school, there in at.items()}
+            if any(guests[school] and len(at[school]) > quota[school] for school in quota):
+                continue
+            better = [e.place(given[i]) < e.place(chosen[i]) for i, e in enumerate(entrants)]
+            self.better_for_each += bool(better) and all(better)
+            if not any(has_claim(e, given[i], ranks, i, guests) for i, e in enumerate(entrants)):
+                self.fair += 1
+                self.fairer += any(better)
+        stable = stable_allocations(entrants, quotas)
+        for one, other in product(stable, repeat=2):
+            joined = tuple(min(pair, key=e.place) for e, pair in zip(entrants, zip(one, other)))
+            self.joined += 1
+            self.torn += joined not in stable
+        for other in stable:
+            for i, school in enumerate(chosen):
+                if school and other[i] != school:
+                    there = [j for j, had in enumerate(other) if had == school and entrants[j].tenant != school]
+                    self.rather += sum(ranks[j][school] > ranks[i][school] for j in there)
+        settled = tuple(Entrant((e.list[: e.place(had) + 1] if had else e.list, had, e.ranks)) for e, had in zip(entrants, chosen))
+        self.moved += sum(was != now for was, now in zip(chosen, best(settled, quotas)))
+
+
 class Counts:
     def __init__(self, kind):
         self.kind = kind
         self.problems = self.stable = self.several = self.placed = self.uneven = 0
         self.laws = {name: Law() for name in ("more places", "a child leaves", "a shorter list", "another list")}
         self.groups = Groups()
+        self.others = Others()
 
     def problem(self, entrants, quotas):
+        self.others.count(entrants, quotas)
         stable = stable_allocations(entrants, quotas)
         chosen = best(entrants, quotas)
         self.problems += 1
@@ -135,6 +185,11 @@ class Counts:
             print(f"{self.kind}, {name}: tried {law.tried}, better {law.better}, worse {law.worse}")
         group = self.groups
         print(f"{self.kind}, lists of a group: tried {group.tried}, better {group.better}, worse {group.worse}, all better {group.all_better}")
+        others = self.others
+        print(
+            f"{self.kind}, others: fair {others.fair}, fairer {others.fairer}, better for each {others.better_for_each}, moved {others.moved}"
+        )
+        print(f"{self.kind}, stable together: {others.joined}, not stable {others.torn}, rather had {others.rather}")
 
 
 def replaced(entrants, index, other):
@@ -227,22 +282,44 @@ def drawn_group(entrants, numbers):
     return [stated and entrant(stated[0], stated[1], by_truth(own, even[i])) for i, (own, stated) in enumerate(zip(entrants, lists))]
 
 
-def drawn(count):
-    counts, numbers, groups = Counts("drawn"), Numbers(11), Numbers(13)
+def any_problem(numbers, length):
+    """The lists, tenancies, quotas and ranks of a problem in which all are drawn."""
+    lists = []
+    for _ in range(length):
+        listed = numbers.list()
+        lists.append((listed, listed[-1:] if numbers.below(3) == 0 else ""))
+    numbered: list = []
+    ranks: list[dict] = [{} for _ in range(5)]
+    for school in "ABCD":
+        numbered.append((school, numbers.below(3)))
+        for row, number in zip(ranks, numbers.order()):
+            row[school] = 2 * number + 1
+    return lists, numbered, ranks
+
+
+def opposed_problem(numbers, length):
+    """Those of one in which each child lists all schools, and schools rank those first who want them least."""
+    lists = []
+    for _ in range(length):
+        listed = "".join(".ABCD"[number] for number in numbers.order() if number)
+        lists.append((listed, listed[-1:] if numbers.below(6) == 0 else ""))
+    numbered: list = []
+    ranks: list[dict] = [{} for _ in range(5)]
+    for school in "ABCD":
+        numbered.append((school, numbers.below(2) + 1))
+        for i, number in enumerate(numbers.order()):
+            place = lists[i][0].index(school) if i < length else 4
+            ranks[i][school] = 2 * (5 * (4 - place) + number) + 1
+    return lists, numbered, ranks
+
+
+def drawn(kind, count, a_problem):
+    counts, numbers, groups = Counts(kind), Numbers(11), Numbers(13)
     for _ in range(count):
         length = numbers.below(5) + 1
-        lists = []
-        for _ in range(length):
-            listed = numbers.list()
-            lists.append((listed, listed[-1:] if numbers.below(3) == 0 else ""))
-        numbered: list = []
-        ranks: list[dict] = [{} for _ in range(5)]
-        for school in "ABCD":
-            numbered.append((school, numbers.below(3)))
-            for row, number in zip(ranks, numbers.order()):
-                row[school] = 2 * number + 1
+        lists, numbered, ranks = a_problem(numbers, length)
         quotas = tuple(numbered)
-        entrants = tuple(entrant(*lists[i], ranks[i]) for i in range(length))
+        entrants = tuple(entrant(lists[i][0], lists[i][1], ranks[i]) for i in range(length))
         counts.problem(entrants, quotas)
         school, more = "ABCD"[numbers.below(4)], numbers.below(3)
         counts.laws["more places"].count(entrants, quotas, entrants, with_quota(quotas, school, dict(quotas)[school] + more))
@@ -260,4 +337,5 @@ def drawn(count):
 
 
 small()
-drawn(2000)
+drawn("drawn", 2000, any_problem)
+drawn("opposed", 2000, opposed_problem)

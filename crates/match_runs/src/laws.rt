@@ -4,6 +4,8 @@ mod changes;
 mod counts;
 mod drawn;
 mod groups;
+mod others;
+mod posed;
 mod problems;
 mod search;
 mod tables;

@@ -2,52 +2,22 @@
 use crate::cases::CASES;
 use crate::laws::cases::{chosen, table_of};
 use crate::laws::counts::{Counts, nothing};
-use crate::laws::drawn::{Numbers, another_list, some_table};
+use crate::laws::drawn::{Numbers, another_list, opposed_table, some_table};
 use crate::laws::groups::{drawn_group, members, restated, small_group};
-use crate::laws::problems::{
-    Names, code_of, entrants_of, given_by, make_names, seats_of, wishes_of,
-};
+use crate::laws::posed::{Posed, given_again, pose};
+use crate::laws::problems::{Names, code_of, entrants_of, given_by, make_names, wishes_of};
 use crate::laws::search::{all_stable, is_stable};
 use crate::laws::tables::{ABSENT, Given, Row, Table, at, first_schools, length, place_on};
 use adm_laws::{
     offers_with_list, offers_with_lists, offers_with_quota, offers_with_shorter_list,
     offers_without, taken_at,
 };
-use adm_match::{BadProblem, Entrant, Problem, Seats, offers};
+use adm_match::BadProblem;
 use std::alloc::{AllocError, Global};
 use std::io;
 
 /// How many problems of up to five entrants and four schools are drawn.
 const DRAWN: u32 = 2_000;
-
-/// A problem, its stable allocations, and what the program gives.
-#[derive(Drop)]
-struct Posed {
-    table: Table,
-    entrants: Vec<Entrant>,
-    seats: Vec<Seats>,
-    stable: Vec<Given>,
-    given: Given,
-}
-
-fn pose(alloc: Global, names: &Names, table: Table) -> Result<Posed, BadProblem> {
-    let entrants = entrants_of(alloc, names, &table)?;
-    let seats = seats_of(alloc, names, &table)?;
-    let problem = Problem::new(
-        alloc,
-        entrants_of(alloc, names, &table)?,
-        seats_of(alloc, names, &table)?,
-    )?;
-    let given = given_by(names, &offers(alloc, &problem)?);
-    let stable = all_stable(alloc, &table)?;
-    Ok(Posed {
-        table,
-        entrants,
-        seats,
-        stable,
-        given,
-    })
-}
 
 /// The places on a list of what the row has in each of the allocations.
 fn places_of(
@@ -73,6 +43,11 @@ impl Counts {
         let taken = taken_at(alloc, &posed.entrants, &posed.seats, names.codes[0])?;
         self.count_problem(&posed.table, &posed.stable, posed.given);
         self.count_filled(&posed.table, &posed.stable, posed.given, taken);
+        self.others.count_fair(&posed.table, posed.given);
+        self.others
+            .count_stable(&posed.table, &posed.stable, posed.given);
+        self.others
+            .count_moved(posed.given, given_again(alloc, names, posed)?);
         Ok(())
     }
 
@@ -260,13 +235,19 @@ fn small(alloc: Global, names: &Names) -> Result<Counts, BadProblem> {
     Ok(counts)
 }
 
-fn drawn(alloc: Global, names: &Names) -> Result<Counts, BadProblem> {
+/// Drawn problems: with schools that want children otherwise than these want schools, so that several
+/// allocations are stable, or with any rankings.
+fn drawn(alloc: Global, names: &Names, opposed: bool) -> Result<Counts, BadProblem> {
     let mut counts = nothing();
     let mut numbers = Numbers::new(11);
     let mut groups = Numbers::new(13);
     for _ in 0..DRAWN {
         let entrants = numbers.below(5).wrapping_add(1);
-        let table = some_table(&mut numbers, entrants);
+        let table = if opposed {
+            opposed_table(&mut numbers, entrants)
+        } else {
+            some_table(&mut numbers, entrants)
+        };
         let posed = pose(alloc, names, table)?;
         counts.try_drawn(alloc, names, &posed, entrants, &mut numbers, &mut groups)?;
     }
@@ -282,8 +263,12 @@ pub fn run(rt: &HostRuntime) -> io::Result<()> {
         Ok(counts) => counts.print(rt, "small")?,
         Err(_) => println!(rt; "a small problem is refused")?,
     }
-    match drawn(rt.alloc(), &names) {
-        Ok(counts) => counts.print(rt, "drawn"),
-        Err(_) => println!(rt; "a drawn problem is refused"),
+    match drawn(rt.alloc(), &names, false) {
+        Ok(counts) => counts.print(rt, "drawn")?,
+        Err(_) => println!(rt; "a drawn problem is refused")?,
+    }
+    match drawn(rt.alloc(), &names, true) {
+        Ok(counts) => counts.print(rt, "opposed"),
+        Err(_) => println!(rt; "an opposed problem is refused"),
     }
 }

@@ -1,5 +1,6 @@
 // Counts of problems, and of what each law says of their changes.
 use crate::laws::groups::{Groups, no_groups};
+use crate::laws::others::{Others, no_others};
 use crate::laws::tables::{Given, Table, better_off, count_at, fills_alike, is_no_worse};
 use std::io;
 
@@ -67,6 +68,7 @@ pub struct Counts {
     pub shorter: Law,
     pub lists: Law,
     pub groups: Groups,
+    pub others: Others,
 }
 
 pub fn nothing() -> Counts {
@@ -83,6 +85,7 @@ pub fn nothing() -> Counts {
         shorter: none_tried(),
         lists: none_tried(),
         groups: no_groups(),
+        others: no_others(),
     }
 }
 
@@ -156,6 +159,7 @@ impl Counts {
         self.leaving.print(rt, kind, "a child leaves")?;
         self.shorter.print(rt, kind, "a shorter list")?;
         self.lists.print(rt, kind, "another list")?;
-        self.groups.print(rt, kind)
+        self.groups.print(rt, kind)?;
+        self.others.print(rt, kind)
     }
 }

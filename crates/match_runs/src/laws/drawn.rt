@@ -91,6 +91,49 @@ pub fn some_table(numbers: &mut Numbers, entrants: u32) -> Table {
     Table { rows, quotas }
 }
 
+/// A row without ranks that lists all four schools; one in six is a tenant of the last of them.
+fn long_row(numbers: &mut Numbers) -> Row {
+    let mut list: List = [0; 4];
+    let mut count: u32 = 0;
+    for school in order_of_five(numbers) {
+        if school != 0 {
+            list[(count % 4) as usize] = school;
+            count = count.wrapping_add(1);
+        }
+    }
+    let is_tenant = numbers.below(6) == 0;
+    let tenant = if is_tenant { last_of(list) } else { 0 };
+    Row {
+        takes_part: true,
+        list,
+        tenant,
+        ranks: [0; 4],
+    }
+}
+
+/// A table of the first entrants, of which each lists all schools, with quotas 1 and 2. A school ranks
+/// those first who want it least. Ranks are odd, and no two of a school are equal.
+pub fn opposed_table(numbers: &mut Numbers, entrants: u32) -> Table {
+    let mut rows = [ABSENT; 5];
+    for index in 0..5 {
+        if (index as u32) < entrants {
+            rows[index] = long_row(numbers);
+        }
+    }
+    let mut quotas = [0; 4];
+    for school in 0..4 {
+        quotas[school] = numbers.below(2).wrapping_add(1);
+        let order = order_of_five(numbers);
+        for index in 0..5 {
+            let place = place_on(rows[index].list, (school as u32).wrapping_add(1));
+            let least = 4_u32.wrapping_sub(place).wrapping_mul(5);
+            let rank = least.wrapping_add(order[index]);
+            rows[index].ranks[school] = rank.wrapping_mul(2).wrapping_add(1);
+        }
+    }
+    Table { rows, quotas }
+}
+
 /// The list without a school, and that school last.
 fn with_last(list: List, school: u32) -> List {
     let mut moved: List = [0; 4];

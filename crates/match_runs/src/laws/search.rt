@@ -18,7 +18,7 @@ fn has_guest(table: &Table, given: Given, school: u32) -> bool {
 }
 
 /// Whether at each school with a guest at most the quota are.
-fn is_feasible(table: &Table, given: Given) -> bool {
+pub fn is_feasible(table: &Table, given: Given) -> bool {
     for school in 1..5 {
         let count = count_at(table, given, school);
         if count > table.quotas[at(school)] && has_guest(table, given, school) {
@@ -60,6 +60,35 @@ fn is_content(table: &Table, given: Given, entrant: usize) -> bool {
     true
 }
 
+/// Whether the entrant has a claim to the school: as its tenant, or before a guest of it.
+fn has_claim(table: &Table, given: Given, entrant: usize, school: u32) -> bool {
+    table.rows[entrant % 5].tenant == school || ranks_before_guest(table, given, entrant, school)
+}
+
+/// Whether the entrant has no claim to a school that it wants more than what it has.
+fn has_no_claim(table: &Table, given: Given, entrant: usize) -> bool {
+    let row = table.rows[entrant % 5];
+    for school in row.list {
+        if school == 0 || school == given[entrant % 5] {
+            return true;
+        }
+        if has_claim(table, given, entrant, school) {
+            return false;
+        }
+    }
+    true
+}
+
+/// Whether the allocation is fair: feasible, and nobody has a claim. It may leave wanted places vacant.
+pub fn is_fair(table: &Table, given: Given) -> bool {
+    for entrant in 0..5 {
+        if table.rows[entrant].takes_part && !has_no_claim(table, given, entrant) {
+            return false;
+        }
+    }
+    is_feasible(table, given)
+}
+
 pub fn is_stable(table: &Table, given: Given) -> bool {
     for entrant in 0..5 {
         if table.rows[entrant].takes_part && !is_content(table, given, entrant) {
@@ -88,7 +117,7 @@ fn choice(row: &Row, number: u32) -> u32 {
 }
 
 /// The allocation of a number: a choice for each row, the first row's the fastest.
-fn allocation(table: &Table, number: u32) -> Given {
+pub fn allocation(table: &Table, number: u32) -> Given {
     let mut given: Given = [0; 5];
     let mut remaining = number;
     for index in 0..5 {
@@ -101,7 +130,7 @@ fn allocation(table: &Table, number: u32) -> Given {
 }
 
 /// How many allocations there are: at most 3,125.
-fn allocations(table: &Table) -> u32 {
+pub fn allocations(table: &Table) -> u32 {
     let mut count: u32 = 1;
     for row in &table.rows {
         count = count.wrapping_mul(choices(row));
