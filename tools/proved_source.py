@@ -15,7 +15,8 @@ from typing import NamedTuple
 VERDICTS, TABLE = Path("out/verdicts"), Path("crates.txt")
 # what a check of a crate reads of its folder
 PARTS = ("src", "specs", "proofs")
-PROVED = re.compile(r"logic=proved functions=\d+ sum=[0-9a-f]+\b.*")
+# (of a program it has its axioms and its machine, too)
+PROVED = re.compile(r"logic=proved functions=\d+ (?:\S+ )*?sum=[0-9a-f]+\b.*")
 
 
 class Verdict(NamedTuple):

@@ -8,6 +8,7 @@ import shutil
 import subprocess
 import typing
 
+import proved_source
 import pytest
 
 ROOT = pathlib.Path(__file__).resolve().parents[2]
@@ -119,6 +120,19 @@ def test_a_verdict_counts_for_the_source_that_was_proved(copy: pathlib.Path) -> 
     path.write_text(path.read_text() + "\n")
     os.utime(path, (0, 0))
     assert set(verdicts(made(copy)).values()) == {UNSEEN}
+
+
+@pytest.mark.parametrize("line, is_verdict", [
+    (PROVED, True), ("logic=proved functions=4 axioms=63 target=x86_64-unknown-linux-gnu"
+                     " cpu=x86-64-v2 sum=dac8208d650f15bf native=nat,char,string", True),
+    (PROVED.replace("=proved", "=open"), False), (f"checked {PROVED}", False)])
+def test_which_lines_of_the_toolchain_are_verdicts(
+    line: str, is_verdict: bool, tmp_path: pathlib.Path, monkeypatch: pytest.MonkeyPatch,
+) -> None:
+    """Of a library, and of a program, whose line has more."""
+    monkeypatch.chdir(tmp_path)
+    proved_source.leave("adm_x", "source", f"so far\n{line}\nthe end\n")
+    assert proved_source.left("adm_x") == (("source", line) if is_verdict else None)
 
 
 def test_a_log_counts_for_the_source_that_it_is_of(copy: pathlib.Path) -> None:
