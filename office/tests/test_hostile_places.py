@@ -376,7 +376,7 @@ def test_no_role_reaches_a_place_that_is_not_its_own(world: World, role: str) ->
     browser = world.office.browser(f"odd-{role.lower()}", role)
     for method in ("GET", "POST"):
         for view, paths in addresses(world.office, ODD, method).items():
-            if view.startswith("signing.") or view in ("file", "icon") or (
+            if view.startswith(("signing.", "health.")) or view in ("file", "icon") or (
                     role == "reader" and (method == "GET" or view in OF_READER)):
                 continue
             for path in paths:
