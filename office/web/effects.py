@@ -32,7 +32,7 @@ def has_data(register: Register, command: Command) -> bool:
 def normal(command: Command) -> Command:
     """A command with each field that may be left out, and with sorted flags, as they are stored."""
     fields = rules.COMMANDS[command["cmd"]].values()
-    found: Command = {**{it.name: "" for it in fields if it.is_optional}, **command}
+    found: Command = {**{it.name: it.omitted for it in fields if it.is_optional}, **command}
     if isinstance(found.get("flags"), list):
         found["flags"] = sorted(set(found["flags"]))
     return found
