@@ -34,7 +34,7 @@ Printed = list[list[str]]
 # the rows of a query of a register
 Query = Callable[..., Printed]
 SEEDS = 40
-SINGLE = {"amend", "child", "find", "lots", "moved", "round-report"}
+SINGLE = {"amend", "child", "find", "lots", "moved", "round-report", "subject"}
 
 
 def rows_of(ran: Ran) -> Printed:
