@@ -75,7 +75,7 @@ LIMITS = (
     ("adm_commands/Offered.is_after_reminder", "… nat_le (reminded + <notice.least>) day"),
 )
 # where the constants are that these definitions name
-CONSTANTS = ("adm_types/Numbers", "adm_types/Limits", "adm_csv/Rows")
+CONSTANTS = ("adm_types/Numbers", "adm_types/Limits", "adm_csv/Rows", "adm_http/Heads")
 # where the lists of fields are
 FIELDS = ("adm_wire/Commands", "adm_wire/Forms", "adm_fields/Lists")
 # what a field is where it is omitted, as a command has it: by its kind, and by its definition

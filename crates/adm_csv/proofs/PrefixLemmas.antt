@@ -12,7 +12,7 @@ use Rattle.adm_types.specs.declared.rows.Row.{Row as ImportRow}
 use Rattle.adm_csv.specs.declared.fault.Fault.TheVariants.{Header, Memory}
 use Rattle.adm_csv.specs.declared.fault.RowFault.{RowFault}
 use Rattle.adm_csv.specs.Kinds.{Text}
-use Rattle.adm_csv.specs.Rows.{Record, ReadsRows, IsReached, records_of, rows_in, rows_from, import_row_at, at_row, is_header}
+use Rattle.adm_csv.specs.Rows.{Record, ReadsRows, IsReached, most_rows, records_of, rows_in, rows_from, import_row_at, at_row, is_header}
 use Rattle.adm_csv.specs.Reading.{◌>>=◌}
 use Rattle.adm_csv.specs.Remaining.{records_remaining}
 use Rattle.adm_csv.specs.Ended.{IsEnoughOf, RunsOutAt, ended_by, ended_from, ended_in, enough}
@@ -58,23 +58,23 @@ take_same (suc n) s text rest ended =
     ∙ ap (λ rs. first.0.0 ∷ rs) (take_same n first.0.1 first.0.2 rest first.3)
     ∙ sym (ap (take (suc n)) (left_more s text first.0 first.1))
 
-row_enough : (width k : ℕ) (r : Record) (xs ys : List Record) (t : Bool) → nat_lt 2000 k ≡ t → (k ≤ 2000 → rows_from width (k + 1) xs ≡ rows_from width (k + 1) ys)
+row_enough : (width k : ℕ) (r : Record) (xs ys : List Record) (t : Bool) → nat_lt most_rows k ≡ t → (k ≤ most_rows → rows_from width (k + 1) xs ≡ rows_from width (k + 1) ys)
     → rows_from width k (r ∷ xs) ≡ rows_from width k (r ∷ ys)
 row_enough width k r xs ys true is more = rw is refl
 row_enough width k r xs ys false is more =
-    let low : k ≤ 2000 = grind (arith, nat_tests) in
+    let low : k ≤ most_rows = grind (arith, nat_tests) in
     ap (λ o. at_row k (import_row_at width k r) >>= λ x. o >>= λ xs. Ok (x ∷ xs)) (more low)
 
 -- the rows depend on so many records alone
-rows_enough : (width m k : ℕ) (rs : List Record) → 2001 ≤ k + m → rows_from width k (take (suc m) rs) ≡ rows_from width k rs
+rows_enough : (width m k : ℕ) (rs : List Record) → most_rows + 1 ≤ k + m → rows_from width k (take (suc m) rs) ≡ rows_from width k rs
 rows_enough width m k [] long = refl
-rows_enough width zero k (r ∷ rs) long = row_enough width k r [] rs (nat_lt 2000 k) refl (λ low. absurd (omega (arith, long, low)))
-rows_enough width (suc m) k (r ∷ rs) long = row_enough width k r (take (suc m) rs) rs (nat_lt 2000 k) refl (λ low. rows_enough width m (k + 1) rs (omega (arith, long)))
+rows_enough width zero k (r ∷ rs) long = row_enough width k r [] rs (nat_lt most_rows k) refl (λ low. absurd (omega (arith, long, low)))
+rows_enough width (suc m) k (r ∷ rs) long = row_enough width k r (take (suc m) rs) rs (nat_lt most_rows k) refl (λ low. rows_enough width m (k + 1) rs (omega (arith, long)))
 
 records_enough : (all : List Record) → rows_in (take enough all) ≡ rows_in all
 unfolding rows_in
 records_enough [] = refl
-records_enough (h ∷ rs) = ap (λ o. cond (is_header h) o (Err (record { row = 0; fault = Header }))) (rows_enough (length h) 2000 1 rs (omega arith))
+records_enough (h ∷ rs) = ap (λ o. cond (is_header h) o (Err (record { row = 0; fault = Header }))) (rows_enough (length h) most_rows 1 rs (omega arith))
 
 strip_longer : (text rest : Text) → 3 ≤ length text → strip_bom (text ++ rest) ≡ strip_bom text ++ rest
 unfolding strip_bom

@@ -9,7 +9,7 @@ use Rattle.adm_csv.specs.declared.scan.ScanState.{ScanState}
 use Rattle.adm_csv.specs.declared.scan.ScanState.TheVariants as at
 use Rattle.adm_csv.specs.declared.scan.Scan.{Scan}
 use Rattle.adm_csv.specs.Kinds.{Text}
-use Rattle.adm_csv.specs.Rows.{IsReached, records_of}
+use Rattle.adm_csv.specs.Rows.{IsReached, most_rows, records_of}
 
 -- one for a byte that ends a record
 abbrev pub ended_by : State → ℕ → ℕ
@@ -26,7 +26,7 @@ ended_in text = ended_from st.StartRecord (strip_bom text)
 
 -- so many records are enough to know the rows: the header, and one row too many
 abbrev pub enough : ℕ
-enough = 2002
+enough = most_rows + 2
 
 -- the bytes with which a file begins: all of them, or enough
 abbrev pub IsEnoughOf : Text → Text → Type 0

@@ -24,7 +24,7 @@ pub enum Fault {
     /// A field is no UTF-8 text, neither `yes` nor `no`, or no list of codes.
     #[error("BadText")]
     BadText = 5,
-    /// It is the row after the 2,000th.
+    /// It is one row too many.
     #[error("TooManyRows")]
     TooManyRows = 6,
     /// The reader failed.

@@ -4,13 +4,14 @@ ghost use Rattle.std.specs.Io.KnownBytes.{Consumes};
 ghost use Rattle.adm_csv.specs.Ended.{IsEnoughOf, ReadsNeeded, StopsAfter, StopsWithin};
 ghost use Rattle.adm_csv.specs.Rows.{is_read_fault};
 
+use crate::rows::MOST_ROWS;
 use crate::scan::Scan;
 use crate::{Fault, RowFault};
 use adm_wire::Input;
 use std::alloc::Global;
 
 /// With so many records the answer is known: the header, and one row too many.
-const ENOUGH: u64 = 2_002;
+const ENOUGH: u64 = MOST_ROWS + 2;
 
 /// All bytes that the reader gives, or enough of them.
 pub(crate) fn read_text<R: Input>(alloc: Global, reader: &mut R) -> Result<Vec<u8>, RowFault>

@@ -15,7 +15,7 @@ use csv::{ByteRecord, ByteRecordsIntoIter, ReaderBuilder};
 use std::alloc::Global;
 
 /// How many rows a file has at the most.
-const MOST_ROWS: u64 = 2_000;
+pub(crate) const MOST_ROWS: u64 = 2_000;
 
 /// The records of a file, of any number of fields.
 fn source<'a>(alloc: Global, text: &'a [u8]) -> ByteRecordsIntoIter<&'a [u8]>
@@ -119,8 +119,8 @@ fn rows_of(alloc: Global, text: &[u8]) -> Result<Vec<Row>, RowFault>
 /// number of records that had ended. Where Memory comes after the bytes were read, the records
 /// before its row have no error.
 ///
-/// It reads in pieces of up to 4,096 bytes, to the end or to the piece in which the 2,002nd record
-/// ends, since the file is known to have too many rows then; the rest is neither read nor kept. Memory
+/// It reads in pieces of up to 4,096 bytes, to the end or to the piece in which the record ends
+/// that is one row too many, since the answer is known then; the rest is neither read nor kept. Memory
 /// grows with what is read (a single record may be as long as the file), and time with its bytes.
 pub fn read_rows<R: Input>(alloc: Global, reader: &mut R) -> Result<Vec<Row>, RowFault>
     // The rows, or the first error, are those of the file.

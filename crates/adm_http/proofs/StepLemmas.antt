@@ -5,7 +5,7 @@ use Rattle.std.specs.Io.KnownBytes.{Consumes, Keeps}
 use Rattle.std.proofs.KnownBytes.{Consumes-trans, Consumes-kept}
 use Rattle.std.proofs.lemmas.List.{length-drop, length-append}
 use Rattle.httparse.specs.Grammar.{RequestHead, print_request}
-use Rattle.adm_http.specs.Heads.{window, HeadDecides, IsJudgement, IsInside}
+use Rattle.adm_http.specs.Heads.{most_body, window, HeadDecides, IsJudgement, IsInside}
 use Rattle.adm_http.specs.Reading.{MayNeedMore, MayNeedMoreUpTo, IsNotFarPast}
 use Rattle.adm_http.specs.declared.heads.Verdict.{Verdict}
 use Rattle.adm_http.specs.declared.heads.Verdict.TheVariants.{Run}
@@ -69,7 +69,7 @@ judged_same input more new len v judged inside is =
     (subst (λ b. IsJudgement b (Whole len v)) (sym is) (whole_stays input more len v judged), (omega (arith, longer, inside.0), inside.1, inside.2))
 
 -- a whole head whose body is not all there, and the number of bytes that end it
-pub body_goes_on : (input : List ℕ) (purpose : Purpose) (len n total : ℕ) → IsJudgement input (Whole len (Run purpose n)) → len ≤ length input → len ≤ 8192 → n ≤ 1048576
+pub body_goes_on : (input : List ℕ) (purpose : Purpose) (len n total : ℕ) → IsJudgement input (Whole len (Run purpose n)) → len ≤ length input → len ≤ 8192 → n ≤ most_body
     → total ≡ len + n → length input < total → MayNeedMoreUpTo total input
 body_goes_on input purpose len n total judged inside low small total_is fewer = record {
   fewer = fewer;

@@ -42,10 +42,14 @@ abbrev pub verb_of : List ℕ → Option Verb
 verb_of method =
     if bytes_eq method (codes "GET") then Some Get else (if bytes_eq method (codes "POST") then Some Post else None)
 
--- a body of this length: more than a mebibyte is refused
+-- how many bytes a body has at the most: a mebibyte
+abbrev pub most_body : ℕ
+most_body = 1048576
+
+-- a body of this length: a longer one is refused
 abbrev pub by_length : Purpose → Option ℕ → Verdict
 by_length purpose None = Reject 400
-by_length purpose (Some n) = if nat_lt 1048576 n then Reject 413 else Run purpose n
+by_length purpose (Some n) = if nat_lt most_body n then Reject 413 else Run purpose n
 
 -- by the values of Content-Length, of which there must be one
 abbrev pub by_lengths : Purpose → List (List ℕ) → Verdict
@@ -102,12 +106,12 @@ IsJudgement bytes (Whole len verdict) = HeadDecides bytes len verdict
 IsJudgement bytes Malformed = RequestOverflows 64 (window bytes)
 IsJudgement bytes Unfinished = HasNoRequest (window bytes) × MayBecomeRequest (window bytes)
 
--- a body is no longer than a mebibyte
+-- a body is no longer than it may be
 abbrev pub IsSmall : Verdict → Type 0
 IsSmall (Reject status) = ⊤
 IsSmall (NotAllowed verb) = ⊤
 IsSmall (Show resource) = ⊤
-IsSmall (Run purpose n) = n ≤ 1048576
+IsSmall (Run purpose n) = n ≤ most_body
 
 -- a whole head lies in the bytes and in the limits
 abbrev pub IsInside : List ℕ → Judgement → Type 0

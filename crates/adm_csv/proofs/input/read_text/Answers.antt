@@ -1,6 +1,7 @@
 use Rattle.std.proofs.Common.{◌≡◌, ◌∙◌, ◌<◌, ◌≤◌, ◌++◌, ℕ, true, List, length, take, Result, Ok, Err, MatchResult, sym, subst, arith, length-take, true≢false}
 use Rattle.std.specs.Result.{is_err}
 use Rattle.std.proofs.KnownBytes.{Consumes-trans}
+use Rattle.adm_csv.specs.Ended.{enough}
 use Rattle.adm_csv.proofs.ScanLemmas.{needed_more, taken_within, taken_whole}
 use Rattle.adm_csv.proofs.input.read_text.Goals as goal
 use Rattle.adm_csv.proofs.input.read_text.Goals.{else-loop-turn-test, then-loop-turn-test+else-scan-ge-ENOUGH+in-Ok+else-count-eq0+then-is_err}
@@ -22,7 +23,7 @@ returns-clause-needed g c =
           rw w.reader-is (
             c.loop-turn.scan.text.items ++ piece,
             Consumes-trans _ _ _ c.loop-turn.scan.text.items piece c.loop-turn.invariant.0 w.in-Ok.ensures.bytes.0,
-            needed_more c.loop-turn.scan.text.items piece (subst (λ n. n < 2002) c.loop-turn.invariant.1.2 w.if-scan-ge-ENOUGH.false)
+            needed_more c.loop-turn.scan.text.items piece (subst (λ n. n < enough) c.loop-turn.invariant.1.2 w.if-scan-ge-ENOUGH.false)
                 (short w.in-Ok.count w.read_some.new.buffer w.in-Ok.ensures.bound room),
           )
     ]
