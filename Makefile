@@ -101,6 +101,7 @@ bench-more: build
 	bench/http/run bin/admissions
 	bench/season/run bin/admissions
 	bench/views/run bin/admissions
+	bench/larger/run bin/admissions
 	bench/match/run.sh
 
 # With bin/admissions as it is there, or another: make deploy-check PROGRAM=.. Or with the files of the package that is installed: make deploy-check INSTALLED=yes
