@@ -5,6 +5,7 @@ import pathlib
 import sqlite3
 import threading
 import time
+import urllib.parse
 from collections.abc import Callable, Iterator
 from typing import Any
 
@@ -32,7 +33,10 @@ def test_nobody_reads_without_a_sign_in(office: Site) -> None:
     """A browser is led to the form, and comes back to where it was going."""
     stranger = Browser(office.app)
     found = stranger.get("/activity/?who=jane")
-    assert (found.status_code, found.location) == (302, "/sign-in?to=%2Factivity%2F%3Fwho%3Djane")
+    # (flask of Debian 12 quotes more characters of a query than that of Debian 13)
+    there = urllib.parse.urlsplit(found.location)
+    assert (found.status_code, there.path) == (302, "/sign-in")
+    assert urllib.parse.parse_qs(there.query) == {"to": ["/activity/?who=jane"]}
     for path in ("/register", "/child/1", "/pairs", "/school/A/waiting", "/who", "/draw/1"):
         asked = stranger.client.get(path, base_url=ORIGIN)
         assert (asked.status_code, asked.json) == (
