@@ -49,7 +49,8 @@ SOME = "Some"
 MEANING = (f"Where this says '{SOME.lower()}', the number is withheld, because it is from 1 to"
            f" {withheld.LEAST - 1}, or because such a number could be worked out from it.")
 DECIDED: dict[str | None, str] = {
-    CLASS: "The criterion decided: the last child admitted is in a class that ranks first.",
+    CLASS: "The criterion decided: the last child admitted met one that comes before any that this"
+    " child meets.",
     DISTANCE: "Both are in the same class, and the distance decided: the other child lives nearer"
     " to the school.",
     LOT: "Both are in the same class and live at the same distance, and the lot decided: the"
@@ -258,8 +259,10 @@ def those_before(found: School, view: View) -> Iterator[str]:
         text = view.count(("class", number), count, words, words)
         yield f"- {text[:1].lower()}{text[1:]}{how}"
     if found.elsewhere:
-        has = view.count("elsewhere", found.elsewhere, "of them has", "of them have")
-        yield f"{has} a school that the family prefers, and took no place here."
+        got = view.count("elsewhere", found.elsewhere,
+                         "of them got a school that its own family prefers",
+                         "of them got a school that their own families prefer")
+        yield f"{got}, and took no place here."
     if found.refused:
         was = view.count("refused", found.refused, "of them was", "of them were")
         yield f"{was} refused a place here too."

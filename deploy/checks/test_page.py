@@ -381,8 +381,8 @@ def test_what_is_done_between_the_last_look_and_a_command_is_refused_with_a_text
     press(page, "#decline")
     assert confirm(page) == (
         "Refused, and nothing has changed. Child 4 has no open offer at C: the offer is of another"
-        " school, was answered or has lapsed, or a later round has moved the child."
-        " Look at its letter.")
+        " school, was answered or has lapsed, or a later round or fill has moved the child."
+        " Look at the child's place.")
     assert [json.loads(body)["cmd"] for body in page.posted] == ["decline"]
 
 

@@ -364,7 +364,7 @@ def test_a_file_is_shown_sent_in_part_goes_on_and_leaves_what_was_not_done(
     assert children_of(page.posted) == [14, 9, 9, 10, 15, 1]
     assert [row.split("|")[0:1] + row.split("|")[7:] for row in rows(page)[1:]] == [
         ["5", "Child 15 has no open offer at A: the offer is of another school, was answered or has"
-         " lapsed, or a later round has moved the child. Look at its letter."],
+         " lapsed, or a later round or fill has moved the child. Look at the child's place."],
         ["6", by_terminal], ["7", "the command is unknown"], ["8", "it is no JSON"]]
     click(page, "not-done")
     assert downloaded(world, "not-done-morning.jsonl") == "".join(

@@ -203,11 +203,11 @@ export const words = {
   },
   "SchoolKnown": {
    "means": "{school} is in the register already",
-   "do": "if the line was sent before, nothing is to be done; else use another code"
+   "do": "if it was sent before, nothing is to be done; else use another code"
   },
   "ChildKnown": {
    "means": "{child} is in the register already",
-   "do": "if the line was sent before, nothing is to be done; else use another number, or amend"
+   "do": "if it was sent before, nothing is to be done; else use another number, or correct its data (amend)"
   },
   "BadText": {
    "means": "the name is empty, or has over {name.most} bytes (a letter with an accent counts twice) or a control character",
@@ -227,11 +227,11 @@ export const words = {
   },
   "HasPlan": {
    "means": "{child} has its place by a plan",
-   "do": "nothing can be done: a plan cannot be changed"
+   "do": "a plan cannot be changed: only a restore of a copy from before it takes it back"
   },
   "AlreadyApplied": {
    "means": "{child} has an application already",
-   "do": "nothing can be done: an application cannot be changed"
+   "do": "an application cannot be changed: only a restore of a copy from before it takes it back"
   },
   "TooSoon": {
    "means": "{day} is too early: it is before the offer day or the last round or fill, or less than {notice.least} days after the offer or the reminder",
@@ -239,7 +239,7 @@ export const words = {
   },
   "WrongDraw": {
    "means": "{draw} is not the next one: the number is that of the last round or fill plus one",
-   "do": "if the line was sent before, it is done: look at the report; else correct the number"
+   "do": "if it was sent before, it is done: look at the report; else correct the number"
   },
   "LotCount": {
    "means": "there is not one lot for each pair",
@@ -250,8 +250,8 @@ export const words = {
    "do": "correct the lots if they were mistyped; else they must be drawn again"
   },
   "NotOffered": {
-   "means": "{child} has no open offer at {school}: the offer is of another school, was answered or has lapsed, or a later round has moved the child",
-   "do": "look at its letter"
+   "means": "{child} has no open offer at {school}: the offer is of another school, was answered or has lapsed, or a later round or fill has moved the child",
+   "do": "look at the child's place"
   },
   "NotWaiting": {
    "means": "{child} does not wait at {school}; before the first round nobody waits",
@@ -271,15 +271,15 @@ export const words = {
   },
   "RowDiffers": {
    "means": "the register has the child of the row with other data: the file was changed, a number is used twice, or the child was added by a command",
-   "do": "correct the row; to change a child, amend it, and keep its row as it was imported"
+   "do": "correct the row; to change a child, correct its data (amend), and keep its row as it was imported"
   },
   "AlreadyReminded": {
    "means": "the offer of {school} to {child} has a reminder already",
-   "do": "look at its letter"
+   "do": "look at the child's place"
   },
   "NotReminded": {
    "means": "the offer of {school} to {child} has no reminder yet",
-   "do": "look at its letter"
+   "do": "look at the child's place"
   },
   "NotItsSchools": {
    "means": "{child} does not want one of the schools, or one is repeated",

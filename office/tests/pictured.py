@@ -3,9 +3,10 @@ its first round, on one day. `deploy/pictures` takes them; test_pictures compare
 with what the application shows now.
 
 The town is that of deploy/checks/season: sixty children, of whom some have brothers and sisters at
-a school, two are or were looked after, and some have a flag or a feeder school. Three more have
-applied too late for the round, and wait. Run as a program it prints the words of each picture as
-JSON.
+a school, two are or were looked after, and some have a flag or a feeder school. Each of the two
+schools that favour children of staff has a flag of its own for them, as the handbook asks. Three
+more have applied too late for the round, and wait. The letters of the round were sent on its day.
+Run as a program it prints the words of each picture as JSON.
 """
 import contextlib
 import dataclasses
@@ -18,7 +19,7 @@ import re
 import subprocess
 import sys
 import tempfile
-from collections.abc import Iterator
+from collections.abc import Iterator, Sequence
 from typing import Any
 
 DAY = "2025-03-17"
@@ -38,16 +39,22 @@ setattr(datetime, "date", Day)
 from applications import Browser, Site  # noqa: E402
 from conftest import PROGRAM, ROOT, apply, child, do, make  # noqa: E402
 from explained import after_round  # noqa: E402
-from letter_site import asked, made, typed  # noqa: E402
+from letter_site import asked, hidden, made, typed  # noqa: E402
 
 from office import days  # noqa: E402
 from office.model import OFFERED, WAITS  # noqa: E402
-from office.web import letters_audits  # noqa: E402
+from office.web import letters_audits, letters_sets, letters_whom  # noqa: E402
 
 sys.path.append(str(ROOT / "deploy"))
 from checks.season import town  # noqa: E402
 
 CLOSING, OFFER_DAY = datetime.date(2024, 10, 31), "2025-03-03"
+# the flag of the town for children of staff, and what it is at another school than the first
+STAFF, STAFF_OF = 2, {"FERN": 3}
+FLAG_WORDS = {
+    1: town.FLAG_WORDS[1], STAFF: f"{town.FLAG_WORDS[STAFF]} of Abbey School",
+    3: f"{town.FLAG_WORDS[STAFF]} of Ysgol y Rhedyn",
+}
 START = "start"
 # the foot of each page of a letter
 FOOT = re.compile(r"Child [0-9]+ · page [0-9]+ of [0-9]+")
@@ -65,16 +72,29 @@ LATE: tuple[tuple[int, str, dict[str, Any]], ...] = (
 )
 
 
+def criteria_of(code: str, criteria: Sequence[str]) -> list[str]:
+    """The criteria of a school of the town, with its own flag for children of its staff."""
+    own = f"flag:{STAFF_OF.get(code, STAFF)}"
+    return [own if it == f"flag:{STAFF}" else it for it in criteria]
+
+
+def flags_of(flags: Sequence[int], listed: Sequence[str]) -> list[int]:
+    """The flags of a child of the town: its parent works at one school, which it lists."""
+    of_staff = next((flag for code, flag in STAFF_OF.items() if code in listed), STAFF)
+    return [of_staff if it == STAFF else it for it in flags]
+
+
 def applied() -> Commands:
     """The schools, the children and their applications, and a plan."""
     found: Commands = [
         {"cmd": "add_school", "school": it.code, "name": it.name, "pan": it.pan, "east": it.east,
-         "north": it.north, "criteria": list(it.criteria)} for it in town.SCHOOLS]
+         "north": it.north, "criteria": criteria_of(it.code, it.criteria)} for it in town.SCHOOLS]
     children = town.children(CLOSING)
     for it in children:
         found.append({
             "cmd": "add_child", "child": it.number, "name": it.name, "east": it.east,
-            "north": it.north, "looked_after": it.looked_after, "flags": list(it.flags),
+            "north": it.north, "looked_after": it.looked_after,
+            "flags": flags_of(it.flags, it.preferences),
             "siblings": list(it.siblings), "present": it.present})
         found.append(apply(it.number, list(it.preferences), it.day.isoformat()))
     for number, name, more in LATE:
@@ -118,8 +138,18 @@ def office_of(folder: pathlib.Path) -> Iterator[Site]:
             db.execute("INSERT INTO letter_audit VALUES (1, ?, 1, '', '', '')", (outcome,))
         typed(office.browser("jane", "head"), **OFFICE)
         office.browser("jane", "head").post(
-            "/flags/", {**{f"flag-{at}": it for at, it in town.FLAG_WORDS.items()}, "seen": "{}"})
+            "/flags/", {**{f"flag-{at}": it for at, it in FLAG_WORDS.items()}, "seen": "{}"})
+        letters_sent(office.browser("jane", "head"))
         yield office
+
+
+def letters_sent(browser: Browser) -> None:
+    """The letters of the round to all who took part: made, taken, and recorded as sent."""
+    path = made(browser, asked(browser, letters_whom.PART, "1", kind=letters_sets.MERGE))
+    assert browser.get(f"{path}/file").status_code == 200
+    found = browser.post(f"{path}/record", {
+        "count": hidden(browser.get(path), "count"), "day": OFFER_DAY})
+    assert found.status_code == 303, found.text
 
 
 def waits(office: Site) -> int:

@@ -71,7 +71,7 @@ def test_a_killed_application_goes_on_with_its_letters(
             assert "not recorded as sent" in page and "12 letters" in page, page
             found = pages(jane.get("/letters/sets/1/file").data)
             assert [f"Child {at} " in page for at, page in enumerate(found, 1)] == [True] * MANY
-            assert "Please write to us by 17 March 2025 whether you accept" in found[0]
+            assert "Please tell us by 17 March 2025 whether you accept" in found[0]
             assert "A place at Alpha is offered to Child 2." in found[1]
             assert "There is at present no place for Child 12" in found[11]
             rows = office.parts.store.rows("SELECT child FROM letter ORDER BY place")

@@ -53,7 +53,7 @@ def test_letters_are_printed_in_the_order_chosen_each_on_its_own_page(office: Si
     assert [next(n for n, name in NAMES.items() if name in page) for page in found] == [2, 1, 5]
     for number, page in zip((2, 1, 5), found):
         assert f"A place at {HAS[number]} is offered to {NAMES[number]}." in page
-        assert "write to us by 17 March 2025 whether you accept" in page
+        assert "tell us by 17 March 2025 whether you accept" in page
         assert f"Child {number} · page 1 of 1" in page and "DRAFT" not in page
     assert "position 1 of 4" in found[0] and "position 4 of 4" in found[2]
     page = jane.get(path).text

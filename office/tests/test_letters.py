@@ -964,7 +964,7 @@ Secondary school place for September 2025
 Dear parent or carer,
 A place at Elm School is offered to Ann Abel. It is the second preference of your application.
 What you need to do
-Please write to us by 17 March 2025 whether you accept or decline this place. If you accept it you
+Please tell us by 17 March 2025 whether you accept or decline this place. If you accept it you
 remain on the waiting list named below. If you decline it, it cannot be offered to you again.
 How places were allotted
 A school with more applications than places ranks children by its published criteria, then by the
@@ -974,7 +974,7 @@ preferences at which it ranks high enough.
 The order at Elm School is:
 children looked after, or previously looked after
 children ranked by distance alone
-Your child ranked as a child ranked by distance alone, with a distance of 850 metres.
+Your child ranked among the children ranked by distance alone, at 850 metres from the school.
 Schools that you prefer to this one
 School Preference Your child there Distance Waiting list
 Oak School first meeting no criterion of the school 150 m position 1 of 1

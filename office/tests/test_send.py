@@ -162,7 +162,7 @@ def test_sent_twice(office: Office, reg: Path, tmp_path: Path) -> None:
     assert sorted(os.listdir(tmp_path)) == ["a.answers", "a.jsonl", "reg.db", "reg.db-wal"]
     ran = office("send", "a.jsonl", "--again")
     assert ran.returncode == 1 and count(reg) == 4
-    assert "if the line was sent before, nothing is to be done" in ran.stdout
+    assert "if it was sent before, nothing is to be done" in ran.stdout
     assert (tmp_path / "a.answers").read_bytes() == first
     assert len((tmp_path / "a.2.answers").read_text().splitlines()) == 2
 
@@ -986,7 +986,8 @@ def test_a_place_by_a_plan_is_named_as_such(office: Office, reg: Path, tmp_path:
         "line 2: child 2 has its place at OAK by a plan, which no command ends (NotOffered)",
         "line 3: child 3 has its place at ELM by a plan, which no command ends (NotOffered)",
         "line 4: child 1 has no open offer at OAK: the offer is of another school, was answered or"
-        " has lapsed, or a later round has moved the child; look at its letter (NotOffered)",
+        " has lapsed, or a later round or fill has moved the child; look at the child's place"
+        " (NotOffered)",
     ], ran
 
 

@@ -84,7 +84,7 @@ def to_offered(office: Office, draw: int) -> None:
     hal.tab_to("Day, where one is named")
     hal.enter()
     wanted = {it: [f"A place at {NAMES[code]} is offered to {season.children[it].name}.",
-                   f"Please write to us by {in_words(season.offers[it] + NOTICE)} whether you"]
+                   f"Please tell us by {in_words(season.offers[it] + NOTICE)} whether you"]
               for it, code in offered.items()}
     about = "result of round"
     listed = {int(row[1]): (row[2], about in row[3]) for row in hal.captioned("")
