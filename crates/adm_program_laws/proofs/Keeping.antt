@@ -53,6 +53,7 @@ use Rattle.adm_program.specs.Does.{Does, shown}
 use Rattle.adm_program.specs.Served.{AreUntaken, ServesAs, Visits}
 use Rattle.adm_program_laws.specs.Exchanges.{commands_of}
 use Rattle.adm_program_laws.specs.SuccessiveRuns.{AnswersInput, AnswersRows, AnswersConnections, AnswersNone, AnswersBy, AnswersFor, ProgramRun, TakesNone}
+use Rattle.adm_program_laws.proofs.AnsweredLemmas.{took}
 use Rattle.adm_program_laws.proofs.Remaining.{Leaves, not_opened, not_begun, desk_kept, not_created}
 use Rattle.adm_program_laws.proofs.ServingLemmas.{each_answered, each_turn}
 
@@ -199,7 +200,14 @@ module _ {D : Type 0} {g : disk.Ghosts D} where
         record {
           answered = commands_of so.served;
           run = so.run;
-          are = inr (record { served = so.served; few = so.few; exchanged = so.exchanged; each = each_answered file_state desk last so.served so.serves; commands = refl });
+          are = inr (record {
+            served = so.served;
+            few = so.few;
+            exchanged = so.exchanged;
+            each = each_answered file_state desk last so.served so.serves;
+            commands = refl;
+            effects = took file_state desk last so.served so.serves;
+          });
         }
     kept_served status port count visits last output (Err fault.Listen) it ends =
         record { answered = []; run = it.0; are = inl (record { ends = ends refl; none = refl; untaken = inl it.2 }) }

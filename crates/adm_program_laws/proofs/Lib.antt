@@ -5,3 +5,5 @@ pub mod RunLemmas
 pub mod Nothing
 pub mod BirthLemmas
 pub mod ServingLemmas
+pub mod AnsweredLemmas
+pub mod FoundLemmas

@@ -51,7 +51,8 @@ use Rattle.adm_host.specs.declared.ended.Remains.TheVariants.{Closed, Unopened}
 use Rattle.adm_host.specs.declared.exit.Exit.{Exit}
 use Rattle.adm_host.specs.declared.exit.Exit.TheVariants as exit
 use Rattle.adm_host.specs.declared.fault.Fault.{Fault}
-use Rattle.adm_program_laws.specs.SuccessiveRuns.{HavePagesOf, MayClose, MayStay, MayRemain, IsEffect}
+use Rattle.adm_program_laws.specs.Effects.{IsEffect}
+use Rattle.adm_program_laws.specs.SuccessiveRuns.{HavePagesOf, MayClose, MayStay, MayRemain}
 
 -- commands after commands
 pub reaches_more : (xs ys : List Command) (a b c : Register) → Reaches a xs b → Reaches b ys c → Reaches a (xs ++ ys) c
@@ -59,7 +60,7 @@ reaches_more [] ys a b c first more = subst (λ (r : Register). Reaches r ys c) 
 reaches_more (x ∷ xs) ys a b c first more = (first.0, first.1, reaches_more xs ys first.0 b c first.2 more)
 
 -- the register that is found is there by the commands that were acknowledged, and after them the one in flight or none
-effect : (old kept found : Register) (answered : List (Command × Answer)) → Reaches old (acknowledged answered) kept → FindsAgain kept (in_flight answered) found
+pub effect : (old kept found : Register) (answered : List (Command × Answer)) → Reaches old (acknowledged answered) kept → FindsAgain kept (in_flight answered) found
     → (done : List Command) × IsEffect answered done × Reaches old done found
 effect old kept found answered run finds = by_work (in_flight answered) refl finds
   where

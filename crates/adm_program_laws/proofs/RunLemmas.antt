@@ -17,7 +17,8 @@ use Rattle.adm_crashes.specs.Rounds.{RoundsAreRecorded}
 use Rattle.adm_rows.specs.Represents.{OneRegister, Represents}
 use Rattle.adm_desk.specs.Files.{IsFileOf}
 use Rattle.adm_desk.specs.declared.answer.Answer.{Answer}
-use Rattle.adm_program_laws.specs.SuccessiveRuns.{ProgramRun, AreAnswered, IsEffect, AreEffects, IsFoundAfterRuns, HoldsAfterRuns, RunInOrder, OneMoreRun, AllRuns, PlacesAfterRuns, OpensAfterRuns, NeverNoRegister}
+use Rattle.adm_program_laws.specs.Effects.{AreEffects, IsEffect}
+use Rattle.adm_program_laws.specs.SuccessiveRuns.{ProgramRun, AreAnswered, IsFoundAfterRuns, HoldsAfterRuns, RunInOrder, OneMoreRun, AllRuns, PlacesAfterRuns, OpensAfterRuns, NeverNoRegister}
 use Rattle.adm_program_laws.proofs.Keeping.{each_end}
 use Rattle.adm_program_laws.proofs.Remaining.{reaches_more, same_register, never_none}
 

@@ -11,11 +11,13 @@ use Rattle.adm_types.specs.declared.commands.Command.{Command}
 use Rattle.adm_types.specs.declared.commands.Command.TheVariants as command
 use Rattle.adm_wire.specs.declared.fault.WireFault.{WireFault}
 use Rattle.adm_wire.specs.declared.fault.WireFault.TheVariants as fault
+use Rattle.adm_desk.specs.Acknowledged.{KeepsAcknowledged, in_flight}
 use Rattle.adm_desk.specs.DeskState.{DeskState, Handles}
 use Rattle.adm_desk.specs.Lines.{AnswersLine}
 use Rattle.adm_desk.specs.declared.answer.Answer.{Answer}
 use Rattle.adm_desk.specs.declared.answer.LineAnswer.TheVariants.{Handled, Faulty, Queried}
 use Rattle.adm_desk.proofs.AcknowledgedLemmas.{RunsOver, keeps}
+use Rattle.adm_desk.proofs.CrashLemmas.{each_again}
 use Rattle.adm_http.specs.Connections.{Exchanges, Moment, ServesEach, Takes, Traffic}
 use Rattle.adm_http.specs.Heads.{IsJudgement}
 use Rattle.adm_http.specs.Purposes.{RunsBody}
@@ -33,7 +35,10 @@ use Rattle.adm_http.specs.declared.routes.Purpose.{Purpose}
 use Rattle.adm_http.specs.declared.routes.Purpose.TheVariants as purpose
 use Rattle.adm_http.specs.declared.serve.ServeFault.{ServeFault}
 use Rattle.adm_http.specs.declared.serve.ServeFault.TheVariants.{Read, Write, Memory}
-use Rattle.adm_program_laws.specs.Exchanges.{AnswersTo, AreExchanged, Exchange, HasNoCommand, IsAnswered, Moves, SentFirst, ServedIsKept, ServesExchange, ServesExchanges, commands_of, with_answered}
+use Rattle.adm_program_laws.specs.Exchanges.{AnswersTo, AreExchanged, Exchange, HasNoCommand, IsAnswered, LeavesServed, Moves, SentFirst, ServedIsKept, ServesExchange, ServesExchanges, TookEffect, commands_of, with_answered}
+use Rattle.adm_program_laws.specs.Effects.{IsEffect}
+use Rattle.adm_program_laws.proofs.AnsweredLemmas.{took}
+use Rattle.adm_program_laws.proofs.Remaining.{effect}
 
 -- ---- lists
 
@@ -55,6 +60,12 @@ runs_more : {S : Type 0} (step : S → Command → Answer → S → Type 0) (old
     → RunsOver step old answered mid → step mid c a new → RunsOver step old (answered ++ (c, a) ∷ []) new
 runs_more {S} step old mid new [] c a same by = (new, subst (λ (s : S). step s c a new) same by, refl)
 runs_more step old mid new ((first, b) ∷ answered) c a it by = (it.0, it.1, runs_more step it.0 mid new answered c a it.2 by)
+
+-- no connection was taken
+pub no_exchange : (a b : Option Traffic) → b ≡ a → AreExchanged a b []
+no_exchange None b is = tt
+no_exchange (Some t) None is = tt
+no_exchange (Some t) (Some u) is = subst (λ (w : Traffic). AreExchanged (Some t) (Some w) []) (sym (same_Some u t is)) ([], refl, sym (append-nil t.answered), tt)
 
 -- ---- one request
 
@@ -224,12 +235,7 @@ module _ {C : Type 0} (disk : C → Disk) where
   last_command old mid new served (Some (c, a)) run by = runs_more (Handles disk) old mid new (commands_of served) c a run by
 
   pub each_turn : (count : ℕ) (old new : Moment (DeskState C)) → ServesEach (RunsBody disk) Shows count old new → ServedSo count old new
-  each_turn zero old new same = record { served = []; few = omega arith; exchanged = none old.traffic new.traffic (ap (λ (m : Moment (DeskState C)). m.traffic) same); serves = ap (λ (m : Moment (DeskState C)). m.desk) same; run = ap (λ (m : Moment (DeskState C)). m.desk) same }
-    where
-      none : (a b : Option Traffic) → b ≡ a → AreExchanged a b []
-      none None b is = tt
-      none (Some t) None is = tt
-      none (Some t) (Some u) is = subst (λ (w : Traffic). AreExchanged (Some t) (Some w) []) (sym (same_Some u t is)) ([], refl, sym (append-nil t.answered), tt)
+  each_turn zero old new same = record { served = []; few = omega arith; exchanged = no_exchange old.traffic new.traffic (ap (λ (m : Moment (DeskState C)). m.traffic) same); serves = ap (λ (m : Moment (DeskState C)). m.desk) same; run = ap (λ (m : Moment (DeskState C)). m.desk) same }
   each_turn (suc n) old new (mid, before, now) =
       let so = each_turn n old mid before in
       elim now [
@@ -258,7 +264,25 @@ module _ {C : Type 0} (disk : C → Disk) where
   each_answered old new [] it = tt
   each_answered old new (e ∷ served) it = (it.1.is, each_answered it.0 new served it.2)
 
+  -- a register that a crash leaves has the effect of these commands
+  leaves_served : (old new : DeskState C) (served : List Exchange) → KeepsAcknowledged disk old new (commands_of served)
+      → ((done : List Command) → IsEffect (commands_of served) done → TookEffect served done) → LeavesServed old.register served (disk new.conn)
+  leaves_served old new served kept effects clean db may =
+      let again = each_again new.register (in_flight (commands_of served)) (disk new.conn) kept.leaves clean db may in
+      let did = effect old.register new.register again.0 (commands_of served) kept.run again.1 in
+      (again.0, record { done = did.0; took = effects did.0 did.1; reached = did.2 }, again.2)
+
   pub served_is_kept_lem : ServedIsKept disk
   served_is_kept_lem count old new it alive leaves =
       let so = each_turn count old new it in
-      record { served = so.served; few = so.few; exchanged = so.exchanged; serves = so.serves; kept = keeps disk old.desk new.desk (commands_of so.served) alive leaves so.run }
+      let kept = keeps disk old.desk new.desk (commands_of so.served) alive leaves so.run in
+      let effects = took disk old.desk new.desk so.served so.serves in
+      record {
+        served = so.served;
+        few = so.few;
+        exchanged = so.exchanged;
+        serves = so.serves;
+        kept = kept;
+        effects = effects;
+        leaves = leaves_served old.desk new.desk so.served kept effects;
+      }

@@ -1,12 +1,15 @@
 -- What `serve` keeps: the commands in the requests of connections, and the responses to them.
-use Rattle.std.specs.Prelude.{◌≡◌, ◌≤◌, ◌⊎◌, ⊤, ℕ, false, List, [], ◌∷◌, ◌++◌, length, map, take, drop, Option, Some, None, Ok}
-use Rattle.std.specs.List.{AllZip}
-use Rattle.sqlite.specs.State.{State as Disk}
+use Rattle.std.specs.Prelude.{◌≡◌, ◌≤◌, ◌⊎◌, ⊤, ℕ, false, List, [], ◌∷◌, ◌++◌, codes, length, map, take, drop, Option, Some, None, Ok}
+use Rattle.std.specs.List.{AllByRecursion, AllZip}
+use Rattle.sqlite.specs.State.{HasCleanDisk, State as Disk}
+use Rattle.sqlite.specs.Tree.{Trees}
 use Rattle.adm_csv.specs.declared.fault.RowFault.{RowFault}
 use Rattle.adm_types.specs.declared.commands.Command.{Command}
 use Rattle.adm_types.specs.declared.commands.Command.TheVariants as command
 use Rattle.adm_types.specs.declared.rows.Row.{Row as ImportRow}
-use Rattle.adm_rows.specs.Represents.{LeavesOnly}
+use Rattle.adm_register.specs.State.{State as Register}
+use Rattle.adm_commands.specs.Imports.{Reaches}
+use Rattle.adm_rows.specs.Represents.{LeavesOnly, RepresentsNow}
 use Rattle.adm_desk.specs.Acknowledged.{KeepsAcknowledged}
 use Rattle.adm_desk.specs.DeskState.{DeskState, Handles}
 use Rattle.adm_desk.specs.Lines.{answer_text}
@@ -27,6 +30,7 @@ use Rattle.adm_http.specs.declared.routes.Purpose.{Purpose}
 use Rattle.adm_http.specs.declared.routes.Purpose.TheVariants as purpose
 use Rattle.adm_wire.specs.Commands.{command_of}
 use Rattle.adm_wire.specs.declared.fault.WireFault.{WireFault}
+use Rattle.adm_program_laws.specs.Effects.{IsEffect}
 
 -- what was read of a connection as its request, and what was written to it; with the command that the request was and its answer, or none
 pub record Exchange : Type 0 where
@@ -108,14 +112,61 @@ AreExchanged (Some old) None served = ⊤
 AreExchanged (Some old) (Some new) served =
     (sent : List (List ℕ)) × (old.coming ≡ sent ++ new.coming) × (new.answered ≡ old.answered ++ map (λ e. e.written) served) × AllZip SentFirst served sent
 
+-- ---- what was answered with the status 200
+
+-- What was written has the status 200: it begins so, whatever part of the response follows.
+abbrev pub HasStatus200 : List ℕ → Type 0
+HasStatus200 written = (rest : List ℕ) × (written ≡ codes "HTTP/1.1 200" ++ rest)
+
+-- what was written is a response of the status 200, or a beginning of one
+abbrev pub BeginsStatus200 : List ℕ → Type 0
+BeginsStatus200 written = (body : List ℕ) × (size : ℕ) × (written ≡ take size (response_bytes (json 200 body)))
+
+-- the request was no command, or the status 200 was not written to it
+abbrev pub LacksStatus200 : Exchange → Type 0
+LacksStatus200 e = (command : Command) → SendsCommand e.request command → ¬ HasStatus200 e.written
+
+-- the command of the request took effect, and what was written is a response of the status 200, or a beginning of one
+pub record HasEffect (e : Exchange) (command : Command) : Type 0 where
+  pub sent : SendsCommand e.request command
+  pub begins : BeginsStatus200 e.written
+
+-- the command of the request took effect, though it was in flight: the status 200 was written neither to it nor to a command after it
+pub record HasLastEffect (e : Exchange) (later : List Exchange) (command : Command) : Type 0 where
+  pub sent : SendsCommand e.request command
+  pub lacks : LacksStatus200 e
+  pub none_later : AllByRecursion LacksStatus200 later
+
+-- These commands of exchanges took effect, in the order of the exchanges. Each command to which the status 200 was written is among them. Any other is one to which a
+-- beginning of such a response was written, or the last one, which was in flight.
+abbrev pub TookEffect : List Exchange → List Command → Type 0
+TookEffect [] done = done ≡ []
+TookEffect (e ∷ more) done =
+    ((command : Command) × (later : List Command) × HasEffect e command × TookEffect more later × (done ≡ command ∷ later))
+    ⊎ ((LacksStatus200 e × TookEffect more done) ⊎ ((command : Command) × HasLastEffect e more command × (done ≡ command ∷ [])))
+
+-- A register that may be found after exchanges over the first one: the one to which the commands that took effect lead, each of which was accepted.
+pub record IsFoundServed (first : Register) (served : List Exchange) (found : Register) : Type 0 where
+  pub done : List Command
+  pub took : TookEffect served done
+  pub reached : Reaches first done found
+
+-- each thing that a crash may leave represents such a register
+abbrev pub LeavesServed : Register → List Exchange → Disk → Type 0
+LeavesServed first served disk = HasCleanDisk disk → (db : Trees) → disk.may_leave db → (found : Register) × IsFoundServed first served found × RepresentsNow db found
+
+-- ---- over a desk
+
 -- At most so many connections were served, each by its request, and the desk has the register after the acknowledged commands of their requests, in order. All that a crash may leave
--- represents it, or also the one that the command in flight leaves.
+-- represents it, or also the one that the command in flight leaves; so one that has each command to which the status 200 was written.
 pub record KeepsServed {C : Type 0} (disk : C → Disk) (count : ℕ) (old new : Moment (DeskState C)) : Type 0 where
   pub served : List Exchange
   pub few : length served ≤ count
   pub exchanged : AreExchanged old.traffic new.traffic served
   pub serves : ServesExchanges disk old.desk served new.desk
   pub kept : KeepsAcknowledged disk old.desk new.desk (commands_of served)
+  pub effects : (done : List Command) → IsEffect (commands_of served) done → TookEffect served done
+  pub leaves : LeavesServed old.desk.register served (disk new.desk.conn)
 
 -- where a desk had not failed, and a crash leaves its register
 abbrev pub KeepsIfSound : {C : Type 0} → (C → Disk) → ℕ → Moment (DeskState C) → Moment (DeskState C) → Type 0

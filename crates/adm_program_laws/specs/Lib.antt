@@ -2,4 +2,6 @@ pub mod NextRun
 pub mod SuccessiveRuns
 pub mod Birth
 pub mod OneRun
+pub mod Effects
 pub mod Exchanges
+pub mod FoundAgain

@@ -6,6 +6,7 @@ use Rattle.sqlite_wal.specs.Recovery.{Image}
 use Rattle.adm_types.specs.declared.commands.Command.{Command}
 use Rattle.adm_types.specs.declared.seasons.Phase.{Phase}
 use Rattle.adm_register.specs.State.{State as Register}
+use Rattle.adm_desk.specs.Files.{IsFileOf}
 use Rattle.adm_words.specs.Lines.{ReadsArguments}
 use Rattle.adm_words.specs.declared.actions.Action.{Action}
 use Rattle.adm_words.specs.declared.actions.Action.TheVariants as action
@@ -14,6 +15,8 @@ use Rattle.adm_desk.specs.declared.answer.Answer.{Answer}
 use Rattle.adm_host.specs.declared.ended.RunEnd.{RunEnd}
 use Rattle.adm_program.specs.Given.{Around}
 use Rattle.adm_program_laws.specs.Birth.{HoldsNone, HoldsSeason}
+use Rattle.adm_program_laws.specs.Exchanges.{Exchange}
+use Rattle.adm_program_laws.specs.FoundAgain.{AreServed, HoldsServed}
 use Rattle.adm_program_laws.specs.SuccessiveRuns.{AnswersFor, HoldsAfterRuns, MayRemain}
 
 module _ {D : Type 0} {g : disk.Ghosts D} where
@@ -28,3 +31,9 @@ module _ {D : Type 0} {g : disk.Ghosts D} where
   LeavesFirst before arguments around end = (read : Result Action WordsFault) × ReadsArguments arguments read
       × ((file : Bor (List ℕ)) (phase : Phase) (year : ℕ) (days : List ℕ) (after : Image) → read ≡ Ok (action.Init file phase year days) → HoldsNone before
       → MayRemain before end.remains after → ∥ HoldsSeason phase year days after ⊎ HoldsNone after ∥₁)
+
+  -- Where the files held a register, all that a crash may leave after `serve` holds one that has each command to which the status 200 was written.
+  abbrev pub FindsAnswered : Image → List (List ℕ) → Around → RunEnd D g → Type 0
+  FindsAnswered before arguments around end = (read : Result Action WordsFault) × ReadsArguments arguments read
+      × ((first : Register) (file : Bor (List ℕ)) (port count : ℕ) (after : Image) → read ≡ Ok (action.Serve file port count) → IsFileOf first before
+      → MayRemain before end.remains after → (served : List Exchange) × AreServed port count around.given.visits served × HoldsServed g first served after)

@@ -33,7 +33,7 @@ use Rattle.adm_words.specs.declared.actions.Action.{Action}
 use Rattle.adm_words.specs.declared.actions.Action.TheVariants as action
 use Rattle.adm_words.specs.declared.faults.WordsFault.{WordsFault}
 use Rattle.adm_wire.specs.Streams.{Stream}
-use Rattle.adm_desk.specs.Acknowledged.{acknowledged, in_flight, handled}
+use Rattle.adm_desk.specs.Acknowledged.{handled}
 use Rattle.adm_desk.specs.Files.{IsFileOf}
 use Rattle.adm_desk.specs.DeskState.{DeskState}
 use Rattle.adm_desk.specs.Lines.{answer_text, answers_text, lines_of}
@@ -56,7 +56,8 @@ use Rattle.adm_host.specs.declared.fault.Fault.{Fault}
 use Rattle.adm_program.specs.Arguments.{FollowsFrom}
 use Rattle.adm_program.specs.Given.{Around}
 use Rattle.adm_program.specs.Served.{AreUntaken, Visits}
-use Rattle.adm_program_laws.specs.Exchanges.{AreExchanged, Exchange, IsAnswered, commands_of}
+use Rattle.adm_program_laws.specs.Effects.{AreEffects, IsEffect}
+use Rattle.adm_program_laws.specs.Exchanges.{AreExchanged, Exchange, IsAnswered, TookEffect, commands_of}
 
 -- a run: what its arguments were read as, the streams and the connections to ports before and after it, and its end: the exit status, and what remains of the files
 pub record ProgramRun {D : Type 0} (g : disk.Ghosts D) : Type 0 where
@@ -91,13 +92,14 @@ pub record AnswersRows (status : ℕ) (file output : Stream) (answered : List (C
   pub all : status ≢ 1 → Appends output.old output.new (answer_text answer ++ 10 ∷ [])
 
 -- At most so many connections to the port were served: each got a response to its request, or a beginning of one, and these are the commands of the requests, with
--- their answers.
+-- their answers. What may be found later has the effect of each command to which the status 200 was written.
 pub record AnswersConnections (count : ℕ) (coming left : Option Traffic) (answered : List (Command × Answer)) : Type 0 where
   pub served : List Exchange
   pub few : length served ≤ count
   pub exchanged : AreExchanged coming left served
   pub each : AllByRecursion IsAnswered served
   pub commands : answered ≡ commands_of served
+  pub effects : (done : List Command) → IsEffect answered done → TookEffect served done
 
 -- the run ended with an error, no command was answered, and no connection was taken
 pub record TakesNone (status port : ℕ) (visits : Visits) (answered : List (Command × Answer)) : Type 0 where
@@ -128,18 +130,6 @@ AreAnswered [] [] = ⊤
 AreAnswered (run ∷ runs) (answered ∷ more) = AnswersFor run.read run answered × AreAnswered runs more
 AreAnswered [] (answered ∷ more) = ⊥
 AreAnswered (run ∷ runs) [] = ⊥
-
--- ---- the commands that took effect
-
--- of one run: those that were acknowledged, and after them the one in flight or none
-abbrev pub IsEffect : List (Command × Answer) → List Command → Type 0
-IsEffect answered done =
-    (done ≡ acknowledged answered) ⊎ ((command : Command) × (in_flight answered ≡ Some command) × (done ≡ acknowledged answered ++ command ∷ []))
-
--- of runs, one after another
-abbrev pub AreEffects : List (List (Command × Answer)) → List Command → Type 0
-AreEffects [] done = done ≡ []
-AreEffects (answered ∷ runs) done = (first : List Command) × (later : List Command) × IsEffect answered first × AreEffects runs later × (done ≡ first ++ later)
 
 -- A register that may be found after runs: the one to which the commands that took effect in them, each accepted, lead from the first one. It has the best outcomes
 -- of each round among them, for the register in which it began, and the draws of the first one, which are in order as in every register.

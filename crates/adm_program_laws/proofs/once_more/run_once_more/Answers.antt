@@ -9,3 +9,12 @@ pub returns-clause-first : goal.returns-clause-first
 returns-clause-first g c =
     let did = c.run_arguments.ensures.does in
     (did.read, did.reads, λ file phase year days after is none left. c.first_runs.ensures.leaves _ after _ file phase year days none (record { follows = did.follows; left = left }) is)
+
+pub returns-clause-found : goal.returns-clause-found
+returns-clause-found g c =
+    let did = c.run_arguments.ensures.does in (
+      did.read,
+      did.reads,
+      λ first file port count after is held left.
+          c.answered_is_found.ensures first _ after _ file port count held (record { follows = did.follows; left = left }) is,
+    )

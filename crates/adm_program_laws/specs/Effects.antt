@@ -1,0 +1,15 @@
+-- The commands of runs that took effect: those that were acknowledged, and perhaps the one in flight.
+use Rattle.std.specs.Prelude.{◌≡◌, ◌⊎◌, List, [], ◌∷◌, ◌++◌, Some}
+use Rattle.adm_types.specs.declared.commands.Command.{Command}
+use Rattle.adm_desk.specs.Acknowledged.{acknowledged, in_flight}
+use Rattle.adm_desk.specs.declared.answer.Answer.{Answer}
+
+-- of one run: those that were acknowledged, and after them the one in flight or none
+abbrev pub IsEffect : List (Command × Answer) → List Command → Type 0
+IsEffect answered done =
+    (done ≡ acknowledged answered) ⊎ ((command : Command) × (in_flight answered ≡ Some command) × (done ≡ acknowledged answered ++ command ∷ []))
+
+-- of runs, one after another
+abbrev pub AreEffects : List (List (Command × Answer)) → List Command → Type 0
+AreEffects [] done = done ≡ []
+AreEffects (answered ∷ runs) done = (first : List Command) × (later : List Command) × IsEffect answered first × AreEffects runs later × (done ≡ first ++ later)
