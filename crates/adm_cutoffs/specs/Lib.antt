@@ -1,0 +1,3 @@
+pub mod Reasons
+pub mod Cutoffs
+pub mod Lookups
