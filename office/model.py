@@ -366,8 +366,8 @@ class Server:
         return self.sender.read("/register")
 
     def lots(self, draws: Sequence[int]) -> Iterator[Lots]:
-        """The lots of draws, in this order. A draw never changes; but where a copy is restored,
-        another may have its number and its outcomes, so that its document alone tells.
+        """The lots of draws, in this order. A draw never changes, but its document explains it by
+        the data of now; and where a copy is restored, another may have its number and outcomes.
         """
         for number in draws:
             document, known = self.sender.read(f"/draw/{number}"), self.known.get(number)

@@ -27,6 +27,14 @@ def offer_day(holidays):
     return day.isoformat()
 
 
+def decided(last, key):
+    """By what a key comes after the last one, if there is one."""
+    if last is None:
+        return "nobody"
+    parts = zip(("class", "distance", "lot"), last, key)
+    return next((name for name, one, other in parts if one < other), None) if last < key else None
+
+
 class Register(model.Season):
     """The register of secondary schools for 2025."""
 
@@ -181,13 +189,47 @@ class Register(model.Season):
 
     def draw_with_lots(self, number):
         lots = self.drawn[number - 1][0]
+        keys = {
+            (school, child): (*standing(self.schools[school], self.children[child]), lot)
+            for (school, child), lot in lots.items()
+        }
+        last = self.last_taken_in(number, keys)
         return {
+            "cutoffs": [
+                {"class": key[0], "lot": key[2], "metres": key[1], "school": school}
+                for school, key in sorted(last.items())
+            ],
             **self.draw_document(number),
             "lots": [
                 {"child": child, "lot": lots[school, child], "school": school}
                 for school, child in sorted(lots)
             ],
+            "refusals": [
+                {
+                    "by": decided(last.get(school), keys[school, child]),
+                    "child": child,
+                    "school": school,
+                }
+                for school, child in sorted(lots)
+                if school in self.above(number, child)
+            ],
         }
+
+    def last_taken_in(self, number, keys):
+        """The greatest key of those that each school took in anew."""
+        _, has, fresh = self.drawn[number - 1]
+        last: dict[str, tuple[int, int, int]] = {}
+        for (school, child), key in keys.items():
+            if child in fresh and has[child] == school:
+                last[school] = max(last.get(school, key), key)
+        return last
+
+    def above(self, number, child):
+        """The schools of a child's list above its outcome of a draw, if it has one."""
+        has, listed = self.drawn[number - 1][1], self.lists.get(child, [])
+        if child not in has:
+            return []
+        return listed[: listed.index(has[child])] if has[child] in listed else listed
 
     def document(self):
         season = {

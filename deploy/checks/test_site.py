@@ -296,7 +296,7 @@ def test_the_office_reads_letters_lists_and_reports(
 
 
 @pytest.mark.parametrize("path, begin", [
-    ("/register", '{"children":['), ("/draw/1", '{"day":"2025-03-03"'),
+    ("/register", '{"children":['), ("/draw/1", '{"cutoffs":['),
     ("/pairs", "A 2\n"), ("/pairs/A", "A 2\n")])
 def test_the_office_reads_what_shows_all_children(
         world: World, who: str, path: str, begin: str) -> None:

@@ -40,9 +40,9 @@ line_of text = text ++ codes "\n"
 unfoldable pub register_line : State → List ℕ
 register_line s = line_of (compact_text (register_data s))
 
--- a draw with its lots as a line of JSON
-unfoldable pub draw_line : Draw → List ℕ
-draw_line draw = line_of (compact_text (draw_data_with_lots draw))
+-- a draw with its lots, its cutoffs and its refusals as a line of JSON
+unfoldable pub draw_line : State → Draw → List ℕ
+draw_line s draw = line_of (compact_text (draw_data_with_lots s draw))
 
 -- the text of a document of a register
 abbrev pub document_text : State → Document → Result (List ℕ) Fault
@@ -51,7 +51,7 @@ document_text s (document.List school) = text_or fault.UnknownSchool (list_text 
 document_text s (document.Report round) = text_or fault.NoRound (round_text s round)
 document_text s (document.Pairs school) = text_or fault.UnknownSchool (pairs_text s school)
 document_text s document.Register = Ok (register_line s)
-document_text s (document.Draw number) = text_or fault.NoDraw (option_map draw_line (get s.draws number))
+document_text s (document.Draw number) = text_or fault.NoDraw (option_map (draw_line s) (get s.draws number))
 
 -- printing a text is done where it was written; where there is none, its error is reported and nothing is written
 abbrev pub PrintsAs : Result (List ℕ) Fault → Stream → Result Exit Fault → Type 0

@@ -27,7 +27,7 @@ pub enum Document {
     Pairs(Option<SchoolCode>),
     /// The register as JSON, without its lots.
     Register,
-    /// The draw of a number as JSON, with its lots.
+    /// The draw of a number as JSON, with its lots, its cutoffs and its refusals.
     Draw(u32),
 }
 
@@ -73,7 +73,7 @@ fn register_line(alloc: Global, register: &Register) -> Result<String, AllocErro
 /// The draw of a number as a line of JSON. The `Err` is NoDraw, or out of memory.
 #[tactic(auto, unfolding(crate::specs::Texts::draw_line))]
 fn draw_line(alloc: Global, register: &Register, number: u32) -> Result<String, Fault>
-    ensures { Says (text_or NoDraw (option_map draw_line (map.get register.now.draws number))) result }
+    ensures { Says (text_or NoDraw (option_map (draw_line register.now) (map.get register.now.draws number))) result }
 {
     Ok(line_of(draw_text(alloc, register, number)?)?)
 }

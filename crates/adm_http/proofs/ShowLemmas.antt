@@ -47,20 +47,20 @@ always_shown text (Err e) Memory gives is = (text, refl)
 always_shown text (Err e) Failed gives is = absurd is
 
 -- the same of the text of a draw
-pub draw_shown : {A : Type 0} (wanted : Option Draw) (given : Result (String A) ViewFault) (shown : ShowResult)
-    → GivesDraw (option_map draw_data_with_lots wanted) given → IsDrawAs given shown
-    → IsShown (option_map (λ draw. compact_text (draw_data_with_lots draw)) wanted) shown
-draw_shown (Some draw) (Ok given) (Text made) gives is = ap Some (sym gives ∙ sym is)
-draw_shown None (Ok given) (Text made) gives is = absurd gives
-draw_shown wanted (Ok given) Missing gives is = absurd is
-draw_shown wanted (Ok given) Memory gives is = absurd is
-draw_shown wanted (Ok given) Failed gives is = absurd is
-draw_shown wanted (Err e) (Text made) gives is = absurd is
-draw_shown (Some draw) (Err e) Missing gives is = absurd (cc (sym gives ∙ is))
-draw_shown None (Err e) Missing gives is = refl
-draw_shown (Some draw) (Err e) Memory gives is = (compact_text (draw_data_with_lots draw), refl)
-draw_shown None (Err e) Memory gives is = absurd (cc (sym gives ∙ is))
-draw_shown wanted (Err e) Failed gives is = absurd is
+pub draw_shown : {A : Type 0} (s : State) (wanted : Option Draw) (given : Result (String A) ViewFault) (shown : ShowResult)
+    → GivesDraw (option_map (draw_data_with_lots s) wanted) given → IsDrawAs given shown
+    → IsShown (option_map (λ draw. compact_text (draw_data_with_lots s draw)) wanted) shown
+draw_shown s (Some draw) (Ok given) (Text made) gives is = ap Some (sym gives ∙ sym is)
+draw_shown s None (Ok given) (Text made) gives is = absurd gives
+draw_shown s wanted (Ok given) Missing gives is = absurd is
+draw_shown s wanted (Ok given) Memory gives is = absurd is
+draw_shown s wanted (Ok given) Failed gives is = absurd is
+draw_shown s wanted (Err e) (Text made) gives is = absurd is
+draw_shown s (Some draw) (Err e) Missing gives is = absurd (cc (sym gives ∙ is))
+draw_shown s None (Err e) Missing gives is = refl
+draw_shown s (Some draw) (Err e) Memory gives is = (compact_text (draw_data_with_lots s draw), refl)
+draw_shown s None (Err e) Memory gives is = absurd (cc (sym gives ∙ is))
+draw_shown s wanted (Err e) Failed gives is = absurd is
 
 module _ {C : Type 0} (desk : DeskState C) (resource : Resource) where
   -- of a desk that has not failed its register is shown

@@ -114,7 +114,7 @@ text_in s (WaitingList school) = list_text s school
 text_in s (RoundReport round) = round_text s round
 text_in s (PairList school) = pairs_text s school
 text_in s WholeRegister = Some (compact_text (register_data s))
-text_in s (DrawWithLots number) = option_map (λ draw. compact_text (draw_data_with_lots draw)) (get s.draws number)
+text_in s (DrawWithLots number) = option_map (λ draw. compact_text (draw_data_with_lots s draw)) (get s.draws number)
 
 -- ---- the router
 

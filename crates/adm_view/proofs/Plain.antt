@@ -15,6 +15,7 @@ use Rattle.adm_types.specs.declared.rows.Place.{Place}
 use Rattle.adm_types.specs.declared.rows.PlaceState.{PlaceState}
 use Rattle.adm_types.specs.declared.rows.PlaceState.TheVariants.{Offered, Accepted, Plan}
 use Rattle.adm_types.specs.declared.draws.Draw.{Draw}
+use Rattle.adm_types.specs.declared.draws.Lot.{Lot}
 use Rattle.adm_types.specs.declared.draws.Outcome.{Outcome}
 use Rattle.adm_types.specs.Seasons.{SeasonFacts}
 use Rattle.adm_fields.specs.Lists.{child_fields}
@@ -26,7 +27,11 @@ use Rattle.adm_register.specs.Waits.{standing_of}
 use Rattle.adm_view.specs.Writing.{number_data, list_data, code_or_empty, members}
 use Rattle.adm_view.specs.Children.{day_or_null, offered_data, reminded_data, place_data, rank_members, wait_members, preference_data, application_data, child_data}
 use Rattle.adm_view.specs.Schools.{school_data}
-use Rattle.adm_view.specs.Draws.{code_or_null, outcome_data, lot_data, draw_members, draw_data, draw_data_with_lots}
+use Rattle.adm_cutoffs.specs.Cutoffs.{cutoffs_of, refusals_of}
+use Rattle.adm_cutoffs.specs.declared.cutoffs.Cutoff.{Cutoff}
+use Rattle.adm_cutoffs.specs.declared.reasons.Reason.{Reason}
+use Rattle.adm_cutoffs.specs.declared.refusals.Refusal.{Refusal}
+use Rattle.adm_view.specs.Draws.{code_or_null, outcome_data, lot_data, draw_members, draw_data, cutoff_data, reason_or_null, refusal_data, draw_data_with_lots}
 use Rattle.adm_view.specs.Season.{season_data}
 use Rattle.adm_view.specs.Register.{register_data}
 
@@ -180,11 +185,28 @@ plain_draw_members n draw =
     and_member m _ _ _ (plain_text m _) (and_member m _ _ _ (plain_number m _) (and_member m _ _ _ (plain_list outcome_data (n + 1) (plain_outcome n) draw.outcomes)
     (and_member m _ _ _ (either m (nat_eq draw.round 0) null (number_data draw.round) (plain_null m) (plain_number m _)) (and_member m _ _ _ (plain_code_or_null m draw.school) (no_more m)))))
 
-pub plain_draw_with_lots : (draw : Draw) → IsPlain 3 (draw_data_with_lots draw)
-plain_draw_with_lots draw =
-    plain_object 2 _ (put_plain 2 (codes "lots") (list_data lot_data draw.lots) (draw_members draw)
-    (plain_list lot_data 1 (λ lot. plain_object 0 _ (and_member 0 _ _ _ (plain_number 0 _) (and_member 0 _ _ _ (plain_number 0 _) (and_member 0 _ _ _ (plain_text 0 _) (no_more 0))))) draw.lots)
-    (plain_draw_members 0 draw))
+plain_lot : (lot : Lot) → IsPlain 1 (lot_data lot)
+plain_lot lot = plain_object 0 _ (and_member 0 _ _ _ (plain_number 0 _) (and_member 0 _ _ _ (plain_number 0 _) (and_member 0 _ _ _ (plain_text 0 _) (no_more 0))))
+
+plain_cutoff : (cutoff : Cutoff) → IsPlain 1 (cutoff_data cutoff)
+plain_cutoff cutoff =
+    plain_object 0 _ (and_member 0 _ _ _ (plain_number 0 _) (and_member 0 _ _ _ (plain_number 0 _) (and_member 0 _ _ _ (plain_number 0 _) (and_member 0 _ _ _ (plain_text 0 _) (no_more 0)))))
+
+plain_reason : (n : ℕ) (by : Option Reason) → IsPlain n (reason_or_null by)
+plain_reason n None = plain_null n
+plain_reason n (Some reason) = plain_text n _
+
+plain_refusal : (refusal : Refusal) → IsPlain 1 (refusal_data refusal)
+plain_refusal refusal = plain_object 0 _ (and_member 0 _ _ _ (plain_reason 0 refusal.by) (and_member 0 _ _ _ (plain_number 0 _) (and_member 0 _ _ _ (plain_text 0 _) (no_more 0))))
+
+pub plain_draw_with_lots : (s : State) (draw : Draw) → IsPlain 3 (draw_data_with_lots s draw)
+plain_draw_with_lots s draw =
+    let cutoffs = list_data cutoff_data (cutoffs_of s draw) in
+    let lots = list_data lot_data draw.lots in
+    plain_object 2 _ (put_plain 2 (codes "refusals") (list_data refusal_data (refusals_of s draw)) (put (codes "lots") lots (put (codes "cutoffs") cutoffs (draw_members draw)))
+    (plain_list refusal_data 1 plain_refusal (refusals_of s draw))
+    (put_plain 2 (codes "lots") lots (put (codes "cutoffs") cutoffs (draw_members draw)) (plain_list lot_data 1 plain_lot draw.lots)
+    (put_plain 2 (codes "cutoffs") cutoffs (draw_members draw) (plain_list cutoff_data 1 plain_cutoff (cutoffs_of s draw)) (plain_draw_members 0 draw))))
 
 plain_season : (n : ℕ) (season : SeasonFacts) → IsPlain (n + 1 + 1) (season_data season)
 plain_season n season =

@@ -1,9 +1,11 @@
-// Draws of lots and their outcomes, without the lots and with them.
+// Draws of lots and their outcomes: without the lots, and with them, the cutoffs and the refusals.
 ghost use Rattle.std.specs.Prelude.{◌≡◌, IfOk, map};
 ghost use Rattle.serde_json.specs.View.{view, members_view};
 ghost use Rattle.adm_view.specs.Draws.{code_or_null, round_or_null, outcome_data, lot_data, draw_members, draw_data, draw_data_with_lots, draws_data};
+ghost use Rattle.adm_view.specs.Draws.{cutoff_data, reason_name, reason_or_null, refusal_data};
 
 use crate::kinds::{Kind, list};
+use adm_cutoffs::{Cutoff, Reason, Refusal, explain};
 use adm_register::Register;
 use adm_table::Shared;
 use adm_types::{Draw, Lot, Outcome, SchoolCode};
@@ -29,17 +31,22 @@ fn each_draw(alloc: Global, draws: &[Shared<Draw>]) -> Result<Vec<Value>, AllocE
     Ok(made)
 }
 
-/// A draw with its lots, in the order in which they are stored.
-pub(crate) fn draw_with_lots(alloc: Global, draw: &Draw) -> Result<Value, AllocError>
-    ensures { IfOk result (λ made. view made ≡ draw_data_with_lots draw.now) }
+/// A draw with its lots, in the order in which they are stored, its cutoffs and its refusals.
+pub(crate) fn draw_with_lots(
+    alloc: Global,
+    register: &Register,
+    draw: &Draw,
+) -> Result<Value, AllocError>
+    ensures { IfOk result (λ made. view made ≡ draw_data_with_lots register.now draw.now) }
 {
+    let explanation = explain(alloc, register, draw)?;
+    let cutoffs = list(alloc, &explanation.cutoffs)?;
+    let lots = list(alloc, draw.lots.as_slice())?;
+    let refusals = list(alloc, &explanation.refusals)?;
     let mut object = members(alloc, draw)?;
-    serde_json::put(
-        &mut object,
-        alloc,
-        "lots",
-        list(alloc, draw.lots.as_slice())?,
-    )?;
+    serde_json::put(&mut object, alloc, "cutoffs", cutoffs)?;
+    serde_json::put(&mut object, alloc, "lots", lots)?;
+    serde_json::put(&mut object, alloc, "refusals", refusals)?;
     Ok(Value::from(object))
 }
 
@@ -102,5 +109,50 @@ impl Kind for Lot {
         let lot = self.lot;
         let school = self.school.as_str();
         json!(in alloc; {"child": child, "lot": lot, "school": school})
+    }
+}
+
+impl Kind for Cutoff {
+    ghost form = { cutoff_data };
+
+    fn value(&self, alloc: Global) -> Result<Value, AllocError> {
+        let class = self.key.class;
+        let lot = self.key.lot;
+        let metres = self.key.distance;
+        let school = self.school.as_str();
+        json!(in alloc; {"class": class, "lot": lot, "metres": metres, "school": school})
+    }
+}
+
+impl Kind for Refusal {
+    ghost form = { refusal_data };
+
+    fn value(&self, alloc: Global) -> Result<Value, AllocError> {
+        let by = reason_or_null(alloc, self.by)?;
+        let child = self.child.get();
+        let school = self.school.as_str();
+        json!(in alloc; {"by": by, "child": child, "school": school})
+    }
+}
+
+/// What decided a refusal, or null where nothing does by the data of now.
+fn reason_or_null(alloc: Global, by: Option<Reason>) -> Result<Value, AllocError>
+    ensures { IfOk result (λ made. view made ≡ reason_or_null by) }
+{
+    match by {
+        None => Ok(Value::Null),
+        Some(reason) => Value::try_from_str(alloc, reason_name(reason)),
+    }
+}
+
+/// What decided a refusal.
+fn reason_name(reason: Reason) -> &'static str
+    ensures { result.now ≡ reason_name reason }
+{
+    match reason {
+        Reason::NoPlace => "nobody",
+        Reason::ByClass => "class",
+        Reason::ByDistance => "distance",
+        Reason::ByLot => "lot",
     }
 }

@@ -1,6 +1,6 @@
 // One JSON document of a register, without its lots, and one of each draw with its lots.
 //! One JSON document that says everything of a register but its lots and its imported rows, and one
-//! of a draw with its lots.
+//! of a draw with its lots, its cutoffs and its refusals.
 #![tactic(auto)]
 
 mod children;

@@ -35,25 +35,27 @@ pub fn register_text(alloc: Global, register: &Register) -> Result<String, Alloc
 }
 
 /// The draw of this number with its lots, in the order in which they are stored, as a JSON object
-/// without spaces. It takes memory for the object as a tree and as a text, and time for each outcome
-/// and lot.
+/// without spaces, whose keys are in alphabetical order. Beside them it has the cutoff of each school
+/// that took in a child, and each refusal with what decided it, by the data that the register has
+/// now. It takes memory for the object as a tree and as a text; what it costs grows with the outcomes
+/// and the lots, times the logarithm of the outcomes.
 ///
 /// Where it is an error, there is no such draw (`NoDraw`), or memory ran out.
 pub fn draw_text(alloc: Global, register: &Register, number: u32) -> Result<String, ViewFault>
-    ensures text { GivesText (option_map draw_data_with_lots (rows.get register.now.draws number)) result }
-    ensures reads_back { ReadsBack (option_map draw_data_with_lots (rows.get register.now.draws number)) result }
+    ensures text { GivesText (option_map (draw_data_with_lots register.now) (rows.get register.now.draws number)) result }
+    ensures reads_back { ReadsBack (option_map (draw_data_with_lots register.now) (rows.get register.now.draws number)) result }
 {
     match register.tables().draw(number) {
         None => Err(ViewFault::NoDraw),
-        Some(draw) => Ok(known_draw_text(alloc, draw)?),
+        Some(draw) => Ok(known_draw_text(alloc, register, draw)?),
     }
 }
 
-fn known_draw_text(alloc: Global, draw: &Draw) -> Result<String, AllocError>
-    ensures text { IfOk result (λ text. string_bytes text ≡ compact_text (draw_data_with_lots draw.now)) }
-    ensures reads_back { IfOk result (λ text. read (string_bytes text) ≡ Some (draw_data_with_lots draw.now)) }
+fn known_draw_text(alloc: Global, register: &Register, draw: &Draw) -> Result<String, AllocError>
+    ensures text { IfOk result (λ text. string_bytes text ≡ compact_text (draw_data_with_lots register.now draw.now)) }
+    ensures reads_back { IfOk result (λ text. read (string_bytes text) ≡ Some (draw_data_with_lots register.now draw.now)) }
 {
-    draw_with_lots(alloc, draw)?.to_string(alloc)
+    draw_with_lots(alloc, register, draw)?.to_string(alloc)
 }
 
 fn document(alloc: Global, register: &Register) -> Result<Value, AllocError>
