@@ -16,7 +16,9 @@ use Rattle.adm_match.proofs.Distinct.{distinct}
 use Rattle.adm_match.proofs.RanksAndBlocks.{at_All, All_at, wish_at_rank, same_rank, guest_from, guest_gives}
 use Rattle.adm_match.proofs.FoundWishes.{rank_within}
 use Rattle.adm_match.proofs.Placed.{on_list}
-use Rattle.adm_fairness.specs.Cutoffs.{Cutoff, Open, Last, Closed, IsCutoff, ByClass, ByDistance, ByLot, reason_after, reason_by, refusal_at, IsDecided, CutoffsDecide, SameCutoffsSamePlaces, SomeCutoff}
+use Rattle.adm_cutoffs.specs.Reasons.{reason_after}
+use Rattle.adm_cutoffs.specs.declared.reasons.Reason.TheVariants.{ByClass, ByDistance, ByLot}
+use Rattle.adm_fairness.specs.Cutoffs.{Cutoff, Open, Last, Closed, IsCutoff, reason_by, refusal_at, IsDecided, CutoffsDecide, SameCutoffsSamePlaces, SomeCutoff}
 use Rattle.adm_lists.proofs.Members.{In, in_All}
 use Rattle.adm_fairness.proofs.Codes.{not_blocked, at_index, other_first}
 

@@ -14,6 +14,7 @@ pub mod Envy
 pub mod Ends
 pub mod Plans
 pub mod CutoffLemmas
+pub mod Explaining
 pub mod Beside
 pub mod Improved
 pub mod Amended

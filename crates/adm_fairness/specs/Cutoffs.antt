@@ -1,8 +1,10 @@
 -- The cutoff of a school in an allocation: the key of the last child that it took in; and why a child is refused there.
 -- Azevedo and Leshno 2016, for a problem of finitely many children; tenants are this profile's.
-use Rattle.std.specs.Prelude.{◌≡◌, ◌<◌, ◌≤◌, true, false, ◌&&◌, ◌==◌, nat_lt, if◌then◌else◌, Option, Some, None, option_and_then, is_some, IfSome, All, Any}
+use Rattle.std.specs.Prelude.{◌≡◌, ◌<◌, ◌≤◌, true, false, if◌then◌else◌, Option, Some, None, is_some, IfSome, All, Any}
 use Rattle.adm_rank.specs.declared.keys.RankKey.{RankKey}
 use Rattle.adm_rank.specs.Ranking.{precedes}
+use Rattle.adm_cutoffs.specs.Reasons.{reason_beside}
+use Rattle.adm_cutoffs.specs.declared.reasons.Reason.{Reason}
 use Rattle.adm_match.specs.Market.{Code, Candidate, Market, is_tenant, key_at, quota_of, first_fault}
 use Rattle.adm_match.specs.Stability.{Allocation, count_at, is_guest, prefers, IsStable}
 
@@ -23,26 +25,11 @@ IsCutoff m a school Open = count_at m a school < quota_of m.seats school
 IsCutoff m a school (Last key) = (quota_of m.seats school ≤ count_at m a school) × IsLastKey m a school key
 IsCutoff m a school Closed = (quota_of m.seats school ≤ count_at m a school) × All (λ guest. is_guest a school guest ≡ false) m.entrants
 
--- why a child is refused: the school took nobody in; by its class; by its distance in the class of the last; by its lot beside one of the
--- same class and distance
-pub data Reason : Type 0 where
-  NoPlace : Reason
-  ByClass : Reason
-  ByDistance : Reason
-  ByLot : Reason
-
--- why a key is after the last one: none where it is not
-abbrev pub reason_after : RankKey → RankKey → Option Reason
-reason_after last key =
-    if nat_lt last.class key.class then Some ByClass
-    else (if last.class == key.class && nat_lt last.distance key.distance then Some ByDistance
-    else (if last.class == key.class && (last.distance == key.distance && nat_lt last.lot key.lot) then Some ByLot else None))
-
 -- why one that is no tenant is refused, by its key
 abbrev pub reason_by : Cutoff → Option RankKey → Option Reason
 reason_by Open key = None
-reason_by (Last last) key = option_and_then (reason_after last) key
-reason_by Closed key = Some NoPlace
+reason_by (Last last) key = reason_beside (Some last) key
+reason_by Closed key = reason_beside None key
 
 -- why an entrant is refused at a school of this cutoff: a tenant never is
 abbrev pub refusal_at : Candidate → Code → Cutoff → Option Reason

@@ -1,5 +1,8 @@
 // The cutoffs of schools: the key of the last child that a school took in, by which every refusal is explained.
 ghost use Rattle.adm_fairness.specs.Cutoffs.{CutoffsDecide, SameCutoffsSamePlaces, SomeCutoff};
+ghost use Rattle.adm_fairness.specs.Explained.{RoundIsExplained};
+
+use adm_round::allotment_fits;
 
 /// In a stable allocation each child has the first school of its list whose cutoff it passes.
 pub fn cutoffs_decide()
@@ -15,3 +18,11 @@ pub fn same_cutoffs_same_places()
 pub fn some_cutoff()
     ensures { SomeCutoff }
 {}
+
+/// After a round the view of its draw has the key of the last child that each school took in, and
+/// refuses each child at each school that it wants more, for the reason that this key gives.
+pub fn round_is_explained()
+    ensures { RoundIsExplained }
+{
+    allotment_fits();
+}

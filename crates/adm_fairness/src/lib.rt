@@ -14,7 +14,7 @@ pub use code::{
     day_gives_no_priority, fill_takes_the_first, list_gives_no_priority, lists_know_no_order,
     looked_after_first, lots_part_equals, ranks_by_rule, standing_is_listed,
 };
-pub use cutoffs::{cutoffs_decide, same_cutoffs_same_places, some_cutoff};
+pub use cutoffs::{cutoffs_decide, round_is_explained, same_cutoffs_same_places, some_cutoff};
 pub use honesty::{
     no_application_helps, no_applications_help, no_gain_by_declining, no_loss_by_not_applying,
 };
