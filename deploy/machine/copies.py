@@ -8,6 +8,8 @@ import time
 # A number that grows with each copy, and the local time. The first release named the time alone
 NAME = re.compile(r"nightly-(?:(\d{6,})-)?(\d{4}-\d\d-\d\dT\d{6})\.db")
 TIME = "%Y-%m-%dT%H%M%S"
+# What keeps the number of the copy that was made last
+LAST = "nightly.number"
 # For rsync, which knows no regular expressions
 PATTERNS = ("nightly-*.db", "nightly-*.tar")
 # A name may be an hour ahead where the clocks were put back
@@ -27,9 +29,25 @@ def made(folder: pathlib.Path) -> list[pathlib.Path]:
     return sorted(found, key=lambda it: (number(it), it.name))
 
 
+def last_number(folder: pathlib.Path) -> int:
+    """The greatest number that a copy has had, also of one that was renamed or removed."""
+    try:
+        kept = int((folder / LAST).read_text(encoding="ascii"))
+    except (FileNotFoundError, ValueError):
+        kept = 0
+    return max(kept, *map(number, made(folder)), 0)
+
+
+def keep_number(folder: pathlib.Path, copy: pathlib.Path) -> None:
+    """Keeps the number of a copy that was made."""
+    new = folder / f"{LAST}.new"
+    new.write_text(f"{number(copy)}\n", encoding="ascii")
+    new.rename(folder / LAST)
+
+
 def next_name(folder: pathlib.Path) -> str:
     """The name of the copy that is made now, which is the last one in the order."""
-    newest = max(map(number, made(folder)), default=0)
+    newest = last_number(folder)
     return f"nightly-{newest + 1:06}-{datetime.datetime.now().strftime(TIME)}.db"
 
 

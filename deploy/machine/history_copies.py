@@ -1,5 +1,6 @@
 """The copies of the history of a register's application, which are beside the nightly copies: made
 longer each night, never shorter, and brought back on another machine."""
+import contextlib
 import gzip
 import hashlib
 import os
@@ -88,6 +89,15 @@ def restored(register: Register, folder: pathlib.Path) -> typing.Iterator[str]:
             continue
         taken = path
         yield from put(register, path, data)
+
+
+def last_whole(folder: pathlib.Path) -> bytes:
+    """The history that would be brought back from a folder of copies; nothing where none is
+    whole."""
+    for path in reversed(made(folder)):
+        with contextlib.suppress(Refused):
+            return whole(path)
+    return b""
 
 
 def whole(path: pathlib.Path) -> bytes:

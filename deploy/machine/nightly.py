@@ -5,7 +5,8 @@ keeps the last copies.
 
 It backs up the register FILE into FOLDER by admissions-backup, which refuses a
 register in use, and keeps the KEEP copies that were made last. The numbers say
-which these are, so a clock that is wrong loses none. Copies are removed only
+which these are, so a clock that is wrong loses none; the last one is kept in
+nightly.number, so none is given twice. Copies are removed only
 after a backup that succeeded, each with the archive of its settings; copies of
 other names (before a round) always stay.
 
@@ -44,6 +45,7 @@ def main(given: argparse.Namespace) -> int:
     done = call(program("admissions-backup"), os.path.abspath(given.file), new)
     print(done.stdout, end="")
     print(done.stderr, end="", file=sys.stderr)
+    copies.keep_number(folder, new)
     for old in copies.made(folder)[: -given.keep]:
         for path in (old, pathlib.Path(f"{old}-wal"), copies.settings_of(old)):
             path.unlink(missing_ok=True)

@@ -5,6 +5,7 @@ Where a recipient is set, nothing is copied there in another form: without age, 
 is none, the copy fails. An encrypted copy differs each time that it is made, so the digest of what
 was sent is kept beside the first copies, and what is there is compared with it.
 """
+import contextlib
 import hashlib
 import json
 import pathlib
@@ -13,7 +14,7 @@ import re
 from register_files import Refused
 
 from . import files
-from .programs import call, tool
+from .programs import USER, call, tool
 from .registers import SETTINGS, Register
 
 RECIPIENT, IDENTITY, END = "second-copy-recipient", "second-copy-identity", ".age"
@@ -51,14 +52,39 @@ def encrypt(path: pathlib.Path, target: pathlib.Path, key: str) -> None:
 def decrypt(path: pathlib.Path, identity: pathlib.Path) -> pathlib.Path:
     """Decrypts a file beside itself, and returns the result."""
     target = path.with_name(path.name.removesuffix(END))
-    call(age(), "--decrypt", "--identity", identity, "--output", target, path)
+    try:
+        call(age(), "--decrypt", "--identity", identity, "--output", target, path)
+    except Refused as error:
+        if "no identity matched" in str(error):
+            raise Refused(f"{path.name} is encrypted for another key than that of {identity}"
+                          f"{public_key_in_words(identity)}") from error
+        raise Refused(f"{path.name} does not open with {identity}: {error}") from error
     return target
 
 
+def public_key_in_words(path: pathlib.Path) -> str:
+    """The public key of an identity file, and that for which copies are encrypted now."""
+    done = call(tool("age-keygen", "age"), "-y", path, may_fail=True)
+    own = done.stdout.strip() if done.returncode == 0 else ""
+    with contextlib.suppress(Refused):
+        now = recipient()
+        if own and now:
+            return f" ({own}); copies are encrypted for {now} now"
+    return f" ({own})" if own else ""
+
+
 def identity() -> pathlib.Path | None:
-    """The identity file of this machine, if it keeps one."""
+    """The identity file of this machine, if it keeps one. It is one of the user of the copies
+    alone, who opens them each night: no other owner, and nobody else may read it."""
     path = SETTINGS / IDENTITY
-    return path if path.exists() else None
+    try:
+        found = path.stat()
+    except FileNotFoundError:
+        return None
+    if found.st_uid != files.numbers(USER, USER)[0] or found.st_mode & 0o077:
+        raise Refused(f"{path} must be of the user {USER}, and nobody else may read it:"
+                      f" chown {USER}: {path} && chmod 400 {path}")
+    return path
 
 
 def digest(path: pathlib.Path) -> str:

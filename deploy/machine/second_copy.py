@@ -18,8 +18,9 @@ Where no place is named nothing is done.
 With a public key of age in /etc/admissions/second-copy-recipient all of it is
 encrypted before it leaves, as NAME.age, and is compared by its digest. It is
 decrypted and opened only where /etc/admissions/second-copy-identity has the
-identity file. Without age, or with a wrong key, nothing is copied. Copies from
-before the key was set are named: they are not encrypted.
+identity file, of the user admissions alone. Without age, or with a wrong key,
+nothing is copied. Copies from before the key was set are named: they are not
+encrypted.
 
 example:
   second-copy secondary-2025
@@ -236,7 +237,11 @@ def see_sealed(register: Register, place: str, sent: dict[str, list[str]]) -> No
 
 def opened_sealed(register: Register, place: str, newest: pathlib.Path) -> str:
     """Whether the newest copy opens, as far as that can be known here."""
-    identity = sealed.identity()
+    try:
+        identity = sealed.identity()
+    except Refused as error:
+        # (the copy is made, and what is there is what was sent)
+        return f"as it was sent; WARNING: not opened: {error}"
     if identity is None:
         return "as it was sent; not opened, since its identity file is not here"
     with tempfile.TemporaryDirectory() as room:

@@ -1,10 +1,14 @@
 """A second machine takes over a register of one that is lost: it fetches what the second place has,
-and prints what was sent since the copy from which the register goes on."""
+and prints what was sent since the copy from which the register goes on. One that was killed goes on
+when it is typed again."""
 import argparse
 import datetime
+import json
+import os
 import pathlib
 import re
 import shutil
+import sys
 import typing
 
 from register_files import Refused
@@ -16,6 +20,42 @@ from .registers import SETTINGS, Register, named
 # what is fetched: copies with what is beside each, and the history
 WANTED = (*copies.PATTERNS, *(f"{it}{sealed.END}" for it in copies.PATTERNS),
           f"/{history_copies.FOLDER}/", f"/{history_copies.FOLDER}/*")
+# in the settings of a register while it is taken over
+BEGUN = "standby"
+
+
+class Begun(typing.NamedTuple):
+    """A takeover that has begun: the copy from which the register is set up, and how many entries
+    the history of the other machine has; None where this machine had a history."""
+
+    copy: str
+    entries: int | None
+
+
+def begun_place(register: Register) -> pathlib.Path:
+    return register.settings / BEGUN
+
+
+def begun(register: Register) -> Begun | None:
+    """The takeover that has begun and not ended, or None."""
+    path = begun_place(register)
+    try:
+        found = json.loads(path.read_text(encoding="utf-8"))
+        return Begun(str(found["copy"]), found["entries"] and int(found["entries"]))
+    except FileNotFoundError:
+        return None
+    except (OSError, ValueError, KeyError, TypeError) as error:
+        raise Refused(f"{path} cannot be read: {error}") from error
+
+
+def begin(register: Register, copy: pathlib.Path) -> Begun:
+    """Keeps from which copy the register is set up, before anything of it is."""
+    had_history = os.path.lexists(register.history)
+    data = history_copies.last_whole(copy.parent / history_copies.FOLDER)
+    found = Begun(copy.name, None if had_history else data.count(b"\n"))
+    files.folder(register.settings, 0o755)
+    files.write(begun_place(register), json.dumps(found._asdict()) + "\n", 0o644)
+    return found
 
 
 def fetch(name: str, place: str) -> pathlib.Path:
@@ -23,10 +63,13 @@ def fetch(name: str, place: str) -> pathlib.Path:
     was made last."""
     register = named(name)
     if register.is_made:
-        raise Refused(f"{register.file} is there already, so this machine does not take over")
+        raise Refused(f"{register.file} is there already, so this machine does not take over."
+                      " What was sent since a moment prints"
+                      f" `admissions-sent {register.name} TIME`")
     place = (place or second_copy.place_of() or "").rstrip("/")
     if not place:
         raise Refused(f"name the second place, here or in {SETTINGS / 'second-copy'}", 2)
+    see_place(name, place)
     files.folder(register.copies, 0o710, USER, OFFICE)
     options: list[object] = [
         "--recursive", "--times", "--omit-dir-times", "--chmod=D700,F600", "--rsh", second_copy.SSH]
@@ -43,6 +86,20 @@ def fetch(name: str, place: str) -> pathlib.Path:
         raise Refused(f"{place}/{name} has no copy of a register")
     print(f"fetched {len(made)} copies from {place}/{name}, the last of them {made[-1].name}")
     return made[-1]
+
+
+def see_place(name: str, place: str) -> None:
+    """Refuses a place of this machine that is not there, or has no folder of the register."""
+    if not second_copy.is_local(place):
+        return
+    path = pathlib.Path(place)
+    if not path.is_dir():
+        raise Refused(f"{place} is not there: is the disk mounted?")
+    if not (path / name).is_dir():
+        there = ", ".join(sorted(it.name for it in path.iterdir() if it.is_dir())) or "none"
+        above = f". Name {path.parent}, which has it" if path.name == name else ""
+        raise Refused(f"{place} has no folder {name}, and so no copies of a register of this name;"
+                      f" folders there: {there}{above}")
 
 
 def decrypt_all(register: Register) -> None:
@@ -68,22 +125,34 @@ def moment_of(copy: pathlib.Path) -> datetime.datetime:
     return min(written, named_at).astimezone()
 
 
-def report(register: Register, copy: pathlib.Path) -> None:
-    """Prints what was sent since the copy, to be sent again, and from when on nobody knows it."""
+def report(register: Register, copy: pathlib.Path, entries: int | None = None) -> None:
+    """Prints what was sent since the copy, to be sent again, and from when on nobody knows it. Only
+    so many entries of the history are of the other machine."""
     since = moment_of(copy)
     try:
-        record = histories.of_register(register)
+        record = record_of(register, entries)
     except Refused as error:
         print(f"WARNING: what was sent since {since:%Y-%m-%d %H:%M} is not known: {error}")
         return
+    is_any = any(it.moment >= since for it in record.requests.values())
     print(f"{register.name} is as at {since:%Y-%m-%d %H:%M:%S}, when {copy.name} was made."
-          " Send again what follows, line by line:", flush=True)
+          + (" Send again what follows, line by line:" if is_any
+             else " The history has nothing that was sent later, so nothing is to be sent again."),
+          flush=True)
     sent.listed(record, since, None)
     again = f"admissions-sent {register.name} {since:%Y-%m-%dT%H:%M:%S}"
     if record.entries:
         last = datetime.datetime.fromisoformat(record.entries[-1].at).astimezone()
         print(f"These are all until {last:%Y-%m-%d %H:%M:%S}, and `{again}` prints them again."
               " What was sent later is in no copy: ask who worked then.")
+
+
+def record_of(register: Register, entries: int | None) -> histories.Record:
+    """The history of a register, as far as it is of the other machine."""
+    data = histories.data_of(register)
+    if entries is not None:
+        data = b"".join(data.splitlines(keepends=True)[:entries])
+    return histories.Record(str(register.history), data)
 
 
 def see_arguments(given: argparse.Namespace) -> None:
@@ -98,10 +167,29 @@ def see_arguments(given: argparse.Namespace) -> None:
 
 
 def take_over(given: argparse.Namespace, set_up: typing.Callable[[], int]) -> int:
-    """Fetches the copies, has the register set up from the last one, and prints what it lacks."""
+    """Fetches the copies, has the register set up from the last one, and prints what it lacks.
+    Until that is printed the takeover is not over, and goes on when it is typed again."""
     see_arguments(given)
-    copy = fetch(given.name, given.standby)
+    register = named(given.name)
+    found = begun(register)
+    if found:
+        copy = register.copies / found.copy
+        print(f"goes on with the takeover of {register.name} from {copy}", flush=True)
+    else:
+        copy = fetch(given.name, given.standby)
+        found = begin(register, copy)
     given.copy = str(copy)
     status = set_up()
-    report(named(given.name), copy)
+    report(register, copy, found.entries)
+    sys.stdout.flush()
+    begun_place(register).unlink()
+    remind()
     return status
+
+
+def remind() -> None:
+    """What is to be done after a takeover with what it has used."""
+    path = SETTINGS / sealed.IDENTITY
+    if path.exists():
+        print(f"{path} is still here, and opens all copies at the second place: rm {path}, unless"
+              " the nightly copies of this machine shall be opened with it")

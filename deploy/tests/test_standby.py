@@ -3,12 +3,13 @@ to be sent again."""
 import argparse
 import datetime
 import getpass
+import gzip
 import os
 import pathlib
 import subprocess
 
 import pytest
-from machine import registers, setup, standby
+from machine import registers, setup, standby, status
 from office.web.history import ANSWER, SENDS, History
 from register_files import Refused
 
@@ -68,6 +69,18 @@ def test_what_is_encrypted_is_opened_with_the_identity_of_this_machine(
     with pytest.raises(Refused, match=f"is encrypted: put the identity file .* at {identity}"):
         standby.fetch(NAME, str(place))
     identity.write_bytes((tmp_path / "vault.key").read_bytes())
+    identity.chmod(0o640)
+    with pytest.raises(Refused, match=f"chown admissions: {identity} && chmod 400 {identity}$"):
+        standby.fetch(NAME, str(place))
+    subprocess.run(["age-keygen", "-o", identity.with_name("wrong")], check=True,
+                   capture_output=True)
+    identity.write_bytes(identity.with_name("wrong").read_bytes())
+    identity.chmod(0o400)
+    with pytest.raises(Refused, match=r"\.age is encrypted for another key than that of .*\(age1"):
+        standby.fetch(NAME, str(place))
+    identity.chmod(0o600)
+    identity.write_bytes((tmp_path / "vault.key").read_bytes())
+    identity.chmod(0o400)
     copy = standby.fetch(NAME, str(place))
     assert copy.name == COPIES[2]
     assert {it: (copy.parent / it).read_bytes() for it in names} == wanted
@@ -106,8 +119,14 @@ def test_a_place_without_the_register(
     (place / "primary-2026").mkdir()
     with pytest.raises(Refused, match="has no copy of a register"):
         standby.fetch("primary-2026", str(place))
-    with pytest.raises(Refused, match="^rsync: .*No such file or directory"):
+    said = f"{place} has no folder primary-2027, .* folders there: primary-2026, {NAME}$"
+    with pytest.raises(Refused, match=said):
         standby.fetch("primary-2027", str(place))
+    with pytest.raises(Refused, match=f"Name {place}, which has it$"):
+        standby.fetch(NAME, str(place / NAME))
+    with pytest.raises(Refused, match="/gone is not there: is the disk mounted?"):
+        standby.fetch(NAME, f"{place}/gone")
+    assert not (machine / "backups/primary-2027").exists()
 
 
 @pytest.mark.parametrize(
@@ -172,3 +191,90 @@ def test_what_is_to_be_sent_again(
     standby.report(register, copy)
     assert capfd.readouterr().out.startswith(
         "WARNING: what was sent since 2025-03-03 02:30 is not known: ")
+
+
+def sent_at(register: registers.Register, child: int, moment: str) -> None:
+    """Records in the history of a register a command that was done at this local time."""
+    at = datetime.datetime.fromisoformat(moment).astimezone(datetime.timezone.utc).isoformat()
+    record = written_at(register, at)
+    of = record.add("jane", SENDS, {"command": {"cmd": "accept", "child": child}}).number
+    record.add("jane", ANSWER, {"of": of, "answer": {"done": True}})
+    record.close()
+
+
+def given_to(place: pathlib.Path) -> argparse.Namespace:
+    reader = argparse.ArgumentParser()
+    setup.arguments(reader)
+    return reader.parse_args([NAME, "--standby", str(place)])
+
+
+def test_a_takeover_that_was_killed_goes_on_and_prints_the_same(
+    place: pathlib.Path, machine: pathlib.Path, write_as_me: None,
+    monkeypatch: pytest.MonkeyPatch, capfd: pytest.CaptureFixture[str],
+) -> None:
+    """Wherever it was killed: before anything is made, and when the office already works here. Only
+    what was sent to the other machine is printed. When it has ended, it is not begun again.
+    """
+    monkeypatch.setattr(registers, "is_blank", lambda _: False)
+    register = registers.Register(NAME)
+    other = registers.Register("other")
+    other.office.mkdir()
+    sent_at(other, 1, "2025-03-03T02:31:00")
+    folder = place / NAME / "history"
+    (folder / "history-1-a.gz").unlink()
+    data = other.history.read_bytes()
+    (folder / "history-000001-0123456789abcdef.gz").write_bytes(gzip.compress(data))
+
+    def killed() -> int:
+        raise KeyboardInterrupt
+
+    def set_up() -> int:
+        register.office.mkdir(exist_ok=True)
+        register.folder.mkdir(exist_ok=True)
+        if not register.file.exists():
+            register.file.write_text("made", encoding="ascii")
+            register.history.write_bytes(data)
+        return 0
+
+    def set_up_and_killed() -> int:
+        set_up()
+        sent_at(register, 2, "2025-03-03T10:00:00")
+        raise KeyboardInterrupt
+
+    for step in (killed, set_up_and_killed):
+        with pytest.raises(KeyboardInterrupt):
+            standby.take_over(given_to(place), step)
+    assert status.file_of(register) == (
+        False, f"its takeover has not ended: type `admissions-setup {NAME} --standby`, which goes"
+        " on")
+    capfd.readouterr()
+    assert standby.take_over(given_to(place), set_up) == 0
+    lines = capfd.readouterr().out.splitlines()
+    assert lines[0] == (f"goes on with the takeover of {NAME} from"
+                        f" {register.copies / COPIES[2]}")
+    assert [it for it in lines if it.startswith("{")] == ['{"child":1,"cmd":"accept"}']
+    with pytest.raises(Refused, match="is there already, so this machine does not take over"):
+        standby.take_over(given_to(place), set_up)
+
+
+def test_nothing_to_be_sent_again_is_said(
+    register: registers.Register, write_as_me: None, tmp_path: pathlib.Path,
+    capfd: pytest.CaptureFixture[str],
+) -> None:
+    sent_at(register, 1, "2025-03-03T02:29:00")
+    copy = tmp_path / COPIES[2]
+    copy.touch()
+    standby.report(register, copy)
+    out = capfd.readouterr().out
+    assert "so nothing is to be sent again." in out and "line by line" not in out
+
+
+def test_the_identity_that_remains_is_named(
+    machine: pathlib.Path, capsys: pytest.CaptureFixture[str]
+) -> None:
+    standby.remind()
+    assert capsys.readouterr().out == ""
+    identity = machine / "etc/second-copy-identity"
+    identity.touch()
+    standby.remind()
+    assert f"rm {identity}" in capsys.readouterr().out
