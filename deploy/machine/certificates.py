@@ -1,6 +1,7 @@
 """The key and the certificate of a site, and the request for one."""
 import datetime
 import pathlib
+import re
 import subprocess
 import typing
 
@@ -67,6 +68,52 @@ def is_self_signed(certificate: pathlib.Path) -> bool:
     return len({line.partition("=")[2] for line in names}) == 1
 
 
+def key_problem(register: Register) -> str | None:
+    """Why nginx cannot serve the site, where the certificate is not of the key."""
+    key, certificate, _ = paths(register)
+    if public_key("x509", "-pubkey", "-noout", "-in", certificate) == public_key(
+        "pkey", "-pubout", "-in", key
+    ):
+        return None
+    return f"{certificate} is not of the key {key}, so nginx cannot serve the site"
+
+
+def name_problem(certificate: pathlib.Path | str, host: str) -> str | None:
+    """Why browsers refuse a site of this name, where the certificate is of others."""
+    # (its exit status differs between versions)
+    said = looked_at(certificate, "-checkhost", host)
+    if "does match certificate" in said:
+        return None
+    names = ", ".join(names_of(pathlib.Path(certificate))) or "no site"
+    return f"{certificate} is of {names}, and not of {host}, so browsers refuse the site"
+
+
+def names_of(certificate: pathlib.Path) -> list[str]:
+    """The names of the sites that a certificate is of."""
+    return re.findall(r"DNS:([^\s,]+)", looked_at(certificate, "-ext", "subjectAltName"))
+
+
+def looked_at(certificate: pathlib.Path | str, *arguments: str) -> str:
+    """What openssl prints of a certificate."""
+    command = (tool("openssl", "openssl"), "x509", "-in", certificate, "-noout", *arguments)
+    return call(*command, may_fail=True).stdout
+
+
+def host_of(certificate: pathlib.Path) -> str | None:
+    """The first name of a certificate, if it is there and has one."""
+    return next(iter(names_of(certificate)), None)
+
+
+def see(register: Register, host: str) -> str | None:
+    """Refuses a certificate that nginx cannot serve, whatever put it there. Returns a warning of
+    one that browsers will not trust."""
+    if problem := key_problem(register):
+        raise Refused(f"{problem}. Put the right one there, or give both by --certificate and"
+                      " --key")
+    problem = name_problem(paths(register)[1], host)
+    return f"WARNING: {problem}" if problem else warning(register)
+
+
 def pair(certificate: str, key: str) -> tuple[str, str]:
     """The texts of a certificate and its key."""
     try:
@@ -81,6 +128,12 @@ def pair(certificate: str, key: str) -> tuple[str, str]:
     return texts
 
 
+def see_name(certificate: str, host: str) -> None:
+    """Refuses a certificate of another site."""
+    if problem := name_problem(certificate, host):
+        raise Refused(problem)
+
+
 def is_lost(register: Register, certificate: str, key: str) -> bool:
     """Whether another certificate or key is there, which these would replace."""
     texts, (to_key, to_certificate, _) = pair(certificate, key), paths(register)
@@ -92,8 +145,24 @@ def is_lost(register: Register, certificate: str, key: str) -> bool:
 
 def take(register: Register, certificate: str, key: str) -> bool:
     """Takes a certificate and its key from files. Returns whether they are others than before."""
-    texts, (to_key, to_certificate, _) = pair(certificate, key), paths(register)
-    return any([files.write(to_certificate, texts[0], 0o644), files.write(to_key, texts[1], 0o600)])
+    texts, (to_key, to_certificate, request) = pair(certificate, key), paths(register)
+    if is_lost(register, certificate, key):
+        keep_before(to_key, to_certificate)
+    changed = [files.write(to_certificate, texts[0], 0o644), files.write(to_key, texts[1], 0o600)]
+    if request.exists() and public_key("req", "-in", request, "-pubkey", "-noout") != public_key(
+        "pkey", "-pubout", "-in", to_key
+    ):
+        # (it is of the key of before)
+        request.unlink()
+    return any(changed)
+
+
+def keep_before(*there: pathlib.Path) -> None:
+    """Keeps the key and certificate that are replaced beside the new ones."""
+    for path in there:
+        if path.exists():
+            mode = 0o600 if path.suffix == ".key" else 0o644
+            files.write(path.with_name(f"{path.name}.before"), path.read_bytes(), mode)
 
 
 def public_key(*arguments: object) -> str:

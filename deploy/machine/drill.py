@@ -8,7 +8,8 @@ register itself and its copies are only read. Where a second place is named,
 its copy of the same name is fetched and tried in the same way. Where copies
 are encrypted for the second place, FILE is the identity file of age that opens
 them, /etc/admissions/second-copy-identity by default; without one the drill
-says that the second copy was not tried. The archive of its settings is read,
+says that the second copy was not tried. The last one that was is kept in
+drill-opened.report. The archive of its settings is read,
 and who may sign in is counted. What was restored is removed at the end. The
 result is in /var/backups/admissions/NAME/drill.report, which admissions-status
 reads. A drill that fails leaves the report of the one before it, and its unit
@@ -34,6 +35,9 @@ from .second_copy import fetched, now, place_of, write_report
 from .settings_copy import OWN, members_of, people_beside
 
 REPORT = "drill.report"
+# the last one that has opened an encrypted copy of the second place, and what the report has of one
+# that has not
+OPENED, NOT_TRIED = "drill-opened.report", "not tried: "
 
 
 def arguments(reader: argparse.ArgumentParser) -> None:
@@ -47,13 +51,16 @@ def main(given: argparse.Namespace) -> int:
     made = register.nightly_copies()
     if not made:
         raise Refused(f"{register.name} has no nightly copy to restore")
-    lines = []
+    lines, is_sealed = [], bool(place and sealed.recipient())
     with tempfile.TemporaryDirectory() as room:
         lines.append(f"{now()} {made[-1]}: {tried(made[-1], room)}")
         if place:
-            where = f"{now()} {place}/{register.name}/{made[-1].name}"
-            lines.append(f"{where}: {second_tried(given.identity, place, register, room)}")
+            where = f"{place}/{register.name}/{made[-1].name}{sealed.END if is_sealed else ''}"
+            tried_there = second_tried(given.identity, place, register, room)
+            lines.append(f"{now()} {where}: {tried_there}")
     text = "".join(f"{line}\n" for line in lines)
+    if is_sealed and NOT_TRIED not in lines[-1]:
+        write_report(register, OPENED, f"{lines[-1]}\n")
     write_report(register, REPORT, text)
     print(text, end="")
     return 0
@@ -65,9 +72,12 @@ def second_tried(
     """The same of the newest copy at the second place, which may be encrypted there."""
     copy, identity = register.nightly_copies()[-1], None
     if sealed.recipient():
-        identity = given or sealed.identity()
+        try:
+            identity = given or sealed.identity()
+        except Refused as error:
+            return f"{NOT_TRIED}WARNING: {error}"
         if identity is None:
-            return f"not tried: it is encrypted, and no identity file is here ({sealed.IDENTITY})"
+            return f"{NOT_TRIED}it is encrypted, and no identity file is here ({sealed.IDENTITY})"
     if copies.settings_of(copy).exists():
         fetched(place, register, copies.settings_of(copy).name, room, identity)
     return tried(fetched(place, register, copy.name, room, identity), room)

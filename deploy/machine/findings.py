@@ -59,8 +59,10 @@ def as_text(reports: Reports) -> typing.Iterator[str]:
 def as_line(reports: Reports) -> str:
     """One line."""
     count = f"{len(reports)} register{'s' if len(reports) > 1 else ''}"
-    bad = [f"{name} {part}: {found.text}" for name, parts in reports.items()
-           for part, found in parts.items() if found.level is not Level.OK]
+    # (what keeps an office from working first: a monitoring system may cut the line)
+    bad = [f"{name} {part}: {found.text}" for wanted in (Level.FAILED, Level.ATTENTION)
+           for name, parts in reports.items() for part, found in parts.items()
+           if found.level is wanted]
     level = worst_of(reports)
     return f"{level.label.upper()} - {count}" + (f"; {'; '.join(bad)}" if bad else
                                                  f": {', '.join(reports)}")

@@ -49,6 +49,9 @@ def written(reports: dict[Register, Report], file: str | None) -> None:
         print(found, end="")
         return
     path = pathlib.Path(os.path.abspath(file))
+    if not path.parent.is_dir():
+        raise Refused(f"{path.parent} is not there, so nobody reads these numbers: apt-get install"
+                      " prometheus-node-exporter")
     # (which another user reads)
     files.write(path, found, 0o644)
 

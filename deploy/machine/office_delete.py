@@ -145,4 +145,12 @@ def second_place(register: Register) -> str:
         place = second_copy.place_of()
     except Refused:
         place = f"the place that {SETTINGS / 'second-copy'} names"
-    return f"{place}/{register.name}" if place else ""
+    if not place or has_nothing(place, register):
+        return ""
+    return f"{place}/{register.name}"
+
+
+def has_nothing(place: str, register: Register) -> bool:
+    """Whether a place of this machine is there, and has no folder of the register."""
+    return second_copy.is_local(place) and os.path.isdir(place) and not os.path.lexists(
+        f"{place}/{register.name}")

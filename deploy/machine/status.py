@@ -20,8 +20,10 @@ register cannot be read, or its server or its site does not answer.
 import argparse
 import collections
 import datetime
+import fcntl
 import http.client
 import os
+import pathlib
 import shutil
 import ssl
 import stat
@@ -32,9 +34,11 @@ from register_files import Refused
 
 from office.days import DELETION_NOTICE
 
-from . import certificates, copies, deletion, files, findings, histories, metrics, office_store
+from . import (
+    certificates, copies, deletion, files, findings, histories, metrics, office_store, standby,
+)
 from .desk import site_status_of, status_of
-from .drill import REPORT as DRILL
+from .drill import NOT_TRIED, OPENED, REPORT as DRILL
 from .findings import Finding, Level, Report
 from .registers import REGISTERS, SETTINGS, Register, known, stored
 from .programs import OFFICE, call, is_booted, tool
@@ -50,6 +54,9 @@ OPEN_SECONDS = 3600
 REQUESTS = ("copy", "restore", "deletion-day", "delete")
 JOBS = ("backup", "second-copy", "drill", *(f"office-{it}" for it in REQUESTS))
 State = tuple[bool, str]
+# what an upgrade keeps of what it has stopped, until it has started it again; and dpkg's own lock
+INTERRUPTED = pathlib.Path("/var/lib/admissions/.running-before-upgrade")
+DPKG_LOCK = pathlib.Path("/var/lib/dpkg/lock")
 # the part of a register that the office cannot work without, if it cannot be read
 FILE = "register"
 
@@ -146,6 +153,9 @@ def deletion_of(register: Register) -> State:
 
 
 def file_of(register: Register) -> State:
+    if standby.begun(register):
+        how = f"admissions-setup {register.name} --standby"
+        return False, f"its takeover has not ended: type `{how}`, which goes on"
     found = register.file.lstat()
     season = stored(register.file)
     text = f"{season.phase} {season.year}, {found.st_size:,} bytes"
@@ -171,6 +181,8 @@ def site_of(register: Register) -> State:
     """Whether the application asks who signs in, by nginx, and with the certificate that is in its
     file."""
     if register.host is None:
+        if had_site(register):
+            raise Failed(f"the file of its name is gone: {site_command(register)}")
         return True, "it has none"
     before = time.monotonic()
     try:
@@ -191,6 +203,19 @@ def site_of(register: Register) -> State:
     return True, f"asks who signs in, in {1000 * (time.monotonic() - before):.0f} ms"
 
 
+def had_site(register: Register) -> bool:
+    """Whether a register without a site's name has had one: its key or its application is here, as
+    after a purge of the package."""
+    return register.host is None and (
+        certificates.paths(register)[0].exists() or office_store.path_of(register).exists())
+
+
+def site_command(register: Register) -> str:
+    """What sets the site up again, with its name as far as its certificate has it."""
+    host = certificates.host_of(certificates.paths(register)[1])
+    return f"admissions-setup {register.name} --site {host or 'HOST'}"
+
+
 def first_certificate(register: Register) -> bytes:
     path = certificates.paths(register)[1]
     # (beside the certificate may be any text, which nginx passes over)
@@ -205,6 +230,11 @@ def units_of(register: Register) -> State:
     """Whether what must run, or start by itself, does, and whether what ran last failed."""
     if not is_booted():
         return False, "systemd does not run here"
+    if INTERRUPTED.exists() and not is_dpkg_at_work():
+        return False, ("an upgrade of the package was interrupted, and has stopped what ran:"
+                       " dpkg --configure -a; apt-get install --reinstall admissions")
+    if had_site(register):
+        return False, f"its site is not set up: {site_command(register)}"
     backup, drill = (f"admissions-{it}@{register.name}.timer" for it in ("backup", "drill"))
     desk, bad = f"admissions@{register.name}.service", []
     enabled = (desk, backup, drill, *(["nginx.service"] if register.host else []))
@@ -222,6 +252,19 @@ def units_of(register: Register) -> State:
     if bad:
         return False, "; ".join(bad)
     return True, f"enabled and active; next backup {next_of(backup)}, next drill {next_of(drill)}"
+
+
+def is_dpkg_at_work() -> bool:
+    """Whether a package is being installed now."""
+    try:
+        with open(DPKG_LOCK, "r+", encoding="ascii") as file:
+            fcntl.lockf(file, fcntl.LOCK_EX | fcntl.LOCK_NB)
+    except FileNotFoundError:
+        return False
+    except OSError:
+        # (it is held; or this command may not write there, and cannot know)
+        return True
+    return False
 
 
 def office_units(register: Register) -> list[str]:
@@ -248,7 +291,7 @@ def people_of(register: Register) -> State:
     # (with argon2, which nothing else here needs)
     from office.web.people import HEAD, PERSON
 
-    if register.host is None:
+    if register.host is None and not had_site(register):
         return True, "it has no site"
     found = office_store.people_of(register)
     let_in = [it for it in found if not it.is_locked]
@@ -265,7 +308,7 @@ def people_of(register: Register) -> State:
 def history_of(register: Register) -> State:
     """Whether the history of the application is one that its user alone reads, has no line that was
     changed, and no request of which nobody knows what became."""
-    if register.host is None:
+    if register.host is None and not had_site(register):
         return True, "it has no site"
     path = register.history
     if not os.path.lexists(path):
@@ -313,6 +356,9 @@ def is_recent(seconds: float, limit: float) -> bool:
 def copy_of(register: Register) -> State:
     """The copy that was made last. One that is dated ahead was made by a wrong clock, or the clock
     is wrong now."""
+    if not register.copies.is_dir():
+        how = f"admissions-setup {register.name} makes it"
+        return False, f"{register.copies} is not there, so no copy can be made: {how}"
     made = register.nightly_copies()
     if not made:
         return False, f"none yet: systemctl start admissions-backup@{register.name}"
@@ -352,17 +398,30 @@ def second_of(register: Register) -> State:
         lost = f"no second place is named in {setting}, so all copies are lost with this machine"
         return False, f"{lost}: name one there, or write `{NONE}` if there shall be none"
     found = report_of(register, SECOND)
+    how = f"systemctl start admissions-second-copy@{register.name}"
     if found is None:
-        return False, f"none in {place} yet: systemctl start admissions-second-copy@{register.name}"
+        return False, f"this machine has copied nothing to {place} yet: {how}"
     line, old = found
+    if f" is in {place}/{register.name}, " not in line:
+        return False, f"this machine has copied nothing to {place} yet: {how}; before, {line}"
     return is_recent(old, COPY_HOURS * 3600) and "WARNING" not in line, f"{line}; {age_text(old)}"
 
 
 def drill_of(register: Register) -> State:
+    """The last drill; and where copies are encrypted at the second place and the last one did not
+    open them, the last that did."""
     found = report_of(register, DRILL)
     if found is None:
         return is_young(register), f"none yet: systemctl start admissions-drill@{register.name}"
-    return is_recent(found[1], DRILL_DAYS * 86400), f"{found[0]}; {age_text(found[1])}"
+    is_well = is_recent(found[1], DRILL_DAYS * 86400) and "WARNING" not in found[0]
+    text = f"{found[0]}; {age_text(found[1])}"
+    if NOT_TRIED not in found[0]:
+        return is_well, text
+    if opened := report_of(register, OPENED):
+        is_opened = is_recent(opened[1], DRILL_DAYS * 86400)
+        return is_well and is_opened, f"{text}; one was opened there {age_text(opened[1])}"
+    how = f"/usr/lib/admissions/drill {register.name} --identity FILE"
+    return is_well and is_young(register), f"{text}; none was opened there yet: {how}"
 
 
 def is_young(register: Register) -> bool:
@@ -388,6 +447,10 @@ def certificate_of(register: Register) -> State:
     certificate = certificates.paths(register)[1]
     if register.host is None:
         return True, "it has no site"
+    if problem := certificates.key_problem(register):
+        raise Failed(problem)
+    if problem := certificates.name_problem(certificate, register.host):
+        return False, problem
     days = certificates.days_left(certificate)
     is_own = certificates.is_self_signed(certificate)
     end = datetime.date.today() + datetime.timedelta(days=days)

@@ -127,7 +127,20 @@ def test_a_copy_is_removed_with_what_is_beside_it(
         "nightly-000003-2025-03-03T023000.db",
         "nightly-000003-2025-03-03T023000.tar",
     ]
-    assert len(left) == 4 and left[3].startswith("nightly-000004-")
+    assert len(left) == 5 and left[3].startswith("nightly-000004-")
+
+
+def test_no_number_is_given_twice(
+    register: registers.Register, monkeypatch: pytest.MonkeyPatch
+) -> None:
+    """Also where the last copy was renamed, to be kept, or removed."""
+    for number in (1, 2, 3):
+        backed_up(register, 30, monkeypatch)
+        assert [copies.number(it) for it in register.nightly_copies()] == [number]
+        register.nightly_copies()[-1].rename(register.copies / f"before-round-{number}.db")
+    (register.copies / copies.LAST).write_text("no number")
+    backed_up(register, 30, monkeypatch)
+    assert copies.number(register.nightly_copies()[-1]) == 1
 
 
 @pytest.mark.parametrize(
@@ -179,9 +192,27 @@ def test_the_age_of_the_second_copy(
 ) -> None:
     (machine / "etc/second-copy").write_text("/mnt/copies\n")
     report = register.copies / "second-copy.report"
-    report.write_text("it is there\n")
+    report.write_text(f"x.db is in /mnt/copies/{register.name}, equal to the first copy\n")
     os.utime(report, (time.time() - age, time.time() - age))
     assert status.second_of(register)[0] is is_well
+
+
+def test_a_second_copy_at_another_place_is_none_here(
+    register: registers.Register, machine: pathlib.Path
+) -> None:
+    (machine / "etc/second-copy").write_text("/mnt/other\n")
+    line = f"x.db is in /mnt/copies/{register.name}, equal to the first copy, and opens"
+    (register.copies / "second-copy.report").write_text(f"{line}\n")
+    is_well, text = status.second_of(register)
+    said = "this machine has copied nothing to /mnt/other yet: systemctl start admissions-second-"
+    assert (is_well, text.startswith(said), text.endswith(line)) == (False, True, True)
+
+
+def test_a_folder_of_copies_that_is_gone_is_named(register: registers.Register) -> None:
+    register.copies.rmdir()
+    assert status.copy_of(register) == (
+        False, f"{register.copies} is not there, so no copy can be made: admissions-setup"
+        f" {register.name} makes it")
 
 
 @pytest.mark.parametrize("age, is_well", [(34 * DAY, True), (36 * DAY, False), (-3 * HOUR, False)])

@@ -12,6 +12,7 @@ import pytest
 from machine import deletion, desk, findings, metrics, registers, status
 from machine.findings import Finding, Level
 from office_files import add_people, record
+from register_files import Refused
 
 WELL, BAD, DEAD = (Finding(level, level.name) for level in Level)
 NAME = "secondary-2025"
@@ -164,6 +165,18 @@ def test_the_numbers(
     assert written["admissions_drill_age_seconds", own] in (0, 1)
     assert set(there) <= set(written)
     assert "jane" not in target.read_text(encoding="ascii")
+
+
+def test_numbers_that_nobody_reads_are_refused(tmp_path: pathlib.Path) -> None:
+    with pytest.raises(Refused, match="apt-get install prometheus-node-exporter$"):
+        metrics.written({}, str(tmp_path / "gone/admissions.prom"))
+
+
+def test_what_has_failed_comes_first_in_the_line() -> None:
+    """A monitoring system may cut it."""
+    reports = {"a": {"copy": BAD}, "b": {"copy": BAD, "desk": DEAD}}
+    assert findings.as_line(reports) == (
+        f"FAILED - 2 registers; b desk: {DEAD.text}; a copy: {BAD.text}; b copy: {BAD.text}")
 
 
 def test_a_number_for_each_name_is_described() -> None:

@@ -249,6 +249,16 @@ def test_what_remains_at_the_second_place_is_named_and_deleted_later(
     assert run() == 0 and deletion.record_of(register)["remains"] == ""
 
 
+def test_where_nothing_was_ever_sent_nothing_remains(
+    register: registers.Register, machine: pathlib.Path, capsys: pytest.CaptureFixture[str]
+) -> None:
+    place = machine / "empty"
+    place.mkdir()
+    (machine / "etc/second-copy").write_text(f"{place}\n")
+    assert run() == 0 and "remains" not in capsys.readouterr().out
+    assert deletion.record_of(register)["remains"] == ""
+
+
 def test_a_second_place_that_cannot_be_reached_remains(
     register: registers.Register, machine: pathlib.Path, capsys: pytest.CaptureFixture[str]
 ) -> None:

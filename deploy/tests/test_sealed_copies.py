@@ -1,9 +1,11 @@
 """Copies that are encrypted before they leave for the second place: what arrives there, what opens
 it, and that nothing leaves otherwise where a key is set. With the real age and rsync."""
 import argparse
+import os
 import pathlib
 import shutil
 import subprocess
+import time
 import typing
 
 import pytest
@@ -239,13 +241,72 @@ def test_the_drill_restores_from_the_second_place_with_the_identity(
     whole = SECRET + b" 2, " + SECRET + b" of settings 2"
     tried, lines = drilled(copied, monkeypatch)
     assert tried == [whole] and "not tried: it is encrypted" in lines[1]
+    assert ".db.age: " in lines[1] and not (copied.copies / drill.OPENED).exists()
     tried, lines = drilled(copied, monkeypatch, "--identity", str(key[1]))
     assert tried == [whole, whole] and lines[1].endswith(": restored")
+    assert (copied.copies / drill.OPENED).read_text(encoding="utf-8").endswith(": restored\n")
     shutil.copy(key[1], machine / "etc/second-copy-identity")
     assert drilled(copied, monkeypatch)[0] == [whole, whole]
     _, other = made_key(machine / "other")
-    with pytest.raises(Refused, match="age: "):
+    own, now = public_key(machine / "other"), key[0]
+    with pytest.raises(
+        Refused,
+        match=rf"^nightly-000002.*\.tar\.age is encrypted for another key than that of {other}"
+        rf" \({own}\); copies are encrypted for {now} now$",
+    ):
         drilled(copied, monkeypatch, "--identity", str(other))
+
+
+def public_key(path: pathlib.Path) -> str:
+    done = subprocess.run(["age-keygen", "-y", path], check=True, capture_output=True, text=True)
+    return done.stdout.strip()
+
+
+@pytest.mark.parametrize("mode", [0o644, 0o640, 0o404])
+def test_an_identity_that_others_may_read_is_named_and_no_copy_fails(
+    mode: int, copied: registers.Register, machine: pathlib.Path,
+    key: tuple[str, pathlib.Path], monkeypatch: pytest.MonkeyPatch,
+) -> None:
+    """The copy is made and the drill of the first one ends; both reports need attention."""
+    identity = machine / "etc/second-copy-identity"
+    shutil.copy(key[1], identity)
+    identity.chmod(mode)
+    said = f"{identity} must be of the user admissions, and nobody else may read it: chown"
+    assert f"as it was sent; WARNING: not opened: {said}" in send(copied, machine)
+    _, lines = drilled(copied, monkeypatch)
+    assert f"not tried: WARNING: {said}" in lines[1]
+    assert status.drill_of(copied)[0] is False
+
+
+def test_an_identity_of_another_user_opens_nothing(
+    copied: registers.Register, machine: pathlib.Path, key: tuple[str, pathlib.Path],
+    monkeypatch: pytest.MonkeyPatch,
+) -> None:
+    shutil.copy(key[1], machine / "etc/second-copy-identity")
+    assert sealed.identity()
+    monkeypatch.setattr("machine.files.numbers", lambda *_: (os.getuid() + 1, os.getgid()))
+    with pytest.raises(Refused, match="must be of the user admissions"):
+        sealed.identity()
+
+
+@pytest.mark.parametrize(
+    "days_of_register, days_of_opened, is_well",
+    [(34, None, True), (36, None, False), (400, 34, True), (400, 36, False)],
+)
+def test_encrypted_copies_that_nobody_opens_need_attention(
+    days_of_register: int, days_of_opened: int | None, is_well: bool,
+    register: registers.Register,
+) -> None:
+    """Though a drill of the first copy is made each month."""
+    (register.copies / drill.REPORT).write_text("x.db.age: not tried: it is encrypted\n")
+    ages = {register.settings / "site-name": days_of_register}
+    if days_of_opened is not None:
+        (register.copies / drill.OPENED).write_text("x.db.age: restored\n")
+        ages[register.copies / drill.OPENED] = days_of_opened
+    for path, days in ages.items():
+        os.utime(path, (time.time() - days * 86400, time.time() - days * 86400))
+    found, text = status.drill_of(register)
+    assert (found, "opened there" in text) == (is_well, True)
 
 
 def test_a_record_of_what_was_sent_that_is_lost_or_damaged(

@@ -7,10 +7,13 @@ import os
 import pathlib
 import shutil
 import subprocess
+import sys
 import time
 
 import pytest
-from machine import certificates, deletion, office_store, registers, second_copy, status
+from machine import (
+    certificates, deletion, office_store, registers, second_copy, setup, status,
+)
 from machine.findings import Level
 from office.web.history import SENDS, SETTLED
 from office.web.store import Store
@@ -69,6 +72,8 @@ def test_the_days_of_a_certificate(
 ) -> None:
     monkeypatch.setattr(certificates, "days_left", lambda _: days)
     monkeypatch.setattr(certificates, "is_self_signed", lambda _: is_own)
+    monkeypatch.setattr(certificates, "key_problem", lambda _: None)
+    monkeypatch.setattr(certificates, "name_problem", lambda *_: None)
     assert status.certificate_of(register)[0] is is_well
 
 
@@ -78,7 +83,7 @@ def test_the_days_of_a_certificate(
         (None, False, "no second place is named in"),
         ("# one line\n", False, "write `none` if there shall be none"),
         ("# one line\nnone\n", True, "none, as"),
-        ("/mnt/copies\n", False, "none in /mnt/copies yet"),
+        ("/mnt/copies\n", False, "copied nothing to /mnt/copies yet"),
         ("none\n/mnt/copies\n", False, "must have one line"),
     ],
 )
@@ -387,6 +392,85 @@ def test_who_may_sign_in(
     add_people(office, ("page", "head"), ("sums", "reader"), kind="program")
     add_people(office, ("lou", "head"), locked=True)
     assert status.people_of(office) == (is_well, f"{said}; 2 with a token; 1 locked")
+
+
+def made_certificate(folder: pathlib.Path, host: str, *kind: str) -> None:
+    """A certificate with its key."""
+    subprocess.run(
+        ["openssl", "req", "-x509", "-nodes", "-subj", f"/CN={host}", "-addext",
+         f"subjectAltName=DNS:{host}", "-keyout", folder / "site.key", "-out", folder / "site.crt",
+         *(kind or ("-newkey", "ec", "-pkeyopt", "ec_paramgen_curve:P-256"))],
+        check=True, capture_output=True)
+
+
+@pytest.mark.parametrize("kind", [(), ("-newkey", "rsa:2048")])
+def test_a_certificate_of_another_key_or_site(
+    kind: tuple[str, ...], register: registers.Register, tmp_path: pathlib.Path,
+    capsys: pytest.CaptureFixture[str],
+) -> None:
+    """nginx reports no error of a key of another kind, and serves nothing."""
+    made_certificate(register.settings, "admissions.example")
+    assert certificates.see(register, "admissions.example") == certificates.warning(register)
+    other = tmp_path / "other"
+    other.mkdir()
+    made_certificate(other, "admissions.example", *kind)
+    shutil.copy(other / "site.crt", register.settings)
+    found = status.report(register)["certificate"]
+    said = f"{register.settings}/site.crt is not of the key {register.settings}/site.key"
+    assert (found.level, found.text.startswith(said)) == (Level.FAILED, True)
+    with pytest.raises(Refused, match=said):
+        certificates.see(register, "admissions.example")
+    assert list(setup.other_problems(None)) == [f"WARNING: {found.text}"]
+    assert not list(setup.other_problems(register))
+    made_certificate(register.settings, "other.example")
+    found = status.report(register)["certificate"]
+    assert (found.level, "is of other.example, and not of admissions.example" in found.text) == (
+        Level.ATTENTION, True)
+    assert str(certificates.see(register, "admissions.example")).startswith("WARNING: ")
+    made_certificate(register.settings, "*.county.example")
+    made = register.settings / "site.crt"
+    assert certificates.name_problem(made, "admissions.county.example") is None
+
+
+def test_a_register_whose_site_name_is_gone(
+    office: registers.Register, monkeypatch: pytest.MonkeyPatch
+) -> None:
+    """As after a purge: what sets it up again is named, with the name that its certificate has."""
+    made_certificate(office.settings, "admissions.example")
+    monkeypatch.setattr(status, "is_booted", lambda: True)
+    (office.settings / "site-name").unlink()
+    found, how = status.report(office), f"admissions-setup {office.name} --site"
+    assert found["site"] == (
+        Level.FAILED, f"the file of its name is gone: {how} admissions.example")
+    assert found["units"] == (
+        Level.ATTENTION, f"its site is not set up: {how} admissions.example")
+    assert found["people"] == (Level.ATTENTION, "nobody can sign in")
+    (office.settings / "site.crt").unlink()
+    assert status.report(office)["site"].text.endswith(f"{how} HOST")
+
+
+def test_an_upgrade_that_was_interrupted(
+    register: registers.Register, machine: pathlib.Path, monkeypatch: pytest.MonkeyPatch
+) -> None:
+    """One that is being made is none."""
+    monkeypatch.setattr(status, "is_booted", lambda: True)
+    monkeypatch.setattr(status, "shown_of", lambda *_: {
+        "ActiveState": "active", "UnitFileState": "enabled", "NextElapseUSecRealtime": ""})
+    monkeypatch.setattr(status, "INTERRUPTED", machine / "kept")
+    monkeypatch.setattr(status, "DPKG_LOCK", machine / "lock")
+    assert status.units_of(register)[0] is True
+    (machine / "kept").touch()
+    is_well, text = status.units_of(register)
+    assert (is_well, text.endswith("apt-get install --reinstall admissions")) == (False, True)
+    (machine / "lock").touch()
+    assert status.units_of(register)[0] is False
+    code = "import fcntl, sys; f = open(sys.argv[1], 'r+'); fcntl.lockf(f, fcntl.LOCK_EX); print(); input()"
+    with subprocess.Popen([sys.executable, "-c", code, machine / "lock"], stdin=subprocess.PIPE,
+                          stdout=subprocess.PIPE) as dpkg:
+        assert dpkg.stdout and dpkg.stdout.readline()
+        assert status.units_of(register)[0] is True
+        dpkg.communicate(b"\n")
+    assert status.units_of(register)[0] is False
 
 
 def test_the_people_are_read_while_the_application_writes(office: registers.Register) -> None:
