@@ -1,6 +1,7 @@
 """What admissions-setup is given: each option or answer is taken in one form, and what cannot be
 taken is named as it was typed."""
 import datetime
+import os
 import re
 import sys
 import typing
@@ -13,6 +14,7 @@ from .registers import PHASES
 MOST_HOLIDAYS = 40
 DAY = re.compile(r"\d{4}-\d\d-\d\d", re.ASCII)
 NONE = "none"
+SATURDAY = 5
 Taken = typing.TypeVar("Taken")
 
 
@@ -42,6 +44,22 @@ def holidays(texts: list[str]) -> list[str]:
     return sorted(set(texts))
 
 
+def doubts_of(name: str, year_of: int, days: list[str]) -> list[str]:
+    """What may be wrong of the season of a new register, or of its holidays: a line each."""
+    found = [f"the name {name} has the year {it}, and the register is for {year_of}"
+             for it in re.findall(r"(?<!\d)20\d\d(?!\d)", name) if int(it) != year_of]
+    # (applications are made from September on, and the lists end with the year)
+    first, last = datetime.date(year_of - 1, 9, 1), datetime.date(year_of, 12, 31)
+    for it in days:
+        day = datetime.date.fromisoformat(it)
+        if not first <= day <= last:
+            found.append(f"{it} is not in the season for {year_of},"
+                         f" {first.isoformat()} to {last.isoformat()}")
+        elif day.weekday() >= SATURDAY:
+            found.append(f"{it} is a {day:%A}, which is no working day anyway")
+    return found
+
+
 def host(text: str) -> str:
     if not sites.HOST.fullmatch(text):
         raise Refused(
@@ -56,6 +74,14 @@ def authority(text: str) -> str:
     if not text.strip() or not text.isprintable():
         raise Refused(f"{text!r} is no name of an authority: it is one line", 2)
     return text
+
+
+def file(name: str) -> str:
+    """The path of a file that is there, from the root on: openssl is called in another folder."""
+    path = os.path.abspath(name)
+    if not os.path.isfile(path):
+        raise Refused(f"{path} is not there, or is no file", 2)
+    return path
 
 
 def ask(question: str, take: typing.Callable[[str], Taken], default: str = "") -> Taken:

@@ -1,6 +1,7 @@
 """The people of a register's application, for whoever sets up a machine: they are in office.db, and
 each change is left there for the history of the application, which takes it at its next request."""
 import contextlib
+import datetime
 import os
 import typing
 
@@ -40,10 +41,17 @@ def teller() -> str:
     return f"administrator of the machine{f' ({who})' if who.isprintable() and who else ''}"
 
 
+def tell(kept: store.Store, what: str, about: dict[str, str]) -> None:
+    """Leaves a change for the history, with its time: the history has it with the next request of
+    somebody who is signed in, which may be much later."""
+    now = datetime.datetime.now(datetime.timezone.utc).isoformat(timespec="seconds")
+    kept.tell(teller(), what, {**about, "done_at": now})
+
+
 def add(register: Register, name: str, role: str) -> str:
     """Adds a person, and returns the drawn password."""
     with opened(register) as (found, kept), kept.writing():
-        kept.tell(teller(), "added", {"person": name, "role": role, "kind": people.PERSON})
+        tell(kept, "added", {"person": name, "role": role, "kind": people.PERSON})
         return found.add(name, role)
 
 
@@ -51,21 +59,21 @@ def set_role(register: Register, before: User, role: str) -> None:
     """Gives a person another role."""
     with opened(register) as (found, kept), kept.writing():
         told = {"person": before.name, "role": role, "before": before.role}
-        kept.tell(teller(), "gave a role", told)
+        tell(kept, "gave a role", told)
         found.set_role(before.name, role)
 
 
 def reset(register: Register, name: str) -> str:
     """Draws another password or token, and returns it. A person who was locked stays so."""
     with opened(register) as (found, kept), kept.writing():
-        kept.tell(teller(), "drew a new password", {"person": name})
+        tell(kept, "drew a new password", {"person": name})
         return found.reset(name)
 
 
 def remove(register: Register, user: User) -> None:
     """Removes a person."""
     with opened(register) as (found, kept), kept.writing():
-        kept.tell(teller(), "removed", {"person": user.name, "role": user.role})
+        tell(kept, "removed", {"person": user.name, "role": user.role})
         found.remove(user.name)
 
 
@@ -76,7 +84,7 @@ def set_provider(register: Register, text: str) -> None:
     with opened(register) as (_, kept), kept.writing():
         provider = authority.provider_in(text) if text else None
         told = {"issuer": provider.issuer if provider else "none"}
-        kept.tell(teller(), "changed the sign-in by the authority's accounts", told)
+        tell(kept, "changed the sign-in by the authority's accounts", told)
         authority.set_provider(kept, provider)
 
 

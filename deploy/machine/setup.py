@@ -11,27 +11,32 @@ its timers.
   admissions-setup NAME --holiday DAY..
   admissions-setup --sites
 
-The first form asks on a terminal for what is not given. It makes what is
-missing, and changes nothing that is there: typed twice, it does nothing the
-second time. Each register has a NAME, such as secondary-2025, a HOST of its
-own, such as secondary.admissions.example, and people of its own. With --copy
-the register is made from a copy, which has its own phase, year and holidays,
-and people, settings and history from what the nightly backup left beside it.
-With --standby another machine goes on with a register of one that is lost: what
+The first form asks on a terminal for what is not given; without one, holidays
+must be given too, or none. A holiday outside of the season, one on a weekend
+and a NAME with another year are shown before. It makes what is missing, and
+changes nothing that is there: typed twice, it does nothing the second time.
+Each register has a NAME, such as secondary-2025, a HOST of its own, such as
+secondary.admissions.example, and people of its own. With --copy the register
+is made from a copy, which has its own phase, year and holidays, and people,
+settings and history from what the nightly backup left beside it. With
+--standby another machine goes on with a register of one that is lost: what
 PLACE has, or the second place that /etc/admissions/second-copy names, is
-fetched, the register is made from the copy that was made last, and the commands
-that were sent since, as far as the history there has them, are printed, to be
-sent again. The fourth form adds a person, changes the role of one, draws
+fetched, the register is made from the copy that was made last, and the
+commands that were sent since, as far as the history there has them, are
+printed, to be sent again. Typed again after it was killed, it goes on and
+prints them. The fourth form adds a person, changes the role of one, draws
 another password, removes a person, or lists them. A password is drawn, printed
 once, and changed by whoever signs in with it. The people of a register are
 otherwise the office's own task, on the screen People of the site: what is done
 here is in the history too. The fifth form signs people in by the accounts of
 the authority over OpenID Connect: FILE has title, issuer, client, secret and
 claim as JSON, and the word none in place of FILE ends that. The sixth form
-replaces the holidays of a register that is still empty. The last form makes all
-sites again, after a change of /etc/nginx/sites-available/admissions. A change
-of what is there is shown, and is done after a yes on the terminal, or with
---yes. --new-password alone ends the old password without a question.
+replaces the holidays of a register that is still empty. The last form makes
+all sites again, after a change of /etc/nginx/sites-available/admissions. A
+certificate of another site is refused; a key and certificate that are replaced
+are kept beside the new ones. A change of what is there is shown, and is done
+after a yes on the terminal, or with --yes. --new-password alone ends the old
+password without a question.
 
 example:
   admissions-setup secondary-2025 --phase secondary --year 2025 \\
@@ -171,16 +176,20 @@ def set_up_as_given(given: argparse.Namespace) -> int:
 
 def set_up(register: Register, given: argparse.Namespace, changes: "Changes") -> int:
     see_site_is_free(register, given)
+    is_new = not register.is_made
     report(make_folders(register))
     for step in (make_register, take_settings, make_settings):
         report(step(register, given))
     if changes.holidays is not None:
         report([holidays.change(register, given.holiday, changes.holidays)])
+    warning = certificates.see(register, given.site)
     if given.user:
         report(make_user(register, given, changes))
     report(sites.make_all())
+    report(other_problems(register))
     has_started = start(register)
-    if warning := certificates.warning(register):
+    # (and not below each password that is drawn later)
+    if warning and (is_new or not given.user):
         print(warning)
     return 0 if has_started else 1
 
@@ -192,12 +201,21 @@ def again() -> int:
     for register in registers:
         report(make_folders(register))
     report(sites.make_all())
+    report(other_problems(None))
     begin([unit for it in registers for unit in office_units(it)])
     for register in registers:
         if not people.users_of(register):
             how = f"admissions-setup {register.name} --user NAME --role head"
             print(f"WARNING: nobody may sign in at {register.name} yet: {how}")
     return 0
+
+
+def other_problems(register: Register | None) -> typing.Iterator[str]:
+    """A warning for each other site that nginx cannot serve, though it has read its files: the key
+    may be of another kind than the certificate."""
+    for it in sites.registers_with_site():
+        if it != register and (problem := certificates.key_problem(it)):
+            yield f"WARNING: {problem}"
 
 
 def report(lines: typing.Iterable[str]) -> None:
@@ -234,6 +252,9 @@ def checked(given: argparse.Namespace) -> None:
         raise Refused("--phase, --year and --holiday are for a new register: a copy has its own", 2)
     if bool(given.certificate) != bool(given.key):
         raise Refused("--certificate and --key belong together", 2)
+    for name in ("certificate", "key"):
+        if getattr(given, name):
+            setattr(given, name, answers.file(getattr(given, name)))
 
 
 def completed(given: argparse.Namespace) -> Register:
@@ -244,8 +265,7 @@ def completed(given: argparse.Namespace) -> Register:
         given.phase = given.phase or ask("--phase (primary or secondary)", answers.phase)
         given.year = given.year or ask("--year of entry", answers.year)
         given.name = given.name or name_of(given)
-        is_asked = not given.has_holidays and not named(given.name).is_made and sys.stdin.isatty()
-        if is_asked:
+        if not given.has_holidays and not named(given.name).is_made:
             given.holiday = ask(
                 "--holiday days (YYYY-MM-DD, separated by blanks), or none",
                 lambda it: answers.holidays([] if it == answers.NONE else it.split()),
@@ -268,9 +288,12 @@ def completed(given: argparse.Namespace) -> Register:
     elif not given.user and not users:
         given.user = ask("--user, who signs in first", people.checked_name)
     if given.user and not given.role and given.user not in users:
+        if given.new_password:
+            raise nobody(register, given.user, users)
         given.role = ask(f"--role of {given.user}: {people.ROLES_TEXT}", people.checked_role)
     if (
         given.authority is None
+        and not register.is_made
         and not AUTHORITY.exists()
         and "authority" not in copied
         and sys.stdin.isatty()
@@ -281,6 +304,12 @@ def completed(given: argparse.Namespace) -> Register:
             answers.NONE,
         )
     return register
+
+
+def nobody(register: Register, name: str, users: dict[str, people.User]) -> Refused:
+    """The refusal of who is none of the people of a register."""
+    there = ", ".join(users) or "none"
+    return Refused(f"{name!r} is nobody of {register.name}; its people: {there}")
 
 
 def name_of(season: model.Register | argparse.Namespace) -> str:
@@ -297,6 +326,7 @@ class Changes(typing.NamedTuple):
 
 def confirmed(register: Register, given: argparse.Namespace) -> Changes:
     """Shows what of a register that is there will be changed, and has it confirmed."""
+    see_season(register, given)
     user = people.users_of(register).get(given.user) if given.user else None
     if user and given.role and user.role != given.role:
         confirm(f"the role of {user.name} changes from {user.role} to {given.role}", given.yes)
@@ -307,10 +337,12 @@ def confirmed(register: Register, given: argparse.Namespace) -> Changes:
             f" from {authority} to {given.authority}",
             given.yes,
         )
+    if given.certificate and given.site:
+        certificates.see_name(given.certificate, given.site)
     if given.certificate and certificates.is_lost(register, given.certificate, given.key):
         confirm(
-            f"the certificate and the key of {register.name} are replaced,"
-            " and those that are there are kept nowhere",
+            f"the certificate and the key of {register.name} are replaced, and those that are there"
+            " are kept beside them as site.crt.before and site.key.before",
             given.yes,
         )
     before = None
@@ -321,6 +353,22 @@ def confirmed(register: Register, given: argparse.Namespace) -> Changes:
         else:
             print(f"{register.name} has just these holidays")
     return Changes(user, before)
+
+
+def see_season(register: Register, given: argparse.Namespace) -> None:
+    """Shows what may be wrong of the year and the holidays of a register that is made, and has it
+    confirmed: the holidays decide the offer day, and the year all days."""
+    if given.copy or register.is_made and (
+        not given.has_holidays or holidays.days_of(register.file) == given.holiday
+    ):
+        return
+    # (the year of one that is there was confirmed when it was made)
+    name, year = (
+        ("", stored(register.file).year) if register.is_made else (register.name, given.year))
+    if doubts := answers.doubts_of(name, year, given.holiday):
+        if given.yes:
+            print("\n".join(f"WARNING: {it}" for it in doubts), flush=True)
+        confirm("; ".join(doubts), given.yes)
 
 
 def see_site_is_free(register: Register, given: argparse.Namespace) -> None:
@@ -361,13 +409,14 @@ def make_register(register: Register, given: argparse.Namespace) -> typing.Itera
                 " give another one another NAME"
             )
         if given.copy:
+            # (a run that was killed after the restore left it of root)
+            give_to_desk(register)
+        if given.copy and given.standby is None:
             how = "admissions-restore puts a copy in its place"
             yield f"{file} is there already, and stays as it is: {how}"
     elif given.copy:
         call(program("admissions-restore"), os.path.abspath(given.copy), file)
-        for path in register.folder.iterdir():
-            # (of a link, which the user of the desks may have made, that itself)
-            os.chown(path, *files.numbers(USER, USER), follow_symlinks=False)
+        give_to_desk(register)
         yield f"made {file} from {given.copy}"
     else:
         call(
@@ -381,6 +430,13 @@ def make_register(register: Register, given: argparse.Namespace) -> typing.Itera
         )
         days = f"holidays {' '.join(given.holiday)}" if given.holiday else "without holidays"
         yield f"made {file}, for {given.phase} {given.year}, {days}"
+
+
+def give_to_desk(register: Register) -> None:
+    """Gives the files of a register to the user of the desks."""
+    for path in register.folder.iterdir():
+        # (of a link, which that user may have made, that itself)
+        os.chown(path, *files.numbers(USER, USER), follow_symlinks=False)
 
 
 def take_settings(register: Register, given: argparse.Namespace) -> typing.Iterator[str]:
@@ -422,8 +478,9 @@ def make_user(
         role = found.role if found else "none"
         raise Refused(f"the role of {name} was changed meanwhile: it is {role}")
     if not found:
+        another = f"admissions-setup {register.name} --user {name} --new-password"
+        yield f"{name} gets the role {given.role}; if no password is below, draw one: {another}"
         password = people.add(register, name, given.role)
-        yield f"{name} has the role {given.role}"
         yield f"{name} signs in at https://{register.host}/ with the password {password}"
         return
     if given.role and given.role != found.role:
@@ -433,7 +490,8 @@ def make_user(
         password = people.reset(register, name)
         yield f"{name} signs in at https://{register.host}/ with the password {password}"
     else:
-        yield f"{name} keeps the password"
+        another = f"admissions-setup {register.name} --user {name} --new-password"
+        yield f"{name} keeps the password; to draw another one: {another}"
 
 
 def list_users(register: Register) -> int:
@@ -449,8 +507,7 @@ def remove_user(register: Register, given: argparse.Namespace) -> int:
     users = people.users_of(register)
     user = users.get(given.remove)
     if user is None:
-        there = ", ".join(users) or "none"
-        raise Refused(f"{given.remove!r} is nobody of {register.name}; its people: {there}")
+        raise nobody(register, given.remove, users)
     confirm(f"{user.name}, with the role {user.role}, is removed from {register.name}", given.yes)
     with files.lock():
         people.remove(register, user)
@@ -463,7 +520,7 @@ def remove_user(register: Register, given: argparse.Namespace) -> int:
 def set_accounts(register: Register, name: str) -> int:
     """Signs people in by the accounts of the authority, or no more; and lets the application out
     into the network only for that."""
-    text = "" if name == answers.NONE else pathlib.Path(name).read_text(encoding="utf-8")
+    text = "" if name == answers.NONE else pathlib.Path(answers.file(name)).read_text("utf-8")
     unit = f"admissions-office@{register.name}.service"
     path = UNITS / f"{unit}.d" / "accounts.conf"
     with files.lock():

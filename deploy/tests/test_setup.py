@@ -19,7 +19,9 @@ import typing
 
 import pytest
 from conftest import document
-from machine import answers, files, holidays, people, registers, settings_copy, setup
+from machine import (
+    answers, certificates, files, holidays, people, registers, settings_copy, setup,
+)
 from office.web import authority
 from register_files import Refused
 from setup_arguments import given_to_setup
@@ -233,6 +235,7 @@ def test_a_user_without_a_role_is_refused_and_the_roles_are_named(
         (["--role", "head"], "whose role"),
         (["--new-password"], "whose password"),
         (["--key", "site.key"], "belong together"),
+        (["--key", "/gone.key", "--certificate", "/gone.crt"], "^/gone.crt is not there"),
         (["--year", "25"], "'25' is no year"),
         (["--holiday", "3/4/2026"], "write YYYY-MM-DD"),
     ],
@@ -255,7 +258,13 @@ def told(register: registers.Register) -> list[tuple[str, dict[str, str]]]:
     """What is left for the history of the application."""
     with people.opened(register) as (_, kept):
         rows = kept.rows("SELECT what, about FROM told ORDER BY number")
-    return [(it["what"], json.loads(it["about"])) for it in rows]
+    found = [(it["what"], json.loads(it["about"])) for it in rows]
+    # (each has the time at which it was done: the history takes it later)
+    now = datetime.datetime.now(datetime.timezone.utc)
+    for _, about in found:
+        done_at = datetime.datetime.fromisoformat(about.pop("done_at"))
+        assert now - datetime.timedelta(hours=1) < done_at <= now
+    return found
 
 
 def signs_in(register: registers.Register, name: str, password: str) -> bool:
@@ -268,6 +277,9 @@ def signs_in(register: registers.Register, name: str, password: str) -> bool:
         return True
 
 
+ANOTHER = "admissions-setup secondary-2025 --user jane --new-password"
+
+
 def test_a_person_is_added_and_signs_in_with_the_drawn_password(
     register: registers.Register, write_as_me: None
 ) -> None:
@@ -275,7 +287,7 @@ def test_a_person_is_added_and_signs_in_with_the_drawn_password(
     lines = list(setup.make_user(register, given_user("jane"), setup.Changes(None, None)))
     password = lines[1].rpartition(" ")[2]
     assert lines == [
-        "jane has the role head",
+        f"jane gets the role head; if no password is below, draw one: {ANOTHER}",
         f"jane signs in at https://admissions.example/ with the password {password}",
     ]
     assert len(password) == 24 and signs_in(register, "jane", password)
@@ -328,11 +340,12 @@ def test_a_role_that_is_there_is_kept_or_changed_and_the_password_stays(
 ) -> None:
     password = people.reset(users, "jane")
     before = setup.Changes(people.users_of(users)["jane"], None)
-    assert list(setup.make_user(users, given_user("jane"), before)) == ["jane keeps the password"]
+    kept = f"jane keeps the password; to draw another one: {ANOTHER}"
+    assert list(setup.make_user(users, given_user("jane"), before)) == [kept]
     reader = given_to_setup("secondary-2025", "--user", "jane", "--role", "reader")
     assert list(setup.make_user(users, reader, before)) == [
         "jane has the role reader, and no longer head",
-        "jane keeps the password",
+        kept,
     ]
     assert signs_in(users, "jane", password)
     with pytest.raises(Refused, match="the role of jane was changed meanwhile: it is reader"):
@@ -654,7 +667,7 @@ def see_confirmed(register: registers.Register, words: list[str], said: str) -> 
 
 REPLACED = (
     "the certificate and the key of secondary-2025 are replaced,"
-    " and those that are there are kept nowhere"
+    " and those that are there are kept beside them as site.crt.before and site.key.before"
 )
 
 
@@ -703,6 +716,107 @@ def test_another_certificate_or_key_is_confirmed(
         ["--certificate", str(machine / "site.crt"), "--key", str(machine / "site.key")],
         said,
     )
+
+
+def certificate_of(host: str, folder: pathlib.Path) -> list[str]:
+    """The options with a certificate of a site and its key, which are made."""
+    folder.mkdir()
+    subprocess.run(
+        ["openssl", "req", "-x509", "-newkey", "ec", "-pkeyopt", "ec_paramgen_curve:P-256",
+         "-nodes", "-subj", f"/CN={host}", "-addext", f"subjectAltName=DNS:{host}", "-keyout",
+         folder / "new.key", "-out", folder / "new.crt"], check=True, capture_output=True)
+    return ["--certificate", "new.crt", "--key", "new.key"]
+
+
+def test_what_a_certificate_replaces_is_kept_and_the_request_of_the_old_key_is_not(
+    register: registers.Register, machine: pathlib.Path, monkeypatch: pytest.MonkeyPatch,
+    write_as_me: None,
+) -> None:
+    """The names may be relative. A certificate of another site is refused."""
+    list(certificates.make(register, "admissions.example"))
+    before = [(register.settings / it).read_bytes() for it in ("site.key", "site.crt")]
+    words = certificate_of("admissions.example", machine / "new")
+    monkeypatch.chdir(machine / "new")
+    given = given_to_setup(register.name, *words, "--yes")
+    assert certificates.take(register, given.certificate, given.key) is True
+    names = ("site.key.before", "site.crt.before")
+    assert [(register.settings / it).read_bytes() for it in names] == before
+    assert (register.settings / names[0]).stat().st_mode & 0o777 == 0o600
+    assert not (register.settings / "site.csr").exists()
+    assert certificates.take(register, given.certificate, given.key) is False
+    assert [(register.settings / it).read_bytes() for it in names] == before
+    words = certificate_of("other.example", machine / "other")
+    monkeypatch.chdir(machine / "other")
+    given = given_to_setup(register.name, *words, "--site", "admissions.example", "--yes")
+    with pytest.raises(Refused, match="is of other.example, and not of admissions.example"):
+        setup.confirmed(register, given)
+
+
+@pytest.mark.parametrize(
+    "name, days, said",
+    [
+        ("secondary-2026", ["2026-04-03", "2025-12-25"], []),
+        ("secondary-2028", [], ["the name secondary-2028 has the year 2028, and the register is"
+                                " for 2026"]),
+        ("x", ["2062-04-03"], ["2062-04-03 is not in the season for 2026, 2025-09-01 to"
+                               " 2026-12-31"]),
+        ("x", ["2025-08-31", "2027-01-01", "2026-04-04"],
+         ["2025-08-31 is not in the season for 2026, 2025-09-01 to 2026-12-31",
+          "2027-01-01 is not in the season for 2026, 2025-09-01 to 2026-12-31",
+          "2026-04-04 is a Saturday, which is no working day anyway"]),
+    ],
+)
+def test_what_may_be_wrong_of_a_season_is_shown_and_confirmed(
+    name: str, days: list[str], said: list[str], machine: pathlib.Path,
+    monkeypatch: pytest.MonkeyPatch, capsys: pytest.CaptureFixture[str],
+) -> None:
+    monkeypatch.setattr(sys, "stdin", io.StringIO(""))
+    words = [name, "--phase", "secondary", "--year", "2026"]
+    words += [it for day in days for it in ("--holiday", day)]
+    register = registers.named(name)
+    if said:
+        with pytest.raises(Refused, match="if this is right, repeat it with --yes") as found:
+            setup.see_season(register, given_to_setup(*words))
+        assert (found.value.status, str(found.value).startswith(said[0])) == (2, True)
+    setup.see_season(register, given_to_setup(*words, "--yes"))
+    assert capsys.readouterr().out == "".join(f"WARNING: {it}\n" for it in said)
+
+
+def test_a_holiday_that_is_there_already_is_not_doubted(register: registers.Register) -> None:
+    """So that the same command may run again."""
+    register.file.write_text(document(holidays=["2025-03-02"]), encoding="utf-8")
+    words = [register.name, "--holiday", "2025-03-02"]
+    setup.see_season(register, given_to_setup(*words))
+    with pytest.raises(Refused, match="2025-03-01 is a Saturday"):
+        setup.see_season(register, given_to_setup(*words, "--holiday", "2025-03-01"))
+
+
+def test_without_a_terminal_a_new_register_needs_its_holidays(
+    machine: pathlib.Path, monkeypatch: pytest.MonkeyPatch
+) -> None:
+    monkeypatch.setattr(sys, "stdin", io.StringIO(""))
+    words = ["--phase", "secondary", "--year", "2026", "--site", "x.example", "--user", "mary",
+             "--role", "head"]
+    with pytest.raises(Refused, match="^not given: --holiday days") as found:
+        setup.completed(given_to_setup(*words))
+    assert found.value.status == 2
+    setup.completed(given_to_setup(*words, "--holiday", "none"))
+
+
+def test_of_a_register_that_is_there_no_authority_is_asked(
+    users: registers.Register, machine: pathlib.Path, monkeypatch: pytest.MonkeyPatch
+) -> None:
+    """An answer to another question would be the name on each sheet."""
+    monkeypatch.setattr(setup, "AUTHORITY", machine / "etc/authority")
+    found = completed(monkeypatch, "yes\n", users.name, "--holiday", "2025-03-03")
+    assert (found.authority, sys.stdin.read()) == (None, "yes\n")
+
+
+def test_another_password_of_nobody_names_who_is_there(
+    users: registers.Register, machine: pathlib.Path
+) -> None:
+    with pytest.raises(Refused, match="'zed' is nobody of secondary-2025; its people: ben, jane$"):
+        setup.completed(given_to_setup(users.name, "--user", "zed", "--new-password"))
 
 
 def test_what_the_application_lacks_is_named_before_anything_is_made(
