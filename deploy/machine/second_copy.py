@@ -239,9 +239,9 @@ def opened_sealed(register: Register, place: str, newest: pathlib.Path) -> str:
     """Whether the newest copy opens, as far as that can be known here."""
     try:
         identity = sealed.identity()
-    except Refused as error:
+    except Refused as refused:
         # (the copy is made, and what is there is what was sent)
-        return f"as it was sent; WARNING: not opened: {error}"
+        return f"as it was sent; WARNING: not opened: {refused}"
     if identity is None:
         return "as it was sent; not opened, since its identity file is not here"
     with tempfile.TemporaryDirectory() as room:

@@ -762,8 +762,8 @@ def test_what_a_certificate_replaces_is_kept_and_the_request_of_the_old_key_is_n
                                " 2026-12-31"]),
         ("x", ["2025-08-31", "2027-01-01", "2026-04-04"],
          ["2025-08-31 is not in the season for 2026, 2025-09-01 to 2026-12-31",
-          "2027-01-01 is not in the season for 2026, 2025-09-01 to 2026-12-31",
-          "2026-04-04 is a Saturday, which is no working day anyway"]),
+          "2026-04-04 is a Saturday, which is no working day anyway",
+          "2027-01-01 is not in the season for 2026, 2025-09-01 to 2026-12-31"]),
     ],
 )
 def test_what_may_be_wrong_of_a_season_is_shown_and_confirmed(
