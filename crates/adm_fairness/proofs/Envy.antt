@@ -1,11 +1,13 @@
 -- No command makes a child envy another, but those that may cause it.
-use Rattle.std.proofs.Common.{◌∙◌, ap, sym, subst, refl, ℕ, [], ◌∷◌, inl, inr}
+use Rattle.std.proofs.Common.{◌≡◌, ◌∙◌, ap, sym, subst, refl, ℕ, Bool, true, false, [], ◌∷◌, inl, inr}
 use Rattle.std.specs.Prelude.{◌⊎◌}
+use Rattle.std.proofs.lemmas.Bool.{false≢true}
 use Rattle.adm_types.specs.declared.commands.Command.{Command}
 use Rattle.adm_types.specs.declared.commands.Command.TheVariants as command
 use Rattle.adm_match.specs.Market.{Code}
 use Rattle.adm_round.specs.Outcomes.{AllotmentFits}
 use Rattle.adm_register.specs.State.{State}
+use Rattle.adm_register.specs.Waits.{is_waiting}
 use Rattle.adm_register.specs.Change.{after}
 use Rattle.adm_register.specs.WellFormed.{WellFormed}
 use Rattle.adm_register.proofs.Fits.{after-keeps}
@@ -13,6 +15,8 @@ use Rattle.adm_commands.specs.Commands.{KeptByTypes}
 use Rattle.adm_commands.specs.Steps.{Accepts}
 use Rattle.adm_commands.proofs.EachCommand.{shows}
 use Rattle.adm_commands.proofs.Shows.{no_row}
+use Rattle.adm_fairness.specs.Rounds.{has_place_at}
+use Rattle.adm_fairness.specs.Code.{is_ahead_at}
 use Rattle.adm_fairness.specs.Season.{Envies, MayCauseEnvy, NoNewEnvy, EnvyHasCause}
 use Rattle.adm_fairness.proofs.Fills.{is_fill}
 use Rattle.adm_fairness.proofs.EnvyRows.{add_school_case, raise_case, add_child_case, amend_case, apply_case, accept_case, remind_case, end_case, leave_case, plan_case}
@@ -75,14 +79,42 @@ kept_well law old new asked kept well accepts =
     let effect = accepts.1.1 in
     subst WellFormed (sym effect.2) (after-keeps old effect.0 well ((shows asked).fits old kept well law accepts.1.0 effect.0 accepts.0 effect.1))
 
+-- whether a child envies another is decided by three tests
+decided : (s : State) (child other : ℕ) (code : Code) → Envies s child other code ⊎ (Envies s child other code → ⊥)
+decided s child other code = by (is_waiting s child code) (has_place_at s code other) (is_ahead_at s code child other) refl refl refl
+  where
+    by : (w h a : Bool) → is_waiting s child code ≡ w → has_place_at s code other ≡ h → is_ahead_at s code child other ≡ a
+        → Envies s child other code ⊎ (Envies s child other code → ⊥)
+    by true true true w h a = inl (record { waits = w; held = h; ahead = a })
+    by true true false w h a = inr (λ e. false≢true (sym a ∙ e.ahead))
+    by true false a w h is = inr (λ e. false≢true (sym h ∙ e.held))
+    by false h a w held is = inr (λ e. false≢true (sym w ∙ e.waits))
+
+caused : (s : State) (child other : ℕ) (code : Code) (asked : Command) → (Envies s child other code → ⊥) → Envies s child other code ⊎ MayCauseEnvy s child other asked
+    → MayCauseEnvy s child other asked
+caused s child other code asked none (inl first) = absurd (none first)
+caused s child other code asked none (inr causes) = causes
+
 pub envy_has_cause_law : AllotmentFits → EnvyHasCause
 envy_has_cause_law law old new [] child other code well kept reaches e = inl (subst (λ s. Envies s child other code) reaches e)
 envy_has_cause_law law old new (asked ∷ commands) child other code well kept reaches e =
     let mid = reaches.0 in
     elim (envy_has_cause_law law mid new commands child other code (kept_well law old mid asked kept.0 well reaches.1) kept.1 reaches.2 e) [
-      | inl before ↦ elim (no_new_envy_at law old mid child other code well asked reaches.1 before) [
+      | inl before ↦ elim (decided old child other code) [
         | inl first ↦ inl first
-        | inr causes ↦ inr (record { before = []; command = asked; later = commands; are = refl; mid = old; reached = refl; causes = causes })
+        | inr none ↦ inr (record {
+          before = [];
+          command = asked;
+          later = commands;
+          are = refl;
+          mid = old;
+          reached = refl;
+          next = mid;
+          accepted = reaches.1;
+          not_yet = none;
+          begins = before;
+          causes = caused old child other code asked none (no_new_envy_at law old mid child other code well asked reaches.1 before);
+        })
       ]
       | inr later ↦ inr (record {
         before = asked ∷ later.before;
@@ -91,6 +123,10 @@ envy_has_cause_law law old new (asked ∷ commands) child other code well kept r
         are = ap (λ cs. asked ∷ cs) later.are;
         mid = later.mid;
         reached = (mid, reaches.1, later.reached);
+        next = later.next;
+        accepted = later.accepted;
+        not_yet = later.not_yet;
+        begins = later.begins;
         causes = later.causes;
       })
     ]

@@ -61,22 +61,26 @@ NoNewEnvy =
     → WellFormed old → Accepts old command new
     → Envies new child other code → Envies old child other code ⊎ MayCauseEnvy old child other command
 
--- one of the commands, on the register that those before it leave, may cause the envy
-pub record HasCause (old : State) (commands : List Command) (child other : ℕ) : Type 0 where
+-- One of the commands may cause the envy, and the envy began with it: there was none on the register that those before it leave, and there is after it.
+pub record HasCause (old : State) (commands : List Command) (child other : ℕ) (code : Code) : Type 0 where
   pub before : List Command
   pub command : Command
   pub later : List Command
   pub are : commands ≡ before ++ command ∷ later
   pub mid : State
   pub reached : Reaches old before mid
+  pub next : State
+  pub accepted : Accepts mid command next
+  pub not_yet : Envies mid child other code → ⊥
+  pub begins : Envies next child other code
   pub causes : MayCauseEnvy mid child other command
 
--- So it is over any accepted commands.
+-- So it is over any accepted commands: where a child envies another after them, it did so before, or one of them began it and may cause it.
 abbrev pub EnvyHasCause : Type 0
 EnvyHasCause =
     (old new : State) (commands : List Command) (child other : ℕ) (code : Code)
     → WellFormed old → AllByRecursion KeptByTypes commands → Reaches old commands new
-    → Envies new child other code → Envies old child other code ⊎ HasCause old commands child other
+    → Envies new child other code → Envies old child other code ⊎ HasCause old commands child other code
 
 -- ---- plans
 
