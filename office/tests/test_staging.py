@@ -406,23 +406,21 @@ def test_a_row_of_another_form_is_kept_and_confirmed(office: Site, screens: Scre
 
 def test_what_only_a_workbook_has(screens: Screens) -> None:
     """A formula that was never calculated is an error at its cell until the row is saved."""
-    cells = [hostile.row_of(2, ["1", "Ann", "1"]).removesuffix("</row>"), '<c r="D2"><f>A2</f></c>',
-             '<c r="E2" t="inlineStr"><is><t>no</t></is></c>'
-             '<c r="H2" t="inlineStr"><is><t>2024-10-20</t></is></c>'
-             '<c r="I2" t="inlineStr"><is><t>OAK</t></is></c></row>']
+    cells = hostile.row_of(2, ["1", "Ann", "east", "1", "no", "", "", "2024-10-20", "OAK"])
+    cells = cells.replace(' t="inlineStr"><is><t>east</t></is>', "><f>A2</f>")
     file = pathlib.Path(ROOT / "out")
     file.mkdir(exist_ok=True)
     path = file / "formula.xlsx"
-    hostile.workbook(path, hostile.GOOD.split('<row r="2">')[0] + "".join(cells))
+    hostile.workbook(path, hostile.GOOD.split('<row r="2">')[0] + cells)
     data = path.read_bytes()
     path.unlink()
     screens.add(("w.xlsx", data))
     seen = screens.see()
     row = seen.row("row 2 of w.xlsx")
-    assert seen.said(row, "north") == (
-        "expected a value (D2 is a formula that was never calculated: open the file in a"
+    assert seen.said(row, "east") == (
+        "expected a value (C2 is a formula that was never calculated: open the file in a"
         " spreadsheet and save it)")
-    screens.save(row, north="5")
+    screens.save(row, east="5")
     assert not screens.see().wrong()
 
 
