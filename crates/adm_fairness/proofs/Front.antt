@@ -112,3 +112,32 @@ until_filter p s (x ∷ xs) passes =
                 ∙ (sym (ap (λ b. cond b (x ∷ filter p (until s xs)) (filter p (until s xs))) takes) ∙ ap (filter p) (sym (split ∙ ap (λ b. cond (not b) (x ∷ until s xs) []) miss))))
           ]))
     ]
+
+-- the front of a front, where what ends it is not after what ends the other
+pub front_on : (u v w : List Code) (first second : Option Code) → IsFront v w first → IsFront u v second → rank_given w second ≤ rank_given w first → IsFront u w second
+front_on u v w first second outer inner least = record {
+  shorter = omega (arith, inner.shorter, outer.shorter);
+  whole = λ none. omega (arith, inner.whole none, all first refl none);
+  there = inner.there;
+  upto = λ c le.
+      let mid = outer.upto c (omega (arith, le, least)) in
+      let same = inner.upto c (omega (arith, le, mid, ends second refl)) in
+      omega (arith, mid, same);
+  back = λ c less.
+      let mid = inner.back c less in
+      let same = outer.back c (omega (arith, mid, less, inner.shorter)) in
+      omega (arith, mid, same);
+}
+  where
+    -- where nothing ends the inner one, nothing ends the other
+    all : (o : Option Code) → first ≡ o → second ≡ None → length v ≡ length w
+    all None is none = outer.whole is
+    all (Some t) is none =
+        let last = outer.there t is in
+        omega (arith, least, ap (rank_given w) is, ap (rank_given w) none, last, outer.back t last, outer.shorter)
+
+    ends : (o : Option Code) → second ≡ o → rank_given v second ≡ rank_given w second
+    ends None is = omega (arith, ap (rank_given v) is, ap (rank_given w) is, all first refl is)
+    ends (Some s) is =
+        let same = outer.upto s (omega (arith, least, ap (rank_given w) is)) in
+        omega (arith, ap (rank_given v) is, ap (rank_given w) is, same)

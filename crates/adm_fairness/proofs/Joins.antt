@@ -1,6 +1,6 @@
 -- The better of two stable allocations for each child is stable, and what is best for children is the last choice of schools.
 use Rattle.std.proofs.Common.{◌≡◌, ◌≢◌, ◌∙◌, ap, sym, subst, refl, cond, Bool, true, false, not, ◌&&◌, ◌||◌, ℕ, zero, suc, ◌<◌, ◌≤◌, List, [], ◌∷◌, length, Option, Some, None, inl, inr, arith}
-use Rattle.std.specs.Prelude.{◌⊎◌, ◌==◌, All, IfSome, nat_lt, is_some, bytes_eq, count_by, sum_by, option_and_then}
+use Rattle.std.specs.Prelude.{◌⊎◌, ◌==◌, All, IfSome, nat_lt, is_some, bytes_eq, count_by, sum_by, find, option_and_then}
 use Rattle.std.specs.List.{list_any, slice_get}
 use Rattle.std.proofs.lemmas.Bool.{cases_Bool, cases_lt, cases_order, false≢true, and_parts, and_from, not-true, not_from_false, lt-ltb, ltb-true, ltb-false, eq-eqb, eqb-true}
 use Rattle.std.proofs.lemmas.List.Sums.{sum_by-cons}
@@ -32,7 +32,7 @@ sum_less f g (y ∷ ys) zero x h at less =
 sum_less f g (y ∷ ys) (suc k) x h at less = omega (arith, sum_by-cons f y ys, sum_by-cons g y ys, h y, sum_less f g ys k x h at less)
 
 -- what an entrant lacks in an allocation that gives it nothing better it prefers
-prefers_other : (m : Market) (a b : Allocation) (k : ℕ) (e : Candidate) (s : Code) → IsAcceptable m b → slice_get m.entrants k ≡ Some e → b e.child ≡ Some s
+pub prefers_other : (m : Market) (a b : Allocation) (k : ℕ) (e : Candidate) (s : Code) → IsAcceptable m b → slice_get m.entrants k ≡ Some e → b e.child ≡ Some s
     → (a e.child ≡ Some s → ⊥) → assigned_rank e.list (b e.child) ≤ assigned_rank e.list (a e.child) → prefers a e s ≡ true
 prefers_other m a b k e s fits ek at other least =
     let w = wish_at_rank e.list s (on_list m b k e s fits ek at) in
@@ -41,43 +41,46 @@ prefers_other m a b k e s fits ek at other least =
     lt-ltb _ _ (omega (arith, least, here, apart))
 
 -- what is not blocked though it is preferred
-parts_of : (m : Market) (a : Allocation) → IsStable m a → (k : ℕ) (e : Candidate) (s : Code) → slice_get m.entrants k ≡ Some e → prefers a e s ≡ true
+pub parts_of : (m : Market) (a : Allocation) → IsStable m a → (k : ℕ) (e : Candidate) (s : Code) → slice_get m.entrants k ≡ Some e → prefers a e s ≡ true
     → (is_tenant e s ≡ false) × (nat_lt (count_at m a s) (quota_of m.seats s) ≡ false) × (list_any (ranks_after a s e) m.entrants ≡ false)
 parts_of m a stable k e s ek wished = not_blocked (prefers a e s) (is_tenant e s) (nat_lt (count_at m a s) (quota_of m.seats s)) (list_any (ranks_after a s e) m.entrants)
     (at_All (IsContent m a) m.entrants k e stable.unblocked ek s) wished
 
 -- so nobody there ranks after it
-none_after : (m : Market) (a : Allocation) (e g : Candidate) (l : ℕ) (s : Code) → list_any (ranks_after a s e) m.entrants ≡ false → slice_get m.entrants l ≡ Some g → is_guest a s g ≡ true
+pub none_after : (m : Market) (a : Allocation) (e g : Candidate) (l : ℕ) (s : Code) → list_any (ranks_after a s e) m.entrants ≡ false → slice_get m.entrants l ≡ Some g → is_guest a s g ≡ true
     → ranks_before s e g ≡ false
 none_after m a e g l s none gl guest = sym (ap (λ p. p && ranks_before s e g) guest) ∙ list_any_not (ranks_after a s e) m.entrants l g none gl
 
+-- the entrant of a child is found by its number
+pub found_itself : (m : Market) → Distinct m → (k : ℕ) (e : Candidate) → slice_get m.entrants k ≡ Some e → find (λ x. x.child == e.child) m.entrants ≡ Some e
+found_itself m d k e ek =
+    let test : Candidate → Bool = λ x. x.child == e.child in
+    let found = finds test m.entrants e (in_index m.entrants k e ek) (eq-eqb e.child e.child refl) in
+    let gives = find_gives test m.entrants found.0 found.1 in
+    let l = at_index m.entrants found.0 gives.0 in
+    found.1 ∙ ap Some (one l.0 found.0 l.1 (eqb-true found.0.child e.child gives.1))
+  where
+    one : (l : ℕ) (c : Candidate) → slice_get m.entrants l ≡ Some c → c.child ≡ e.child → c ≡ e
+    one l c cl is = elim (cases_order k l) [
+      | inl equal ↦ same_Some c e (sym cl ∙ (ap (slice_get m.entrants) (sym equal) ∙ ek))
+      | inr order ↦ absurd (elim order [ inl less ↦ d.children k l e c ek cl less (sym is) | inr more ↦ d.children l k c e cl ek more is ])
+    ]
+
 module _ (m : Market) (d : Distinct m) (seats : Seated m) (a b : Allocation) (sa : IsStable m a) (sb : IsStable m b) (fill : (s : Code) → count_at m a s ≡ count_at m b s) where
-  abbrev j : Allocation
+  abbrev pub j : Allocation
   j = join m a b
 
   -- what an entrant has by both together
-  joined : (k : ℕ) (e : Candidate) → slice_get m.entrants k ≡ Some e → j e.child ≡ better_of e.list (a e.child) (b e.child)
-  joined k e ek =
-      let test : Candidate → Bool = λ x. x.child == e.child in
-      let found = finds test m.entrants e (in_index m.entrants k e ek) (eq-eqb e.child e.child refl) in
-      let gives = find_gives test m.entrants found.0 found.1 in
-      let l = at_index m.entrants found.0 gives.0 in
-      let same : found.0 ≡ e = one k e ek l.0 found.0 l.1 (eqb-true found.0.child e.child gives.1) in
-      ap (option_and_then (λ (x : Candidate). better_of x.list (a e.child) (b e.child))) (found.1 ∙ ap Some same)
-    where
-      one : (k : ℕ) (e : Candidate) → slice_get m.entrants k ≡ Some e → (l : ℕ) (c : Candidate) → slice_get m.entrants l ≡ Some c → c.child ≡ e.child → c ≡ e
-      one k e ek l c cl is = elim (cases_order k l) [
-        | inl equal ↦ same_Some c e (sym cl ∙ (ap (slice_get m.entrants) (sym equal) ∙ ek))
-        | inr order ↦ absurd (elim order [ inl less ↦ d.children k l e c ek cl less (sym is) | inr more ↦ d.children l k c e cl ek more is ])
-      ]
+  pub joined : (k : ℕ) (e : Candidate) → slice_get m.entrants k ≡ Some e → j e.child ≡ better_of e.list (a e.child) (b e.child)
+  joined k e ek = ap (option_and_then (λ (x : Candidate). better_of x.list (a e.child) (b e.child))) (found_itself m d k e ek)
 
   -- one of the two, and not after either
-  record IsPick (e : Candidate) : Type 0 where
+  pub record IsPick (e : Candidate) : Type 0 where
     pub which : (j e.child ≡ a e.child) ⊎ (j e.child ≡ b e.child)
     pub first : assigned_rank e.list (j e.child) ≤ assigned_rank e.list (a e.child)
     pub second : assigned_rank e.list (j e.child) ≤ assigned_rank e.list (b e.child)
 
-  pick : (k : ℕ) (e : Candidate) → slice_get m.entrants k ≡ Some e → IsPick e
+  pub pick : (k : ℕ) (e : Candidate) → slice_get m.entrants k ≡ Some e → IsPick e
   pick k e ek = elim (cases_Bool (nat_lt (assigned_rank e.list (b e.child)) (assigned_rank e.list (a e.child)))) [
     | inl less ↦
         let is : j e.child ≡ b e.child = joined k e ek ∙ ap (λ t. cond t (b e.child) (a e.child)) less in
@@ -87,7 +90,7 @@ module _ (m : Market) (d : Distinct m) (seats : Seated m) (a b : Allocation) (sa
         record { which = inl is; first = omega (arith, ap (assigned_rank e.list) is); second = omega (arith, ap (assigned_rank e.list) is, ltb-false _ _ most) }
   ]
 
-  acceptable : IsAcceptable m j
+  pub acceptable : IsAcceptable m j
   acceptable = All_at (λ (e : Candidate). IfSome (j e.child) (λ s. preference_rank e.list s < length e.list)) m.entrants (λ k e ek. elim (pick k e ek).which [
     | inl is ↦ subst (λ o. IfSome o (λ s. preference_rank e.list s < length e.list)) (sym is) (at_All (λ (x : Candidate). IfSome (a x.child) (λ s. preference_rank x.list s < length x.list)) m.entrants k e sa.acceptable ek)
     | inr is ↦ subst (λ o. IfSome o (λ s. preference_rank e.list s < length e.list)) (sym is) (at_All (λ (x : Candidate). IfSome (b x.child) (λ s. preference_rank x.list s < length x.list)) m.entrants k e sb.acceptable ek)
@@ -95,10 +98,10 @@ module _ (m : Market) (d : Distinct m) (seats : Seated m) (a b : Allocation) (sa
 
   -- who has a school by both together has it by one of the two
   module _ (s : Code) where
-    abbrev AllOf : Allocation → Type 0
+    abbrev pub AllOf : Allocation → Type 0
     AllOf c = (k : ℕ) (e : Candidate) → slice_get m.entrants k ≡ Some e → has (j e.child) s ≡ true → has (c e.child) s ≡ true
 
-    one_of : AllOf a ⊎ AllOf b
+    pub one_of : AllOf a ⊎ AllOf b
     one_of = elim (cases_Bool (list_any (λ (e : Candidate). has (j e.child) s && not (has (a e.child) s)) m.entrants)) [
       | inr none ↦ inl (λ k e ek at. elim (cases_Bool (has (a e.child) s)) [
         | inl there ↦ there
@@ -160,7 +163,7 @@ module _ (m : Market) (d : Distinct m) (seats : Seated m) (a b : Allocation) (sa
           absurd (omega (arith, (pick k e ek).first, ap (assigned_rank e.list) is, ap (assigned_rank e.list) is', on_list m a k e s sa.acceptable ek is))
 
   -- so each school has as many
-  as_many : (s : Code) → count_at m j s ≡ count_at m a s
+  pub as_many : (s : Code) → count_at m j s ≡ count_at m a s
   as_many s = elim (cases_lt (count_at m j s) (count_at m a s)) [
     | inr most ↦ omega (arith, most, upto s)
     | inl less ↦ absurd (

@@ -24,7 +24,15 @@ pub mod Group
 pub mod Declining
 pub mod Fairer
 pub mod Better
+pub mod Zipped
 pub mod Settled
+pub mod Resumed
 pub mod Front
 pub mod Again
+pub mod SameLots
+pub mod Carried
+pub mod Alike
+pub mod LaterRounds
+pub mod RoundAnew
 pub mod Joins
+pub mod Meets

@@ -58,6 +58,16 @@ own_is (Some row) code is = by (is_plan row.place.state) is
 pub at_entries : (places : FinMap nat_cmp PlaceRow) (q : ℕ) → get places q ≡ lookup (is_at (nat_cmp q)) (entries places)
 at_entries places q = sym (ap (λ m. get m q) (map_of_entries nat_cmp_total nat_cmp-IsAntisymmetric places)) ∙ get_rows nat_cmp_total (entries places) q
 
+-- the places of plans are as many, where they are the same ones
+pub plans_same : (was now : FinMap nat_cmp PlaceRow) → ((q : ℕ) (row : PlaceRow) → get now q ≡ Some row → is_plan row.place.state ≡ true → get was q ≡ Some row)
+    → ((q : ℕ) (row : PlaceRow) → get was q ≡ Some row → is_plan row.place.state ≡ true → get now q ≡ Some row) → (school : Code) → plans_at now school ≡ plans_at was school
+plans_same was now back forth school =
+    let test : PlaceRow → Bool = λ row. bytes_eq row.place.school school && is_plan row.place.state in
+    let plan : (row : PlaceRow) → test row ≡ true → is_plan row.place.state ≡ true = λ row passes. (and_parts (bytes_eq row.place.school school) (is_plan row.place.state) passes).1 in
+    let fewer = count_le test test (entries now) (entries was) (entries_in_order now) (λ q row there passes. (row, sym (at_entries was q) ∙ back q row (at_entries now q ∙ there) (plan row passes), passes)) in
+    let more = count_le test test (entries was) (entries now) (entries_in_order was) (λ q row there passes. (row, sym (at_entries now q) ∙ forth q row (at_entries was q ∙ there) (plan row passes), passes)) in
+    omega (arith, fewer, more)
+
 -- how many of the applicants an allocation gives a school
 pub count_given : (entrant : Applicant → Candidate) → ((x : Applicant) → (entrant x).child ≡ number_of x) → (a : Allocation) (code : Code) (xs : List Applicant)
     → outcomes_at code (outcomes_of a xs) ≡ count_by (λ (e : Candidate). has (a e.child) code) (map entrant xs)

@@ -1,4 +1,4 @@
--- Two stable allocations of one problem: of both together each child may have the better, and schools want it the other way round.
+-- Two stable allocations of one problem: of both each child may have the better, or the worse; schools want it the other way round.
 -- Knuth 1976 (Conway); Roth 1985 for schools with several places; tenants are this profile's.
 use Rattle.std.specs.Prelude.{◌≡◌, true, false, ◌||◌, ◌==◌, nat_lt, if◌then◌else◌, List, find, Option, None, All, option_and_then}
 use Rattle.adm_types.specs.Code.{has}
@@ -17,6 +17,18 @@ join m one other child = option_and_then (λ entrant. better_of entrant.list (on
 -- Where each child has the better of what two stable allocations give it, this is a stable allocation too.
 abbrev pub JoinIsStable : Type 0
 JoinIsStable = (m : Market) (one other : Allocation) → first_fault m ≡ None → IsStable m one → IsStable m other → IsStable m (join m one other)
+
+-- of what two allocations give a child, what is not before the other on its list
+abbrev pub worse_of : List Wish → Option Code → Option Code → Option Code
+worse_of list one other = if nat_lt (assigned_rank list other) (assigned_rank list one) then one else other
+
+-- the allocation that gives each entrant the worse of what two others give it
+abbrev pub meet : Market → Allocation → Allocation → Allocation
+meet m one other child = option_and_then (λ entrant. worse_of entrant.list (one child) (other child)) (find (λ entrant. entrant.child == child) m.entrants)
+
+-- Where each child has the worse of what two stable allocations give it, this is a stable allocation too: stable allocations are a lattice.
+abbrev pub MeetIsStable : Type 0
+MeetIsStable = (m : Market) (one other : Allocation) → first_fault m ≡ None → IsStable m one → IsStable m other → IsStable m (meet m one other)
 
 -- The best allocation is the worst for schools: whom a school has by it, but not by another stable allocation, ranks there after each
 -- child that it has by that other one, tenants aside.

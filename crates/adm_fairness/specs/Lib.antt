@@ -7,3 +7,5 @@ pub mod Improvements
 pub mod Honesty
 pub mod Optimal
 pub mod Lattice
+pub mod Anew
+pub mod LaterRounds

@@ -1,11 +1,18 @@
 // Two stable allocations of one problem: children together, and schools against them.
-ghost use Rattle.adm_fairness.specs.Lattice.{JoinIsStable, BestIsLastChoice};
+ghost use Rattle.adm_fairness.specs.Lattice.{JoinIsStable, MeetIsStable, BestIsLastChoice};
 
 use adm_match_laws::same_schools_fill;
 
 /// If each child has the better of what two stable allocations give it, the result is stable too.
 pub fn join_is_stable()
     ensures { JoinIsStable }
+{
+    same_schools_fill();
+}
+
+/// If each child has the worse of what two stable allocations give it, the result is stable too.
+pub fn meet_is_stable()
+    ensures { MeetIsStable }
 {
     same_schools_fill();
 }
