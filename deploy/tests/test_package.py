@@ -185,6 +185,24 @@ def test_another_version_or_licence_is_refused(
         package.compare_with_kit(kit)
 
 
+@pytest.mark.parametrize(("found", "is_listed"), [
+    ("kit-1 logic a", True), ("kit-2 logic a", True), ("kit-3 logic a", False),
+    ("kit-1 logic b", False), ("kit-1", False),
+])
+def test_the_toolchains_of_the_table_are_taken_and_no_other(
+    found: str, is_listed: bool, package: types.ModuleType, monkeypatch: pytest.MonkeyPatch
+) -> None:
+    monkeypatch.setattr(package, "agreed", lambda: ["kit-1 logic a", "kit-2 logic a"])
+    monkeypatch.setattr(package, "compare_with_kit", lambda kit: None)
+    monkeypatch.setattr(package, "run", lambda *arguments: f"{found}\n")
+    monkeypatch.setattr(package.shutil, "which", lambda name: "/kit/bin/rt")
+    if is_listed:
+        assert package.toolchain() == found
+    else:
+        with pytest.raises(package.Refused, match="bring the table up to date"):
+            package.toolchain()
+
+
 def dependencies(package: str) -> set[str]:
     """What a package depends on, by debian/control and by what the installed tools import."""
     return set(loaded(ROOT / "debian/dependencies").of_repository(package))
