@@ -5,13 +5,13 @@ has ended since has none any more, so where it is needed to tell who was last, n
 """
 import collections
 import math
-from collections.abc import Iterable, Iterator, Mapping
+from collections.abc import Iterable, Iterator
 from typing import NamedTuple
 
 from register_files import Refused
 
 from . import model, texts
-from .model import Draw, Lots, Pair, Register
+from .model import LOT, Draw, Drawn, Pair, Register
 from .register_lists import Cell, Rows
 from .run import Progress
 
@@ -24,14 +24,14 @@ Held = dict[int, tuple[str, str]]
 
 
 class Entry(NamedTuple):
-    """A child with a lot at a school: the school that the draw allotted it, if any, and the class
-    and the distance by which it ranks, or None where its application has ended.
+    """A child with a lot at a school: the class and the distance by which it ranks, or None where
+    its application has ended, and what became of it there.
     """
 
     child: int
     lot: int
-    allotted: str | None
     rank: tuple[int, int] | None
+    came: str
 
 
 def came_of(school: str | None, is_fresh: bool) -> str:
@@ -39,11 +39,11 @@ def came_of(school: str | None, is_fresh: bool) -> str:
     return NONE if school is None else OFFERED if is_fresh else KEPT
 
 
-def with_lots(register: Register) -> Iterator[tuple[Draw, Lots]]:
-    """The draws with their lots, with progress while these are read."""
+def with_drawn(register: Register) -> Iterator[tuple[Draw, Drawn]]:
+    """The draws with their lots and what explains them, with progress while these are read."""
     progress = Progress("draws", len(register.draws))
-    lots_of_all = register.lots_of([it.number for it in register.draws])
-    for draw, drawn in zip(register.draws, lots_of_all, strict=True):
+    all_drawn = register.drawn_of([it.number for it in register.draws])
+    for draw, drawn in zip(register.draws, all_drawn, strict=True):
         yield draw, drawn
         progress.at(draw.number)
     progress.end()
@@ -54,12 +54,12 @@ def draws(register: Register) -> Rows:
     header: list[Cell] = ["draw", "kind", "round", "school", "day", "lots", "offers", "kept",
                           "unplaced"]
     rows: Rows = []
-    for it, drawn in with_lots(register):
+    for it, drawn in with_drawn(register):
         fresh = register.fresh[it.number]
         came = collections.Counter(came_of(school, fresh[child])
                                    for child, school in register.outcomes[it.number].items())
         rows.append([it.number, "round" if it.round else "fill", it.round, it.school,
-                     it.day.isoformat(), len(drawn), came[OFFERED], came[KEPT], came[NONE]])
+                     it.day.isoformat(), len(drawn.lots), came[OFFERED], came[KEPT], came[NONE]])
     return [header, *rows]
 
 
@@ -113,106 +113,82 @@ def preferences(register: Register) -> Rows:
     return [["round", "day", "preference", "children", "percent"], *rows]
 
 
-def by_school(
-    register: Register, draw: Draw, drawn: Iterable[tuple[Pair, int]]
-) -> dict[str, list[Entry]]:
-    """Who had these lots of a draw, by schools in their order."""
-    outcomes, applications = register.outcomes[draw.number], register.applications
-    found: dict[str, list[Entry]] = {}
-    for (code, child), lot in sorted(drawn):
-        rank = applications[child].rank(code) if child in applications else None
-        found.setdefault(code, []).append(Entry(child, lot, outcomes.get(child), rank))
-    return found
-
-
-def offered_in(
-    register: Register, draw: Draw, drawn: Lots, school: str | None = None
-) -> dict[str, list[Entry]]:
-    """Who was offered the place for which it had a lot, by schools; or at one school alone."""
-    outcomes = register.outcomes[draw.number]
-    return by_school(register, draw, (it for it in drawn.items() if school in (None, it[0][0])
-                                      and outcomes.get(it[0][1]) == it[0][0]))
-
-
-def last_of(offered: list[Entry]) -> Entry | None:
-    """The one that ranks behind all others, or None where that cannot be told any more."""
-    ranked = [(it.rank, it.lot, it) for it in offered if it.rank is not None]
-    if len(offered) == 1:
-        return offered[0]
-    return max(ranked)[2] if len(ranked) == len(offered) else None
-
-
 def last_offered(register: Register, school: str | None = None) -> Rows:
     """The last that was offered at each school, or at this one, in each draw, and how many were."""
     rows: Rows = []
-    for draw, drawn in with_lots(register):
-        for code, offered in offered_in(register, draw, drawn, school).items():
-            last = last_of(offered)
-            rank = last.rank if last and last.rank else (None, None)
-            who: list[Cell] = [last.child, *rank, last.lot] if last else [None] * 4
-            rows.append([draw.number, draw.day.isoformat(), code, len(offered), *who])
+    for draw, drawn in with_drawn(register):
+        offered = offered_in(register, draw, drawn)
+        offers = collections.Counter(code for code, _ in offered)
+        # (no two children have one lot at a school)
+        by_lot = {(code, drawn.lots[code, child]): child for code, child in offered}
+        rows += [[draw.number, draw.day.isoformat(), code, offers[code], by_lot[code, last.lot],
+                  *last] for code, last in drawn.cutoffs.items() if school in (None, code)]
     header: list[Cell] = ["draw", "day", "school", "offers", "child", "class", "metres", "lot"]
     return [header, *rows]
+
+
+def offered_in(register: Register, draw: Draw, drawn: Drawn) -> list[Pair]:
+    """Who was offered the place for which it had a lot, and where."""
+    outcomes = register.outcomes[draw.number]
+    return [it for it in drawn.lots if outcomes.get(it[1]) == it[0]]
 
 
 def equal_at_limit(register: Register) -> Rows:
     """Where only the lot decided, or may have: who was offered or refused a place there."""
     rows: Rows = []
-    for draw, drawn in with_lots(register):
-        offered = offered_in(register, draw, drawn)
-        others = by_school(register, draw, near(register, draw, drawn, offered))
-        for code, there in offered.items():
-            found = decided(register, code, there, others.get(code, []))
-            for it in sorted(found, key=lambda it: it.lot):
-                rank: list[Cell] = [*(it.rank or (None, None))]
-                is_known = it.rank is not None
-                came = OFFERED if it.allotted == code else REFUSED if is_known else UNKNOWN
-                rows.append([draw.number, code, it.child, *rank, it.lot, came])
+    for draw, drawn in with_drawn(register):
+        offered = of_schools(offered_at_limit(register, draw, drawn))
+        refused = of_schools(refused_by_lot(register, draw, drawn))
+        for code in drawn.cutoffs:
+            them = [*offered[code], *refused[code]] if code in refused else []
+            for it in sorted(them, key=lambda it: it.lot):
+                rows.append([draw.number, code, it.child, *(it.rank or (None, None)), it.lot,
+                             it.came])
     return [["draw", "school", "child", "class", "metres", "lot", "came"], *rows]
 
 
-def limit_of(offered: list[Entry]) -> tuple[int, int] | None:
-    """The class and the distance of the last one that a school was offered, where it has any."""
-    last = last_of(offered)
-    return last.rank if last else None
+def of_schools(found: Iterable[tuple[str, Entry]]) -> dict[str, list[Entry]]:
+    """Entries by their schools."""
+    by_school: dict[str, list[Entry]] = {}
+    for code, it in found:
+        by_school.setdefault(code, []).append(it)
+    return by_school
 
 
-def near(
-    register: Register, draw: Draw, drawn: Lots, offered: Mapping[str, list[Entry]]
-) -> Iterator[tuple[Pair, int]]:
-    """The lots of those that were not offered a school and that have the class and the distance of
-    its last one, or of whom that cannot be told. Few of all lots are so.
+def rank_of(register: Register, pair: Pair) -> tuple[int, int] | None:
+    """The class and the distance of a child at a school, unless its application has ended."""
+    code, child = pair
+    return register.rank(code, child) if child in register.applications else None
+
+
+def offered_at_limit(
+    register: Register, draw: Draw, drawn: Drawn,
+) -> Iterator[tuple[str, Entry]]:
+    """Who was offered a place at a school with the class and the distance of the last one there. Of
+    one whose application has ended that cannot be told, unless it is the last one.
     """
-    outcomes, applications = register.outcomes[draw.number], register.applications
-    limits = {code: limit_of(them) for code, them in offered.items()}
-    for (code, child), lot in drawn.items():
-        if code not in limits or outcomes.get(child) == code:
+    for pair in offered_in(register, draw, drawn):
+        code, child = pair
+        last, lot = drawn.cutoffs[code], drawn.lots[pair]
+        rank = last[:2] if lot == last.lot else rank_of(register, pair)
+        if rank in (None, last[:2]):
+            yield code, Entry(child, lot, rank, OFFERED)
+
+
+def refused_by_lot(register: Register, draw: Draw, drawn: Drawn) -> Iterator[tuple[str, Entry]]:
+    """Whom the lot put after the last one at a school, and of whom that cannot be told, as its
+    application has ended. A fill has no refusals: the lot decided between children who are equal.
+    """
+    outcomes = register.outcomes[draw.number]
+    for pair, lot in drawn.lots.items():
+        code, child = pair
+        if code not in drawn.cutoffs or outcomes.get(child) == code:
             continue
-        limit = limits[code]
-        is_known = limit is not None and child in applications
-        if not is_known or applications[child].rank(code) == limit:
-            yield (code, child), lot
-
-
-def decided(
-    register: Register, code: str, offered: list[Entry], others: list[Entry]
-) -> list[Entry]:
-    """Those with the class and the distance of the last one that a school was offered, if some of
-    them were refused. One that had a place that it prefers was not refused. Whether one whose
-    application has ended is of them cannot be told; where it was offered the place, nor can it be
-    told of anybody else.
-    """
-    refused = [it for it in others if it.rank is None or not has_better(register, it, code)]
-    if not refused:
-        return []
-    limit = limit_of(offered)
-    return [it for it in (*offered, *refused) if it.rank is None or it.rank == limit]
-
-
-def has_better(register: Register, entry: Entry, code: str) -> bool:
-    """Whether a draw allotted a child a school that it prefers to another of its list."""
-    listed = register.applications[entry.child].preferences
-    return entry.allotted is not None and listed.index(entry.allotted) < listed.index(code)
+        rank = rank_of(register, pair)
+        by_lot = rank == drawn.cutoffs[code][:2] if draw.school else (
+            drawn.refusals.get(pair) == LOT)
+        if rank is None or by_lot:
+            yield code, Entry(child, lot, rank, UNKNOWN if rank is None else REFUSED)
 
 
 def moved(register: Register, number: int | None, draw: int | None, before: str | None) -> Rows:

@@ -1,4 +1,6 @@
-"""The figures of a round, counted from the register after it, and which of them are withheld."""
+"""The figures of a round, counted from the register after it, and which of them are withheld. The
+last child that was offered a place at a school, and who was refused there, are the program's.
+"""
 import collections
 import dataclasses
 import datetime
@@ -8,7 +10,7 @@ from register_files import Refused
 
 from . import texts
 from .model import OFFERED, PLAN
-from .rounds import Key, Round
+from .rounds import Held
 from .withheld import LEAST, withheld
 
 # preferences from this one on are counted together for each school
@@ -23,7 +25,8 @@ Sum = list[tuple[What, int]]
 @dataclasses.dataclass
 class School:
     """The figures of one school: applications by preference (1 to LOWER), and of the round its
-    offers by class, and the class and metres of the last one and of the first that was turned away.
+    offers by class, how many were refused, and the class and metres of the last that was offered a
+    place. Where somebody was refused without a reason, the data were changed after the round.
     """
 
     code: str
@@ -38,7 +41,7 @@ class School:
     offers: collections.Counter[int] = dataclasses.field(default_factory=collections.Counter)
     turned_away: int = 0
     last: tuple[int, int] | None = None
-    first_away: tuple[int, int] | None = None
+    has_no_reason: bool = False
 
 
 @dataclasses.dataclass
@@ -60,7 +63,7 @@ class Figures:
     hidden: set[What] = dataclasses.field(default_factory=set)
 
 
-def count(seen: Round) -> Figures:
+def count(seen: Held) -> Figures:
     """The figures of a round."""
     register, outcomes = seen.register, seen.outcomes
     see_ranked(seen)
@@ -74,7 +77,7 @@ def count(seen: Round) -> Figures:
     return found
 
 
-def see_ranked(seen: Round) -> None:
+def see_ranked(seen: Held) -> None:
     """Refuses a round with a child whose application a plan has ended since: a register shows no
     class and no distance of it.
     """
@@ -84,45 +87,33 @@ def see_ranked(seen: Round) -> None:
                       f" after round {seen.number}: the copy from right before the round is needed")
 
 
-def listed_by(seen: Round, child: int) -> tuple[str, ...]:
+def listed_by(seen: Held, child: int) -> tuple[str, ...]:
     """The schools that a child listed, best first."""
     return seen.register.applications[child].preferences
 
 
-def preference_of(seen: Round, child: int) -> int | str:
+def preference_of(seen: Held, child: int) -> int | str:
     """The preference that a child has after the round, or NONE."""
     code = seen.outcomes[child]
     return NONE if code is None else 1 + listed_by(seen, child).index(code)
 
 
-def school_of(seen: Round, code: str) -> School:
+def school_of(seen: Held, code: str) -> School:
     """The figures of a school."""
-    it = seen.register.schools[code]
+    it, drawn = seen.register.schools[code], seen.drawn
     found = School(code, it.name, it.pan, it.criteria, it.east, it.north, plans=it.plans)
     for child, has in seen.outcomes.items():
         listed = listed_by(seen, child)
         if code in listed:
             found.applications[min(1 + listed.index(code), LOWER)] += 1
+        if has == code and seen.fresh[child]:
+            found.offers[seen.register.rank(code, child)[0]] += 1
         found.kept += has == code and not seen.fresh[child]
-    keys = {child: seen.key(code, child) for there, child in seen.lots if there == code}
-    offered = [key for child, key in keys.items() if seen.outcomes[child] == code]
-    turned_away = [key for child, key in keys.items() if is_turned_away(seen, child, code)]
-    found.offers.update(key[0] for key in offered)
-    found.turned_away = len(turned_away)
-    found.last = rank_of(max(offered, default=None))
-    found.first_away = rank_of(min(turned_away, default=None))
+    reasons = [by for (there, _), by in drawn.refusals.items() if there == code]
+    found.turned_away, found.has_no_reason = len(reasons), None in reasons
+    last = drawn.cutoffs.get(code)
+    found.last = last and last[:2]
     return found
-
-
-def is_turned_away(seen: Round, child: int, code: str) -> bool:
-    """Whether a child that wanted a school has neither it nor one that it prefers."""
-    has, listed = seen.outcomes[child], listed_by(seen, child)
-    return has is None or listed.index(has) > listed.index(code)
-
-
-def rank_of(key: Key | None) -> tuple[int, int] | None:
-    """The class and the metres of a child."""
-    return key and key[:2]
 
 
 def published(found: Figures) -> tuple[Counts, list[Sum]]:
@@ -181,7 +172,7 @@ def sums_of(school: School, has_kept: bool) -> Iterator[Sum]:
         yield [(key, 1) for key in own]
 
 
-def count_unchanged(seen: Round, option: str) -> Figures:
+def count_unchanged(seen: Held, option: str) -> Figures:
     """The same, where the register had no draw and no change after the round: admission numbers,
     children and plans of today are not those that the round saw. (What leaves no trace, such as a
     number that was raised where nobody was turned away, cannot be told from the register.)
@@ -202,7 +193,7 @@ def count_unchanged(seen: Round, option: str) -> Figures:
     return found
 
 
-def is_as_left(seen: Round, child: int) -> bool:
+def is_as_left(seen: Held, child: int) -> bool:
     """Whether a child has what a round left it: an offer of its day, the place that it had, or
     none.
     """
@@ -215,13 +206,11 @@ def is_as_left(seen: Round, child: int) -> bool:
 
 
 def is_changed(school: School) -> bool:
-    """Whether a school's figures are none of a round: who was turned away ranks after the last that
-    was admitted, and the school is full.
+    """Whether a school's figures are none of a round: whom it refused, it refused for a reason, and
+    it is full.
     """
-    if school.first_away is None:
-        return False
     is_full = school.plans + school.kept + school.offers.total() >= school.pan
-    return not is_full or school.first_away < (school.last or school.first_away)
+    return school.has_no_reason or bool(school.turned_away) and not is_full
 
 
 def is_published(found: Figures) -> None:

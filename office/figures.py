@@ -7,15 +7,16 @@ personal data, in one file that any browser shows.
 
 AFTER is the register from right after the round, or the address at which it is
 served: classes and distances are those of the data in it. Later, name the copy
-from right before the round by --copy: schools and children are then taken from
-it, as the round saw them. Without it a register is refused that had a draw, an
-answer or another change after the round. The page has, for the last round, for
-round N or for that of the copy: how many children have their first, second, ..
-preference; for each school its admission number, applications by preference,
-offers by criterion, and the criterion and the distance of the last child that
-was offered a place; a map of schools, with homes counted in squares; and
-charts. With --before it is compared with the same round of last year's
-register; --before-copy is for that register what --copy is for AFTER.
+from right before the round by --copy: the program then holds the round again on
+it, by the same lots, and so has the schools and children that the round saw.
+Without it a register is refused that had a draw, an answer or another change
+after the round. The page has, for the last round, for round N or for that of
+the copy: how many children have their first, second, .. preference; for each
+school its admission number, applications by preference, offers by criterion,
+and the criterion and the distance of the last child that was offered a place; a
+map of schools, with homes counted in squares; and charts. With --before it is
+compared with the same round of last year's register; --before-copy is for that
+register what --copy is for AFTER.
 
 Counts from 1 to 4 are withheld, and so are others from which they could be
 worked out; so are squares of the map with fewer than 5 homes, and the distance
@@ -200,16 +201,16 @@ def page(found: Figures, last: Figures | None, flags: dict[int, str]) -> str:
 
 def figures_of(after: model.Register, before: model.Register | None, number: int | None,
                option: str) -> Figures:
-    """The figures of a register's round, as the round saw its schools and children: those of the
-    copy from before it, if there is one. `option` is the one that names the copy.
+    """The figures of a register's round, as the round saw its schools and children: where there is
+    a copy from before it, the program holds it again on that. `option` is the one that names it.
     """
     if before is None:
         found = figure_counts.count_unchanged(rounds.of_register(after, number), option)
     else:
-        seen = rounds.of_copy(before, after)
+        seen = rounds.next_round(before, after)
         if number not in (None, seen.number):
             raise Refused(f"{before.name} is not from right before round {number}")
-        found = figure_counts.count(seen)
+        found = figure_counts.count(rounds.held_again(before, after))
     figure_counts.is_published(found)
     return found
 

@@ -3,13 +3,17 @@ program that it must agree with.
 """
 import dataclasses
 import datetime
+import functools
 import json
 from typing import Any
 
 from register_files import Refused
 
 from . import criteria, days
-from .model import OFFERED, PLAN, WAITS, Application, Place, Preference, Register, School
+from .model import (
+    CLASS, DISTANCE, OFFERED, PLAN, WAITS, Application, Cutoff, Pair, Place, Preference, Register,
+    School,
+)
 from .rules import LIMITS
 
 Cell = str | int | datetime.date | None
@@ -22,6 +26,7 @@ MOST_WAITS = LIMITS["preferences"].most
 DECLINED, LEFT = "declined", "you left its list"
 TURNED_DOWN = "declined, or not answered in time"
 EITHER = "declined, not answered in time, or you left its list"
+NO_NEW_PLACE = "no place was left to be offered"
 COLUMNS = (
     "child", "name", "year", "phase", "state", "school", "school_name", "preference", "offered",
     "offered_words", "reminded", "reminded_words", "answer_by", "answer_by_words", "criterion",
@@ -35,7 +40,8 @@ IN_WORDS = {f"{it}_words": it for it in ("offered", "reminded", "answer_by")}
 @dataclasses.dataclass(frozen=True)
 class Listed:
     """A school that the family prefers to the child's place: how the child ranks there, and its
-    position where it waits, else None and why not.
+    position where it waits, else None and why not; and why the last round refused it there, if it
+    did.
     """
 
     code: str
@@ -47,6 +53,7 @@ class Listed:
     position: int | None
     of: int | None
     because: str | None = None
+    refused: str | None = None
 
     @property
     def was_refused(self) -> bool:
@@ -163,6 +170,32 @@ class Writer:
                 if is_fresh:
                     self.offered.setdefault(child, []).append((outcomes[child], draw.day))
 
+    @functools.cached_property
+    def refusals(self) -> dict[Pair, tuple[str | None, Cutoff | None]]:
+        """What decided in the last round that refused a child at a school, and how the last child
+        ranks that was taken in there then, as the program says it.
+        """
+        found: dict[Pair, tuple[str | None, Cutoff | None]] = {}
+        for draw in self.register.drawn_of([it.number for it in self.register.rounds]):
+            found |= {it: (by, draw.cutoffs.get(it[0])) for it, by in draw.refusals.items()}
+        return found
+
+    def refused(self, school: School, child: int) -> str | None:
+        """Why the last round refused a child at a school, in words. It is None where it did not, or
+        where the data were changed since so that they give no reason.
+        """
+        by, last = self.refusals.get((school.code, child), (None, None))
+        if by is None or last is None:
+            return NO_NEW_PLACE if by else None
+        other = f"the last place was offered to a child {self.words(school, last.number)}"
+        if by == CLASS:
+            return f"{other}, and such children rank before yours"
+        if criteria.is_private(school, last.number):
+            return f"{other}, who lives nearer, or as near and with a smaller lot"
+        if by == DISTANCE:
+            return f"{other}, who lives nearer, at {last.metres:,} metres from the school"
+        return f"{other}, who lives as near, and has a smaller lot"
+
     def words(self, school: School, number: int) -> str:
         """What a class of a school means."""
         found: str = criteria.in_words(school, number, self.flags)
@@ -172,8 +205,11 @@ class Writer:
         """A school above the place of a child."""
         school = self.register.schools[code]
         because = None if found.state == WAITS else self.not_waiting(child, code)
-        return Listed(code, school.name, at, found.number, self.words(school, found.number),
+        made = Listed(code, school.name, at, found.number, self.words(school, found.number),
                       found.metres, found.position, found.of, because)
+        if not made.was_refused:
+            return made
+        return dataclasses.replace(made, refused=self.refused(school, child))
 
     def not_waiting(self, child: int, code: str) -> str:
         """Why a child does not wait at a school above its place. One that was offered a place

@@ -205,7 +205,7 @@ def compare(letters: list[Letter], proved: dict[int, bytes]) -> None:
     for it in letters:
         if it.proved().encode() != proved[it.child]:
             raise Refused(f"the letter of child {it.child} is not what the program prints: no"
-                          " letter is written; report this with a copy of the register")
+                          " letter is written. Print them again; if this is repeated, report it")
 
 
 def merge_rows(

@@ -1,7 +1,8 @@
 """A register as the program shows it: season, schools, children, applications, places and draws.
 
-Classes, distances, positions, vacancies and the days of the season are the program's: it works them
-out, and nothing here does. A register is read from a file, of which the program opens a copy, or
+Classes, distances, positions, vacancies, the days of the season, and the last child that a draw
+took in and why others were refused are the program's: it works them out, and nothing here does. A
+register is read from a file, of which the program opens a copy, or
 from a server, by the address at which it is served.
 """
 import contextlib
@@ -28,6 +29,9 @@ PRIMARY, SECONDARY = "primary", "secondary"
 OFFERED, ACCEPTED, PLAN = "offered", "accepted", "plan"
 # what became of a preference: the place is there; the child left it; no round yet; below; it waits
 HELD, LEFT, BEFORE, BELOW, WAITS = "place", "left", "before", "below", "waits"
+# what put a refused child after the last one that a draw took in at a school
+CLASS, DISTANCE, LOT, NOBODY = "class", "distance", "lot", "nobody"
+REASONS = (CLASS, DISTANCE, LOT, NOBODY, None)
 # the members of a child that are not fields of commands
 NO_DATA = ("application", "left", "place")
 # the members of a preference that each has
@@ -142,6 +146,27 @@ class Draw:
     day: datetime.date
 
 
+class Cutoff(NamedTuple):
+    """How the last child ranks that a draw took in at a school: class, whole metres and lot."""
+
+    number: int
+    metres: int
+    lot: int
+
+
+@dataclasses.dataclass(frozen=True)
+class Drawn:
+    """What the document of a draw has beside its outcomes: its lots; the last child that each
+    school took in, if any; and what put each child that was refused at a school after that one.
+    Class, distance and reason are by the data that the register has: where these were changed since
+    the draw, a child may have no reason any more, which is None.
+    """
+
+    lots: Lots
+    cutoffs: dict[str, Cutoff]
+    refusals: dict[Pair, str | None]
+
+
 class Source(Protocol):
     """Where a register is read from."""
 
@@ -150,8 +175,8 @@ class Source(Protocol):
     def shown(self) -> bytes:
         """The document of the register."""
 
-    def lots(self, draws: Sequence[int]) -> Iterator[Lots]:
-        """The lots of draws, in this order."""
+    def drawn(self, draws: Sequence[int]) -> Iterator[Drawn]:
+        """The lots of draws, and what explains them, in this order."""
 
     def copy_to(self, path: str) -> None:
         """Writes the register to a new file, or refuses."""
@@ -184,28 +209,32 @@ class Register(Members):
     outcomes: dict[int, dict[int, str | None]]
     fresh: dict[int, dict[int, bool]]
     source: Source = dataclasses.field(repr=False, compare=False)
-    _lots: dict[int, Lots] = dataclasses.field(default_factory=dict, repr=False, compare=False)
+    _drawn: dict[int, Drawn] = dataclasses.field(default_factory=dict, repr=False, compare=False)
 
     def lots(self, draw: int) -> Lots:
         """The lots of a draw, if there is such a draw."""
-        return next(self.lots_of([draw])) if draw in self.outcomes else {}
+        return self.drawn(draw).lots if draw in self.outcomes else {}
 
-    def lots_of(self, draws: Sequence[int]) -> Iterator[Lots]:
-        """The lots of draws, in this order: read when they are first wanted."""
-        unread = [it for it in draws if it not in self._lots]
-        read_lots = zip(unread, self.source.lots(unread))
+    def drawn(self, draw: int) -> Drawn:
+        """The lots of a draw, and what explains it."""
+        return next(self.drawn_of([draw]))
+
+    def drawn_of(self, draws: Sequence[int]) -> Iterator[Drawn]:
+        """The same of draws, in this order: read when they are first wanted."""
+        unread = [it for it in draws if it not in self._drawn]
+        documents = zip(unread, self.source.drawn(unread))
         for draw in draws:
-            while draw not in self._lots:
-                number, found = next(read_lots)
-                self._lots[number] = found
-            yield self._lots[draw]
+            while draw not in self._drawn:
+                number, found = next(documents)
+                self._drawn[number] = found
+            yield self._drawn[draw]
 
     def shown_again(self) -> "Register":
         """The same, as its source shows it once more. The document does not show lots, so these are
         read anew.
         """
         found = copy.copy(self)
-        found._lots = {}  # pylint: disable=protected-access
+        found._drawn = {}  # pylint: disable=protected-access
         return found
 
     @property
@@ -245,10 +274,6 @@ class Register(Members):
         """The same for a fill: the children that wait there, which nobody does before a round."""
         return {it for it in self.pairs if it[0] == school} if self.draws else set()
 
-    def places_of_round(self, code: str) -> int:
-        """The places of a school that a round allots: without those of plans."""
-        return max(0, self.schools[code].pan - self.schools[code].plans)
-
     def rank(self, code: str, child: int) -> tuple[int, int]:
         """The class and the distance of a child at a school of its list."""
         return self.applications[child].rank(code)
@@ -282,9 +307,9 @@ class File:
         """The document of the register."""
         return self.document()
 
-    def lots(self, draws: Sequence[int]) -> Iterator[Lots]:
-        """The lots of draws, in this order."""
-        return (lots_in(self.name, it) for it in self.documents(draws))
+    def drawn(self, draws: Sequence[int]) -> Iterator[Drawn]:
+        """The lots of draws, and what explains them, in this order."""
+        return (drawn_in(self.name, it) for it in self.documents(draws))
 
     def documents(self, numbers: Sequence[int]) -> Iterator[bytes]:
         """The documents of draws, in this order. One is shown by a run of the program; several are
@@ -358,21 +383,22 @@ class Server:
 
     def __init__(self, sender: senders.Http) -> None:
         self.name, self.sender = sender.named(), sender
-        # by the numbers of draws: their documents as they were read last, with their lots
-        self.known: dict[int, tuple[bytes, Lots]] = {}
+        # by the numbers of draws: their documents as they were read last, and what these have
+        self.known: dict[int, tuple[bytes, Drawn]] = {}
 
     def shown(self) -> bytes:
         """The document of the register."""
         return self.sender.read("/register")
 
-    def lots(self, draws: Sequence[int]) -> Iterator[Lots]:
-        """The lots of draws, in this order. A draw never changes, but its document explains it by
-        the data of now; and where a copy is restored, another may have its number and outcomes.
+    def drawn(self, draws: Sequence[int]) -> Iterator[Drawn]:
+        """The lots of draws, and what explains them, in this order. A draw never changes, but its
+        document explains it by the data of now; and where a copy is restored, another may have its
+        number and outcomes.
         """
         for number in draws:
             document, known = self.sender.read(f"/draw/{number}"), self.known.get(number)
             if known is None or known[0] != document:
-                known = self.known[number] = document, lots_in(self.name, document)
+                known = self.known[number] = document, drawn_in(self.name, document)
             yield known[1]
 
     def copy_to(self, path: str) -> None:
@@ -495,11 +521,22 @@ def parsed(name: str, text: bytes) -> dict[str, Any]:
         return found
 
 
-def lots_in(name: str, text: bytes) -> Lots:
-    """The lots of the document of a draw."""
+def drawn_in(name: str, text: bytes) -> Drawn:
+    """What the document of a draw has beside its outcomes."""
     found = parsed(name, text)
     with checked(name):
-        return {(it["school"], it["child"]): it["lot"] for it in found["lots"]}
+        return Drawn(
+            {(it["school"], it["child"]): it["lot"] for it in found["lots"]},
+            {it["school"]: Cutoff(it["class"], it["metres"], it["lot"]) for it in found["cutoffs"]},
+            {(it["school"], it["child"]): reason_of(it["by"]) for it in found["refusals"]},
+        )
+
+
+def reason_of(found: str | None) -> str | None:
+    """A reason of a document, which must be one that is known here."""
+    if found not in REASONS:
+        raise ValueError(found)
+    return found
 
 
 def of_source(source: Source) -> Register:

@@ -41,8 +41,8 @@ def see_not_drawn(register: Register, pairs: set[Pair]) -> None:
     done.
     """
     there = [it.number for it in reversed(register.draws) if may_be_of(register, it, pairs)]
-    lots = zip(there, register.lots_of(there))
-    found = next((number for number, drawn in lots if set(drawn) == pairs), None)
+    known = zip(there, register.drawn_of(there))
+    found = next((number for number, drawn in known if set(drawn.lots) == pairs), None)
     if found:
         raise Refused(f"these are pairs of draw {found}, which {register.name} has already, with"
                       f" its lots. The next draw is {len(register.draws) + 1}: print its pairs by"

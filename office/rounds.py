@@ -1,86 +1,117 @@
-"""A round that was held: the register that it saw, its lots and its outcome."""
+"""A draw that was held: its lots, its outcome and what explains it, as a register has them now, or
+as the program has them that holds it again.
+"""
 import dataclasses
+import os
+import tempfile
 
+import register_files as files
 from register_files import Refused
 
-from .model import Draw, Pair, Register, same_season
-
-# class, metres and lot: a smaller one ranks first
-Key = tuple[int, int, int]
+from . import model, trial_registers
+from .model import Draw, Drawn, Pair, Register, same_season
+from .trial_registers import Program
 
 
 @dataclasses.dataclass(frozen=True)
-class Round:
-    """A round: a register with the schools and children that it saw, its lots, the school of each
-    child that took part, or None, and whether that was a new offer.
+class Held:
+    """A draw with a register from after it. Schools, children and applications are those that the
+    register has, and so are the class and the distance by which the draw is explained.
     """
 
     register: Register
     draw: Draw
-    lots: dict[Pair, int]
-    outcomes: dict[int, str | None]
-    fresh: dict[int, bool]
 
     @property
     def number(self) -> int:
-        """Its number among the rounds."""
+        """Its number among the rounds; 0 of a fill."""
         return self.draw.round or 0
 
-    def key(self, code: str, child: int) -> Key:
-        """How a child ranks at a school where it has a lot."""
-        return (*self.register.rank(code, child), self.lots[code, child])
+    @property
+    def outcomes(self) -> dict[int, str | None]:
+        """The school of each child that took part, or None."""
+        return self.register.outcomes[self.draw.number]
+
+    @property
+    def fresh(self) -> dict[int, bool]:
+        """Whether that was a new offer."""
+        return self.register.fresh[self.draw.number]
+
+    @property
+    def drawn(self) -> Drawn:
+        """Its lots, and what explains it."""
+        return self.register.drawn(self.draw.number)
 
 
-def of_register(register: Register, number: int | None = None) -> Round:
-    """A round of a register, the last one where no number is given, with the schools and children
-    that the register has now.
-    """
+def of_register(register: Register, number: int | None = None) -> Held:
+    """A round of a register, the last one where no number is given, as the register has it now."""
     draw = next((it for it in reversed(register.rounds) if number in (None, it.round)), None)
     if draw is None:
         which = f"has no round {number}" if number else "had no round yet"
         raise Refused(f"{register.name} {which}")
-    return of_draw(register, register, draw)
+    return Held(register, draw)
 
 
-def of_copy(before: Register, after: Register) -> Round:
-    """The round that is the next draw of BEFORE, with its lots and outcome of AFTER: whatever was
-    changed since, it saw the schools and children that BEFORE has.
-    """
+def next_draw(before: Register, after: Register) -> Draw:
+    """The draw of AFTER that is the next one of BEFORE, a copy from right before it."""
     same_season(before, after)
     at = len(before.draws) + 1
     draw = after.draws[at - 1] if len(after.draws) >= at else None
     if draw is None:
         raise Refused(f"{after.name} has no draw {at}: {before.name} has {at - 1}, and there is"
                       " none more")
-    if not draw.round:
-        raise Refused(f"draw {at} is a fill at {draw.school}, and this command takes rounds alone;"
-                      f" admissions-audit {before.name} {after.name} explains a fill")
-    found = of_draw(before, after, draw)
-    if before.pairs != set(found.lots) or set(before.taking_part) != set(found.outcomes):
+    pairs = before.pairs_of_fill(draw.school) if draw.school else before.pairs
+    is_whole = draw.school or set(before.taking_part) == set(after.outcomes[at])
+    if not is_whole or pairs != set(after.lots(at)):
         raise Refused(f"{before.name} is not from right before draw {at} of {after.name}: the"
                       " children who take part, or their lots, differ")
     for code in before.schools:
-        see_school(found, after, code)
-    return found
+        see_school(before, after, code)
+    return draw
 
 
-def of_draw(seen: Register, after: Register, draw: Draw) -> Round:
-    """A draw of AFTER with the schools and children of another register."""
-    at = draw.number
-    return Round(seen, draw, after.lots(at), after.outcomes[at], after.fresh[at])
+def next_round(before: Register, after: Register) -> Held:
+    """The round of AFTER that is the next draw of BEFORE."""
+    draw = next_draw(before, after)
+    if not draw.round:
+        raise Refused(f"draw {draw.number} is a fill at {draw.school}, and this takes rounds alone")
+    return Held(after, draw)
 
 
-def see_school(found: Round, after: Register, code: str) -> None:
+def see_school(before: Register, after: Register, code: str) -> None:
     """Refuses a school that cannot have become that of AFTER: nothing but its admission number can
     be changed, and that can only rise.
     """
-    before = found.register
     was, now = before.schools[code], after.schools.get(code)
     if now is None or dataclasses.replace(now, pan=was.pan) != was or now.pan < was.pan:
         raise Refused(f"{before.name} is no copy of {after.name}: the school {code} of the one is"
                       " not that of the other")
-    kept = sum(own == code for own in before.own.values())
-    admitted = sum(has == code for has in found.outcomes.values())
-    if now.pan > was.pan and admitted > max(before.places_of_round(code), kept):
-        raise Refused(f"{before.name} is not from right before draw {found.draw.number}: {code}"
-                      " admitted more children than it has places there")
+
+
+def held_again(before: Register, after: Register, last: int | None = None,
+               program: Program | None = None) -> Held:
+    """The next draw of BEFORE as the register was right after it, whatever was changed since: the
+    program holds it again on a copy, by the lots of AFTER, and must have the outcome of AFTER.
+    Where `last` is the number of a later draw, all up to that, which were held one after the other.
+    """
+    first, program = next_draw(before, after), program or Program(files.program())
+    draws = after.draws[first.number - 1:last or first.number]
+    with tempfile.TemporaryDirectory(prefix="admissions-held-") as room:
+        path = os.path.join(room, "held.db")
+        before.source.copy_to(path)
+        trial_registers.sent(program, path, [command_of(it, after.lots(it.number))
+                                             for it in draws])
+        found = model.read_stored(path, program.path, before.name)
+    for at in (it.number for it in draws):
+        if (found.outcomes[at], found.fresh[at]) != (after.outcomes[at], after.fresh[at]):
+            raise Refused(f"{before.name} is not from right before draw {at} of {after.name}: held"
+                          " again, the draw has another outcome. admissions-audit says where they"
+                          " differ")
+    return Held(found, draws[-1])
+
+
+def command_of(draw: Draw, lots: dict[Pair, int]) -> trial_registers.Command:
+    """The command that holds a draw by these lots."""
+    school = {"school": draw.school} if draw.school else {}
+    return {"cmd": "fill" if draw.school else "round", "draw": draw.number, **school,
+            "day": draw.day.isoformat(), "lots": [lots[it] for it in sorted(lots)]}

@@ -117,8 +117,7 @@ class Trial:
         progress.at(2)
         progress.end()
         self.effects = trial_effects.effects_of(self.plain, self.changed, self.number)
-        self.schools = trial_effects.by_school(
-            self.plain, self.changed, self.number, lots, self.effects)
+        self.schools = trial_effects.by_school(self.plain, self.changed, self.number, self.effects)
         self.gains = sum(it.gains for it in self.effects)
         self.losses = len(self.effects) - self.gains
 

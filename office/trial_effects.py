@@ -4,7 +4,7 @@ who would have lost, by school and criterion.
 import collections
 import dataclasses
 
-from .model import Pair, Register
+from .model import Register
 
 
 @dataclasses.dataclass(frozen=True)
@@ -41,15 +41,14 @@ def class_at(register: Register, code: str | None, child: int) -> int | None:
     return register.rank(code, child)[0] if code else None
 
 
-def last_of(register: Register, number: int, code: str,
-            lots: dict[Pair, int]) -> tuple[int, tuple[int, int] | None]:
+def last_of(register: Register, number: int, code: str) -> tuple[int, tuple[int, int] | None]:
     """How many children were offered a place at a school in a draw, and the class and the metres of
     the last of them.
     """
     outcomes, fresh = register.outcomes[number], register.fresh[number]
-    offered = [it for it, school in outcomes.items() if school == code and fresh[it]]
-    keys = [(*register.rank(code, it), lots[code, it]) for it in offered]
-    return len(keys), max(keys)[:2] if keys else None
+    offered = sum(school == code and fresh[it] for it, school in outcomes.items())
+    last = register.drawn(number).cutoffs.get(code)
+    return offered, last and last[:2]
 
 
 def effects_of(plain: Register, changed: Register, number: int) -> list[Effect]:
@@ -65,15 +64,15 @@ def effects_of(plain: Register, changed: Register, number: int) -> list[Effect]:
     return found
 
 
-def by_school(plain: Register, changed: Register, number: int, lots: dict[Pair, int],
+def by_school(plain: Register, changed: Register, number: int,
               effects: list[Effect]) -> list[SchoolEffect]:
     """The schools, each with its effects: a gain counts at the school that the child would have, a
     loss at the one that it has.
     """
     found = []
     for code in plain.schools:
-        offered, last = last_of(plain, number, code, lots)
-        would_offer, would_last = last_of(changed, number, code, lots)
+        offered, last = last_of(plain, number, code)
+        would_offer, would_last = last_of(changed, number, code)
         gains = collections.Counter(it.would_class for it in effects
                                     if it.gains and it.would == code and it.would_class is not None)
         losses = collections.Counter(it.had_class for it in effects if not it.gains

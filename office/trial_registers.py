@@ -63,7 +63,7 @@ class Program:
             raise Refused("it was ended before its result")
         if run.returncode not in fine:
             text = " ".join((errors or out).decode("utf-8", "replace").split())
-            raise Refused(f"the program does not make the trial's register ({words[0]}, status"
+            raise Refused(f"the program does not make the register ({words[0]}, status"
                           f" {run.returncode}): {text}")
         return out.decode("utf-8")
 

@@ -23,8 +23,8 @@ def by_list(program: Program, before: Register, after: Register, child: int,
     """The school that the round after a copy would have given a child by another list of schools
     that it wanted there, in any order, or None.
     """
-    seen = rounds.of_copy(before, after)
-    question = {"child": child, "lots": [seen.lots[it] for it in sorted(seen.lots)],
+    lots = rounds.next_round(before, after).drawn.lots
+    question = {"child": child, "lots": [lots[it] for it in sorted(lots)],
                 "preferences": list(preferences)}
     with tempfile.TemporaryDirectory(prefix="admissions-trial-") as room:
         path = os.path.join(room, "copy.db")
@@ -51,7 +51,7 @@ def by_day(program: Program, before: Register, after: Register, child: int,
     was late has no lots there: those of all others stay in their order, and it is before or behind
     them.
     """
-    seen = rounds.of_copy(before, after)
+    seen = rounds.next_round(before, after)
     if before.draws:
         raise Refused("the day of an application counts in the first round alone")
     application = before.applications[child]
@@ -62,7 +62,7 @@ def by_day(program: Program, before: Register, after: Register, child: int,
     applied = {**before.applications, child: dataclasses.replace(application, day=day)}
     changed = dataclasses.replace(before, applications=applied)
     best, worst = (
-        held(program, changed, seen.draw.day, with_child(seen.lots, child, is_first,
+        held(program, changed, seen.draw.day, with_child(seen.drawn.lots, child, is_first,
                                                          application.preferences))
         for is_first in (True, False))
     return Span(best.outcomes[1][child], worst.outcomes[1][child])

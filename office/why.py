@@ -1,176 +1,212 @@
-"""Says in sentences why a child got the place that it has, and none at each
-school that its family wanted more.
+"""Says in sentences why a child got what a round or a fill gave it, and no place
+at each school that its family wanted more.
 
-  admissions-why BEFORE AFTER --child N [--office] [--flags FILE]
-                 [--user NAME]
+  admissions-why REGISTER --child N [--draw D] [--copy COPY] [--office]
+                 [--flags FILE] [--user NAME]
 
-BEFORE is a copy of the register from right before a round, AFTER the register,
-or the address at which it is served, or any later copy: schools and children
-are taken from BEFORE, as the round saw them, and of AFTER only the lots and the
-outcome, so that admission numbers and children may have changed since. For each
-school above the child's place it prints how many places there were, how many
-children ranked before this one and by which criterion, and the class, the
-distance and, where it decided, the lot of the last child admitted and of this
-one. No other child is named. Classes and distances are the program's, and each
-place is counted: that nobody was admitted who ranks after this child is tested
-here, and where it is not so, the command says so and ends with 1.
+REGISTER is the register, or the address at which it is served, or a copy from
+after the draw. Without --draw it is the last round. For each school above the
+child's place it prints how many places there were, how many wanted one and were
+admitted, how the last child admitted ranks and how this one does, and whether
+the criterion, the distance or the lot decided. All of that is what the program
+says of the draw. No other child is named.
 
-What it prints is for the family: it says 'some' where a number is withheld by
+A register has the data of now. If a home, a flag or an admission number was
+changed after the draw, name a copy from right before the draw by --copy: the
+program then holds the draw again on it, by the same lots, and so explains it by
+what it saw.
+
+What is printed is for the family: it says 'some' where a number is withheld by
 the rules of admissions-figures, and withholds the distance of a last child that
-is or was looked after, or has a flag. With --office it prints all, for the
-office alone.
+is or was looked after, or has a flag. Of the one child that a fill offered the
+place it has no distance and no lot. With --office it prints all, and how many
+were admitted by each criterion, for the office alone.
 --flags gives flags the office's words, by lines as `7,medical need`.
 
-It explains one child in a round. admissions-audit BEFORE AFTER explains a
-fill, and checks whether a whole round is right.
+It explains one child in a draw. admissions-audit checks whether a whole draw is
+right.
 
-example:
-  admissions-why copies/before-draw-1.db reg.db --child 23
+examples:
+  admissions-why reg.db --child 23
+  admissions-why reg.db --child 23 --copy copies/before-draw-1.db --office
 
-exit status: 0 explained; 1 there is no such child or round, or the round is
-not right for it; 2 wrong arguments.
+exit status: 0 explained; 1 there is no such child or draw, or the data that
+the register has give no reason any more; 2 wrong arguments.
 """
 import argparse
+import collections
 import dataclasses
-import datetime
+import sys
 from collections.abc import Iterator
 
 from register_files import Refused
 
 from . import criteria, days, model, rounds, texts, withheld
-from .model import PLAN, Register
-from .rounds import Key, Round
+from .model import CLASS, DISTANCE, LOT, NOBODY, PLAN, Application, Cutoff, Draw, Register
+from .rounds import Held
 
-CLASS, DISTANCE, LOT = "class", "distance", "lot"
 FOR_OFFICE = "For the office alone: it has numbers that are not published"
 FOR_FAMILY = "For the family of the child: small numbers are withheld"
 # what a family reads in place of a number that is withheld, and what that means
 SOME = "Some"
 MEANING = (f"Where this says '{SOME.lower()}', the number is withheld, because it is from 1 to"
            f" {withheld.LEAST - 1}, or because such a number could be worked out from it.")
-DECIDED: dict[str | None, str] = {
+DECIDED = {
     CLASS: "The criterion decided: the last child admitted met one that comes before any that this"
     " child meets.",
     DISTANCE: "Both are in the same class, and the distance decided: the other child lives nearer"
     " to the school.",
     LOT: "Both are in the same class and live at the same distance, and the lot decided: the"
     " smaller one ranks first.",
+    NOBODY: "Nobody was newly admitted.",
 }
 BY_DISTANCE_OR_LOT = (
     "Both are in the same class, and the distance, or between equal distances the lot, decided."
 )
+ORDER = ("A vacancy is offered to the one that ranks first of those who wait: by the class, then by"
+         " the distance, and between equal distances by the lot.")
+OF_NOW = ("this is by the data that the register has now; where they were changed after the draw,"
+          " it is not what the draw saw")
+AMENDED = ("The data of this child were changed after the draw: those that the draw saw are used"
+           " here.")
+NO_REASON = ("the data that the register has now give no reason: those of this child, or of one"
+             " that was admitted, were changed after the draw")
 # why a child takes no part at a school of its list
 TURNED_DOWN = "its family had declined the place there, or not answered its offer in time"
 LEFT = "its family had left the waiting list there"
 EITHER = ("its family had declined the place there, not answered its offer in time, or left the"
           " waiting list")
-# a number of a school: of those before the child by their class, or another one by its name
-Counted = str | tuple[str, int]
 
 
-@dataclasses.dataclass
+@dataclasses.dataclass(frozen=True)
 class School:
-    """A school above the child's place: its places, who is before the child there, and the last
-    that was admitted.
+    """A school that a child wanted in a draw, and of which it has no place: as which preference;
+    why it took no part there, if so; else the places, how many wanted one, how many were admitted,
+    and by which classes if that is known; how the last of them ranks, and how the child does; and
+    what decided, if the program says it.
     """
 
     code: str
     preference: int
-    # why the child took no part there, if it did not
-    because: str | None
+    because: str | None = None
     pan: int = 0
     plans: int = 0
     kept: int = 0
     wanted: int = 0
-    key: Key = (0, 0, 0)
-    # how many rank before the child, by the class of each
-    before: dict[int, int] = dataclasses.field(default_factory=dict)
     admitted: int = 0
-    elsewhere: int = 0
-    refused: int = 0
-    last: Key | None = None
-    faults: list[str] = dataclasses.field(default_factory=list)
-
-    @property
-    def places(self) -> int:
-        """The places that the round allots."""
-        return max(0, self.pan - self.plans)
-
-    @property
-    def decided(self) -> str | None:
-        """What put the child behind the last that was admitted, if anybody was."""
-        kinds = zip((CLASS, DISTANCE, LOT), self.key, self.last or ())
-        return next((name for name, one, other in kinds if one != other), None)
+    classes: dict[int, int] | None = None
+    last: Cutoff | None = None
+    key: Cutoff | None = None
+    decided: str | None = None
 
 
-@dataclasses.dataclass
+@dataclasses.dataclass(frozen=True)
 class Why:
-    """The explanation of one child in one round."""
+    """The explanation of one child in one draw: the place that it had before and the one that it
+    has by the draw, if these are known, and the schools that it wanted more. `is_of_now` where it
+    is by the data of now, `is_amended` where the draw saw others of this child.
+    """
 
     child: int
-    round: int
-    day: datetime.date
+    held: Held
     takes_part: bool
     had: str | None
     got: str | None
-    schools: list[School]
+    schools: tuple[School, ...]
+    is_of_now: bool
     is_amended: bool = False
 
+    @property
+    def register(self) -> Register:
+        """The register by which it is explained."""
+        return self.held.register
 
-def explain(before: Register, after: Register, number: int) -> Why:
-    """The explanation, from the registers before and after the round."""
-    seen = rounds.of_copy(before, after)
-    if number not in before.children:
-        raise Refused(f"{before.name} has no child {number}")
-    is_amended = before.children[number] != after.children.get(number)
-    found = Why(number, seen.number, seen.draw.day, number in seen.outcomes,
-                before.own.get(number), seen.outcomes.get(number), [], is_amended)
-    if found.takes_part:
-        listed = before.applications[number].preferences
-        above = listed[: listed.index(found.got)] if found.got else listed
-        for place, code in enumerate(above, 1):
-            one = School(code, place, why_left(before, number, code))
-            found.schools.append(counted(seen, number, one))
-    return found
+    @property
+    def application(self) -> Application | None:
+        """The application of the child, unless a plan has ended it since."""
+        return self.register.applications.get(self.child)
+
+    @property
+    def is_whole(self) -> bool:
+        """Whether each refusal has a reason."""
+        return all(it.because or it.decided for it in self.schools) or bool(self.held.draw.school)
 
 
-def why_left(before: Register, number: int, code: str) -> str | None:
-    """Why a child takes no part at a school of its list, or None where it does: the last place that
-    it was offered was that one, an earlier one, or none.
+def held_in(register: Register, number: int | None) -> Held:
+    """A draw of a register, the last round where no number is given."""
+    if number is None:
+        return rounds.of_register(register)
+    draw = next((it for it in register.draws if it.number == number), None)
+    if draw is None:
+        raise Refused(f"{register.name} has no draw {number}")
+    return Held(register, draw)
+
+
+def explain(held: Held, number: int, before: Register | None = None) -> Why:
+    """The explanation by a register from after a draw; `before` is the copy on which the draw was
+    held again, if it was.
     """
-    if (number, code) not in before.left:
-        return None
-    offered = [before.outcomes[draw][number] for draw, fresh in sorted(before.fresh.items())
-               if fresh.get(number)]
+    register, draw = held.register, held.draw
+    if number not in register.children:
+        raise Refused(f"{register.name} has no child {number}")
+    got, place = held.outcomes.get(number), before.places.get(number) if before else None
+    had = got if got and not held.fresh[number] else place.school if place else None
+    takes_part = number in held.outcomes or (draw.school, number) in held.drawn.lots
+    schools = of_fill(held, number) if draw.school else of_round(held, number)
+    return Why(number, held, takes_part, had, got, tuple(schools) if takes_part else (),
+               before is None)
+
+
+def of_round(held: Held, number: int) -> Iterator[School]:
+    """The schools that a child of a round wanted more than what it got."""
+    application, got = held.register.applications.get(number), held.outcomes.get(number)
+    for at, code in enumerate(application.preferences if application else (), 1):
+        if code == got:
+            return
+        if (code, number) in held.drawn.refusals:
+            yield counted(held, number, School(code, at))
+        else:
+            yield School(code, at, why_left(held, number, code))
+
+
+def of_fill(held: Held, number: int) -> Iterator[School]:
+    """The school of a fill, of a child that waited there and was not offered the place."""
+    code, application = held.draw.school, held.register.applications.get(number)
+    if code and application and (code, number) in held.drawn.lots and number not in held.outcomes:
+        yield counted(held, number, School(code, application.preferences.index(code) + 1))
+
+
+def why_left(held: Held, number: int, code: str) -> str:
+    """Why a child took no part at a school of its list: the last place that it was offered before
+    was that one, an earlier one, or none.
+    """
+    register = held.register
+    offered = [register.outcomes[it.number][number] for it in register.draws
+               if it.number < held.draw.number and register.fresh[it.number].get(number)]
     if code not in offered:
         return LEFT
     return TURNED_DOWN if offered[-1] == code else EITHER
 
 
-def counted(seen: Round, number: int, found: School) -> School:
-    """Counts a school's places and the children before this one there."""
-    code, before, outcomes = found.code, seen.register, seen.outcomes
-    found.pan, found.plans = before.schools[code].pan, before.schools[code].plans
-    found.kept = sum(before.own.get(it) == code == has for it, has in outcomes.items())
-    if found.because:
-        return found
-    keys = {child: seen.key(code, child) for school, child in seen.lots if school == code}
-    found.wanted, found.key = len(keys), keys[number]
-    there = [it for it in keys if outcomes[it] == code]
-    found.last = max((keys[it] for it in there), default=None)
-    found.admitted = len(there)
-    for child, key in keys.items():
-        if key < found.key:
-            found.before[key[0]] = found.before.get(key[0], 0) + 1
-            listed = before.applications[child].preferences
-            has_better = outcomes[child] in listed[: listed.index(code)]
-            found.elsewhere += has_better
-            found.refused += outcomes[child] != code and not has_better
-        elif child != number and outcomes[child] == code:
-            found.faults.append("a child that ranks after this one was admitted")
-    if found.kept + found.admitted < found.places:
-        found.faults.append("a place remained free")
-    return found
+def counted(held: Held, number: int, found: School) -> School:
+    """A school with its places, and what the program says of this child there."""
+    code, register, drawn = found.code, held.register, held.drawn
+    school, outcomes = register.schools[code], held.outcomes
+    admitted = [it for it, has in outcomes.items() if has == code and held.fresh[it]]
+    return dataclasses.replace(
+        found, pan=school.pan, plans=school.plans,
+        kept=sum(has == code for has in outcomes.values()) - len(admitted),
+        wanted=sum(there == code for there, _ in drawn.lots), admitted=len(admitted),
+        classes=classes_of(register, code, admitted), last=drawn.cutoffs.get(code),
+        key=Cutoff(*register.rank(code, number), drawn.lots[code, number]),
+        decided=drawn.refusals.get((code, number)))
+
+
+def classes_of(register: Register, code: str, children: list[int]) -> dict[int, int] | None:
+    """How many of these children are in each class of a school, unless an application has ended."""
+    if any(it not in register.applications for it in children):
+        return None
+    return dict(sorted(collections.Counter(register.rank(code, it)[0] for it in children).items()))
 
 
 def nth(preference: int) -> str:
@@ -178,25 +214,16 @@ def nth(preference: int) -> str:
     return f"{texts.nth(preference)} preference"
 
 
-def hidden_of(found: School) -> set[Counted]:
+def hidden_of(found: School) -> set[str]:
     """The counts of a school that are withheld from a family."""
-    classes: dict[Counted, int] = {("class", at): it for at, it in found.before.items()}
-    counts: dict[Counted, int] = {
-        **classes, "before": sum(found.before.values()), "others": found.wanted - 1,
-        "plans": found.plans, "kept": found.kept, "admitted": found.admitted,
-        "elsewhere": found.elsewhere, "refused": found.refused,
-    }
-    sums: list[list[tuple[Counted, int]]] = [
-        [("before", -1), *((it, 1) for it in classes)],
-        [("before", -1), ("elsewhere", 1), ("refused", 1), ("admitted", 1)],
-    ]
+    counts = {"others": found.wanted - 1, "plans": found.plans, "kept": found.kept,
+              "admitted": found.admitted}
     # (the admission number is published, and that the school is full is why the child has no place)
     if found.admitted == found.pan:
         del counts["admitted"]
-        sums[1].pop()
-    elif found.plans + found.kept + found.admitted == found.pan:
-        sums.append([("plans", 1), ("kept", 1), ("admitted", 1)])
-    hidden: set[Counted] = withheld.withheld(counts, sums)
+    is_full = found.plans + found.kept + found.admitted == found.pan
+    tied = [(it, 1) for it in counts if it != "others"]
+    hidden: set[str] = withheld.withheld(counts, [tied] if is_full and len(tied) == 3 else [])
     return hidden
 
 
@@ -211,7 +238,7 @@ class View:
         self.hidden = set() if is_office or found.because else hidden_of(found)
         self.has_withheld = False
 
-    def count(self, key: Counted, value: int, one: str, many: str) -> str:
+    def count(self, key: str, value: int, one: str, many: str) -> str:
         """A number with what follows it, at the begin of a sentence. Nothing tells whether a number
         that is withheld is 1. That there is nobody is said elsewhere too.
         """
@@ -224,59 +251,30 @@ class View:
         """A class in words."""
         return criteria.in_words(self.school, number, self.flags)
 
-    def is_private(self, key: Key) -> bool:
+    def is_private(self, key: Cutoff) -> bool:
         """Whether the distance of the last child admitted is withheld."""
-        return not self.is_office and criteria.is_private(self.school, key[0])
+        return not self.is_office and criteria.is_private(self.school, key.number)
 
-    def ranked(self, key: Key) -> str:
+    def ranked(self, key: Cutoff) -> str:
         """A class and a distance in words."""
-        return f"class {key[0]} ({self.words(key[0])}), {key[1]:,} metres"
+        return f"class {key.number} ({self.words(key.number)}), {key.metres:,} metres"
 
 
 def sentences_of(found: School, school: model.School, view: View) -> Iterator[str]:
-    """The sentences about one school."""
+    """The sentences about one school in a round."""
     yield f"{school.name} ({found.code}), {nth(found.preference)}: no place."
     if found.because:
         yield f"The child took no part there, as {found.because}."
         return
     yield f"The school has {texts.count(found.pan, 'place')}." + "".join(taken_of(found, view))
     wanted = view.count("others", found.wanted, "child", "children")
-    admitted = view.count("admitted", found.admitted, "was admitted.", "were admitted.")
-    yield f"{wanted} wanted a place there in this round, this child among them. {admitted}"
-    yield from those_before(found, view)
+    admitted = view.count("admitted", found.admitted, "was admitted", "were admitted")
+    shown = found.classes if view.is_office else None
+    yield (f"{wanted} wanted a place there in this round, this child among them."
+           f" {admitted}{':' if shown else '.'}")
+    for number, count in (shown or {}).items():
+        yield f"- {count:,} {view.words(number)}"
     yield from compared(found, view)
-
-
-def those_before(found: School, view: View) -> Iterator[str]:
-    """How many children rank before this one, by their classes, and what became of them."""
-    total = sum(found.before.values())
-    if not total:
-        return
-    yield view.count("before", total, "child ranks", "children rank") + " before this child there:"
-    for number, count in sorted(found.before.items()):
-        words = view.words(number)
-        how = how_before(found, view, number)
-        text = view.count(("class", number), count, words, words)
-        yield f"- {text[:1].lower()}{text[1:]}{how}"
-    if found.elsewhere:
-        got = view.count("elsewhere", found.elsewhere,
-                         "of them got a school that its own family prefers",
-                         "of them got a school that their own families prefer")
-        yield f"{got}, and took no place here."
-    if found.refused:
-        was = view.count("refused", found.refused, "of them was", "of them were")
-        yield f"{was} refused a place here too."
-
-
-def how_before(found: School, view: View, number: int) -> str:
-    """By what children of a class rank before this one, if it is of that class too."""
-    if number != found.key[0]:
-        return ""
-    last = found.last
-    is_hidden = last is not None and number == last[0] and view.is_private(last)
-    is_nearer = last is None or found.key[:2] != last[:2]
-    return ", nearer to the school" if is_nearer and not is_hidden else (
-        ", nearer or with a smaller lot")
 
 
 def taken_of(found: School, view: View) -> Iterator[str]:
@@ -290,62 +288,103 @@ def taken_of(found: School, view: View) -> Iterator[str]:
 
 
 def compared(found: School, view: View) -> Iterator[str]:
-    """The last child admitted, and this one."""
-    if found.last is None:
-        yield f"Nobody was newly admitted. This child: {view.ranked(found.key)}."
-        return
-    if view.is_private(found.last):
-        number = found.last[0]
-        yield (f"The last child admitted: class {number} ({view.words(number)}); its distance is"
-               " withheld.")
-        yield f"This child: {view.ranked(found.key)}."
-        yield DECIDED[CLASS] if found.decided == CLASS else BY_DISTANCE_OR_LOT
-        return
-    for who, key in (("The last child admitted", found.last), ("This child", found.key)):
-        lot = f", lot {key[2]:,}" if found.decided == LOT else ""
-        yield f"{who}: {view.ranked(key)}{lot}."
-    yield DECIDED[found.decided]
+    """The last child admitted, and this one, and what decided."""
+    last, key, is_by_lot = found.last, found.key, found.decided == LOT
+    is_hidden = last is not None and view.is_private(last)
+    if last and is_hidden:
+        yield (f"The last child admitted: class {last.number} ({view.words(last.number)}); its"
+               " distance is withheld.")
+    elif last:
+        lot = f", lot {last.lot:,}" if is_by_lot else ""
+        yield f"The last child admitted: {view.ranked(last)}{lot}."
+    if key:
+        lot = f", lot {key.lot:,}" if is_by_lot and not is_hidden else ""
+        yield f"This child: {view.ranked(key)}{lot}."
+    if is_hidden and found.decided in (DISTANCE, LOT):
+        yield BY_DISTANCE_OR_LOT
+    elif found.decided:
+        yield DECIDED[found.decided]
+
+
+def sentences_of_fill(found: School, school: model.School, view: View) -> Iterator[str]:
+    """The sentences about the school of a fill. To a family nothing points to the one child that
+    was offered the place.
+    """
+    yield f"{school.name} ({found.code}), {nth(found.preference)}: no place."
+    wanted = view.count("others", found.wanted, "child", "children")
+    yield f"{wanted} waited for the vacancy, this child among them."
+    other = "The child that was offered the place"
+    if found.last and view.is_office:
+        yield f"{other}: {view.ranked(found.last)}, lot {found.last.lot:,}."
+    elif found.last and not view.is_private(found.last):
+        yield f"{other}: class {found.last.number} ({view.words(found.last.number)})."
+    if found.key:
+        lot = f", lot {found.key.lot:,}" if view.is_office else ""
+        yield f"This child: {view.ranked(found.key)}{lot}."
+    yield ORDER
 
 
 def nowhere(found: Why) -> str:
-    """The sentence about a child that got no place. A school that its family left may have admitted
-    children who rank after it.
+    """The sentence about a child that got no place in a round. A school that its family left may
+    have admitted children who rank after it; and one that admitted nobody was full before.
     """
     there = sum(not it.because for it in found.schools)
+    if not found.application or not found.is_whole:
+        return "The child got no place."
     if not there:
         return "The child got no place: it took part at no school on its list."
     which = "each school on its list"
     if there < len(found.schools):
         which += " at which it took part"
+    if any(it.decided == NOBODY for it in found.schools):
+        return f"The child got no place: {which} was full."
     return f"The child got no place: {which} was filled by children who rank before it there."
 
 
-def heading(found: Why, after: Register) -> Iterator[str]:
-    """The round, and the child."""
-    number = found.child
-    yield (f"Admission {after.year} {after.phase}, round {found.round} of"
-           f" {days.in_words(found.day)}")
-    yield f"Child {number} {after.children[number].name}"
+def draw_in_words(register: Register, draw: Draw) -> str:
+    """A draw with its day."""
+    day = days.in_words(draw.day)
+    if draw.school:
+        return f"fill of a vacancy at {named(register, draw.school)} of {day}, draw {draw.number}"
+    return f"round {draw.round} of {day}"
 
 
-def opening(found: Why, before: Register) -> Iterator[str]:
+def heading(found: Why) -> Iterator[str]:
+    """The draw, and the child."""
+    register, number = found.register, found.child
+    yield (f"Admission {register.year} {register.phase},"
+           f" {draw_in_words(register, found.held.draw)}")
+    yield f"Child {number} {register.children[number].name}"
+
+
+def opening(found: Why) -> Iterator[str]:
     """The first sentences: what the child got."""
-    number = found.child
+    register, draw = found.register, found.held.draw
     if not found.takes_part:
-        yield no_part(before, number)
-        return
-    if found.got is None:
-        yield nowhere(found)
+        yield no_part(register, draw, found.child)
+    elif found.got:
+        yield from got(found, found.got)
+    elif draw.school:
+        yield f"The place at {named(register, draw.school)} was offered to another child."
     else:
-        school = named(before, found.got)
-        which = nth(before.applications[number].preferences.index(found.got) + 1)
-        if found.got == found.had:
-            yield f"The child keeps its place at {school}, its {which}."
-        else:
-            yield f"The child was offered {school}, its {which}."
-            if found.had:
-                yield f"Its place at {named(before, found.had)} ended, as it prefers the new one."
-    if not found.schools:
+        yield nowhere(found)
+    if found.takes_part and not found.application:
+        yield ("Its application has ended since, by an EHC plan, so the register does not show how"
+               " it ranked.")
+
+
+def got(found: Why, code: str) -> Iterator[str]:
+    """The sentences about the place that a child got."""
+    school, application = named(found.register, code), found.application
+    which = f", its {nth(application.preferences.index(code) + 1)}" if application else ""
+    if code == found.had:
+        yield f"The child keeps its place at {school}{which}."
+    else:
+        yield f"The child was offered {school}{which}."
+        if found.had:
+            had = named(found.register, found.had)
+            yield f"Its place at {had} ended, as it prefers the new one."
+    if application and not found.schools and not found.held.draw.school:
         yield "No school was preferred to it."
 
 
@@ -354,69 +393,85 @@ def named(register: Register, code: str) -> str:
     return f"{register.schools[code].name} ({code})"
 
 
-def no_part(before: Register, number: int) -> str:
-    """Why a child took no part in the round."""
-    place, application = before.places.get(number), before.applications.get(number)
+def no_part(register: Register, draw: Draw, number: int) -> str:
+    """Why a child took no part in a draw."""
+    place, application = register.places.get(number), register.applications.get(number)
+    what = "round" if draw.round else "fill"
     if place and place.kind == PLAN:
-        return (f"The child has a place at {named(before, place.school)} by its EHC plan, and took"
-                " no part in the round.")
+        return (f"The child has a place at {named(register, place.school)} by its EHC plan, and"
+                f" took no part in the {what}.")
     if application is None:
-        return "The child has no application, and took no part in the round."
-    return (f"The application of {days.in_words(application.day)} came after the closing date,"
-            f" {days.in_words(before.days[0])}, and took no part in the first round.")
+        return f"The child has no application, and took no part in the {what}."
+    day = days.in_words(application.day)
+    if draw.school:
+        return (f"The child did not wait at {named(register, draw.school)} when the vacancy was"
+                " filled.")
+    if draw.round == 1 and not register.is_in_time(application.day):
+        return (f"The application of {day} came after the closing date,"
+                f" {days.in_words(register.days[0])}, and took no part in the first round.")
+    return f"The application of {day} was recorded after the round, and took no part in it."
 
 
 @dataclasses.dataclass(frozen=True)
 class Section:
     """A part of an explanation: its sentences, the school that it is about, if it is about one, and
-    what is not right there.
+    what is missing there, or "".
     """
 
     sentences: list[str]
     school: str = ""
-    faults: tuple[str, ...] = ()
+    missing: str = ""
 
 
-def sections_of(found: Why, before: Register, after: Register, is_office: bool = False,
+def sections_of(found: Why, is_office: bool = False,
                 flags: dict[int, str] | None = None) -> Iterator[Section]:
     """The whole explanation, for the office or for the family: for whom and about whom it is, what
     the child got, and each school. `flags` are the office's words for flags.
     """
-    yield Section([FOR_OFFICE if is_office else FOR_FAMILY, *heading(found, after)])
-    first = list(opening(found, before))
-    if found.is_amended:
-        first.append("The data of this child were changed after the round: those that the round"
-                     " saw are used here.")
-    yield Section(first)
-    is_withheld = False
+    yield Section([FOR_OFFICE if is_office else FOR_FAMILY, *heading(found)])
+    yield Section([*opening(found), *([AMENDED] if found.is_amended else [])])
+    is_withheld, is_fill = False, bool(found.held.draw.school)
     for it in found.schools:
-        school = before.schools[it.code]
+        school = found.register.schools[it.code]
         view = View(it, school, is_office, flags)
-        yield Section(list(sentences_of(it, school, view)), it.code, tuple(it.faults))
+        made = sentences_of_fill if is_fill else sentences_of
+        missing = "" if it.because or it.decided or is_fill else NO_REASON
+        yield Section(list(made(it, school, view)), it.code, missing)
         is_withheld = is_withheld or view.has_withheld
     if is_withheld:
         yield Section([MEANING])
 
 
-def lines_of(found: Why, before: Register, after: Register, is_office: bool = False,
+def lines_of(found: Why, is_office: bool = False,
              flags: dict[int, str] | None = None) -> Iterator[str]:
     """The same as lines of a terminal."""
-    for at, it in enumerate(sections_of(found, before, after, is_office, flags)):
+    for at, it in enumerate(sections_of(found, is_office, flags)):
         if at:
             yield ""
         yield from it.sentences
-        for fault in it.faults:
-            yield f"THIS IS NOT RIGHT: {fault}. Run admissions-audit."
+        if it.missing:
+            yield f"THERE IS NO REASON: {it.missing}. Name a copy from before the draw by --copy."
+
+
+def explain_again(held: Held, before: Register, after: Register, number: int) -> Why:
+    """The explanation by what a draw saw that was held again on a copy from before it."""
+    if number not in before.children:
+        raise Refused(f"{before.name} has no child {number}")
+    found = explain(held, number, before)
+    is_amended = before.children[number] != after.children.get(number)
+    return dataclasses.replace(found, is_amended=is_amended)
 
 
 def arguments(reader: argparse.ArgumentParser) -> None:
     """The arguments of the command."""
-    reader.add_argument("before", metavar="BEFORE",
-                        help="a copy of the register from before the round")
-    reader.add_argument("after", metavar="AFTER",
-                        help="the register, or a copy, from after it" + model.ADDRESS_HELP)
+    reader.add_argument("register", metavar="REGISTER", help="the register, or a copy, from after"
+                        " the draw" + model.ADDRESS_HELP)
     reader.add_argument("--child", metavar="N", type=int, required=True,
                         help="the number of the child")
+    reader.add_argument("--draw", metavar="D", type=int,
+                        help="the number of the draw, by default that of the last round")
+    reader.add_argument("--copy", metavar="COPY", help="the copy from right before the draw, if"
+                        " anything was changed since")
     reader.add_argument("--office", action="store_true",
                         help="print all numbers, for the office alone")
     reader.add_argument("--flags", metavar="FILE", help=criteria.FLAGS_HELP)
@@ -426,9 +481,17 @@ def arguments(reader: argparse.ArgumentParser) -> None:
 def main(given: argparse.Namespace) -> int:
     """Explains."""
     flags = criteria.flags_of(given.flags)
-    read = model.reader(given.user, given.before, given.after)
-    before, after = read(given.before), read(given.after)
-    found = explain(before, after, given.child)
-    for it in lines_of(found, before, after, given.office, flags):
+    read = model.reader(given.user, given.register, given.copy)
+    after = read(given.register)
+    if given.copy:
+        before = read(given.copy)
+        if given.draw not in (None, len(before.draws) + 1):
+            raise Refused(f"{before.name} is not from right before draw {given.draw}")
+        found = explain_again(rounds.held_again(before, after), before, after, given.child)
+    else:
+        found = explain(held_in(after, given.draw), given.child)
+        print(f"admissions-why: {OF_NOW}: name a copy from right before it by --copy",
+              file=sys.stderr)
+    for it in lines_of(found, given.office, flags):
         print(it)
-    return 1 if any(it.faults for it in found.schools) else 0
+    return 0 if found.is_whole else 1

@@ -6,7 +6,8 @@ The town is that of deploy/checks/season: sixty children, of whom some have brot
 a school, two are or were looked after, and some have a flag or a feeder school. Each of the two
 schools that favour children of staff has a flag of its own for them, as the handbook asks. Three
 more have applied too late for the round, and wait. The letters of the round were sent on its day.
-Run as a program it prints the words of each picture as JSON.
+Then late applications are added, of which some rows are wrong, and a fill is begun and brought to
+its lots. Run as a program it prints the words of each picture as JSON.
 """
 import contextlib
 import dataclasses
@@ -16,6 +17,7 @@ import json
 import pathlib
 import random
 import re
+import shutil
 import subprocess
 import sys
 import tempfile
@@ -38,12 +40,17 @@ setattr(datetime, "date", Day)
 # (what is imported from here on takes the day from there)
 from applications import Browser, Site  # noqa: E402
 from conftest import PROGRAM, ROOT, apply, child, do, make  # noqa: E402
-from explained import after_round  # noqa: E402
+from draw_site import JANE, SUP  # noqa: E402
+from explained import COPY, after_round  # noqa: E402
 from letter_site import asked, hidden, made, typed  # noqa: E402
 
 from office import days  # noqa: E402
 from office.model import OFFERED, WAITS  # noqa: E402
-from office.web import letters_audits, letters_sets, letters_whom  # noqa: E402
+from office.web import (  # noqa: E402
+    draws_lots, letters_audits, letters_sets, letters_whom, staging_files,
+)
+from office.web.draws_drafts import Typed  # noqa: E402
+from office.web.draws_terms import CLOSED, COPIED, LOTS  # noqa: E402
 
 sys.path.append(str(ROOT / "deploy"))
 from checks.season import town  # noqa: E402
@@ -64,6 +71,26 @@ OFFICE = {
     "telephone": "01632 960001", "email": "admissions@ashdown.example",
     "website": "www.ashdown.example", "signs": "Jane Head, Head of Admissions",
 }
+# copies beside that from before the round: what each is for, who asked for it, and when
+COPIES = (
+    ("before draw 1", "jane", "2025-03-03T09:12:00+00:00"),
+    ("after draw 1", "jane", "2025-03-03T09:31:00+00:00"),
+    ("before the EHC plans of March", "jane", "2025-03-10T10:02:00+00:00"),
+)
+# late applications, of which three rows have something wrong
+LATE_FILE, LATE_ADDED = "late.csv", "2025-03-17T09:20:00+00:00"
+LATE_ROWS = """child,name,east,north,looked_after,flags,siblings,day,preferences
+151,Nia Howells,2210,1480,no,,,4/3/2025,A;DEAN
+152,Tomos Reid,1900,820,no,,FERN,2025-03-06,FERN
+153,Zara Malik,,1260,no,,,2025-03-06,BEECH;C
+154,Evan Lloyd,2450,1930,no,,,2025-03-10,ELM;OAK
+155,Ruth Adeyemi,1110,2080,yes,1,,2025-03-11,St Cuthbert’s
+"""
+# a fill at the first school: when each of its steps was done; and the lots that are typed, which
+# the slips of a hat have given to the first group
+STEPS = {0: "2025-03-17T09:40:00+00:00", 1: "2025-03-17T09:41:00+00:00",
+         2: "2025-03-17T09:42:00+00:00", 3: "2025-03-17T09:42:00+00:00"}
+HAT = ("3", "1", "2")
 Commands = list[dict[str, Any]]
 # who applied too late, each before others at the first school by another criterion
 LATE: tuple[tuple[int, str, dict[str, Any]], ...] = (
@@ -160,19 +187,89 @@ def waits(office: Site) -> int:
         len([*register.applications[it].in_state(WAITS)]), -it))
 
 
-def part_of(name: str) -> str:
-    """The element that a picture shows: one has the whole page with its menu."""
-    return "body" if name == START else "main"
+@dataclasses.dataclass(frozen=True)
+class Picture:
+    """A picture of a screen: its name, the address, who sees it, and the element that it shows:
+    one has the whole page with its menu.
+    """
+
+    name: str
+    path: str
+    person: str = JANE.name
+    part: str = "main"
 
 
-def screens(office: Site) -> dict[str, str]:
-    """The address of each picture of a screen."""
+def pictures(office: Site) -> Iterator[Picture]:
+    """The pictures of screens. Each shows what was recorded until then, and what the next ones need
+    is recorded after it.
+    """
     one = waits(office)
-    return {
-        START: "/", "child": f"/children/{one}", "waiting-list": "/schools/A",
-        "worklist": f"/notices/remind?day={DAY}", "amend": f"/children/{one}/correct",
-        "question": f"/children/{one}/decline", "why": f"/children/{one}/why/1/family",
-    }
+    yield Picture(START, "/", part="body")
+    yield Picture("child", f"/children/{one}")
+    yield Picture("waiting-list", "/schools/A")
+    yield Picture("worklist", f"/notices/remind?day={DAY}")
+    yield Picture("amend", f"/children/{one}/correct")
+    yield Picture("question", f"/children/{one}/decline")
+    yield Picture("why", f"/children/{one}/why/1/family")
+    copied(office)
+    yield Picture("copies", "/copies/")
+    late_added(office)
+    yield Picture("applications", "/applications/")
+    number = fill_begun(office)
+    yield Picture("draw", f"/draws/{number}")
+    lots_given(office, number)
+    yield Picture("lots", f"/lots/{number}?page=1", SUP.name)
+
+
+def copied(office: Site) -> None:
+    """The copies that the office has, beside that from before the round."""
+    folder = office.parts.copies.folder
+    with office.parts.store.writing() as db:
+        for at, (purpose, who, asked_at) in enumerate(COPIES, 1):
+            name = COPY.replace("000001", f"{at:06}")
+            if at > 1:
+                shutil.copy(folder / COPY, folder / name)
+            db.execute("INSERT INTO copy (number, purpose, asked, name, size, who) VALUES"
+                       " (?, ?, ?, ?, 81920, ?) ON CONFLICT (number) DO UPDATE SET"
+                       " asked=excluded.asked, size=excluded.size, who=excluded.who",
+                       (at, purpose, asked_at, name, who))
+
+
+def late_added(office: Site) -> None:
+    """Applications that came too late, in a file that somebody has added."""
+    data = LATE_ROWS.encode()
+    office.app.extensions["staging"].staging.add_file(
+        JANE.name, LATE_FILE, data, False, staging_files.read(LATE_FILE, data, ""))
+    with office.parts.store.writing() as db:
+        db.execute("UPDATE staged_file SET added=?", (LATE_ADDED,))
+        db.execute("UPDATE staged_row SET added=?, changed=?", (LATE_ADDED, LATE_ADDED))
+
+
+def fill_begun(office: Site) -> int:
+    """A fill of the day at the first school, which is begun and has closed nothing."""
+    number = office.parts.draws.begin(JANE, "A", 1, Day.today())
+    with office.parts.store.writing() as db:
+        db.execute("UPDATE draw_step SET at=? WHERE draw=?", (STEPS[0], number))
+    return number
+
+
+def lots_given(office: Site, number: int) -> None:
+    """The same when its pairs are with the supervisor, who has typed the lots of the first group.
+    """
+    register, draw = office.parts.desk.now(), office.parts.draws.get(number)
+    pairs = draw.terms.pairs_in(register)
+    ties = draws_lots.ties_in(register, pairs)
+    with office.parts.store.writing() as db:
+        for at, state in enumerate((CLOSED, COPIED, LOTS), 1):
+            db.execute("INSERT INTO draw_step VALUES (?, ?, ?, ?, ?, '')",
+                       (number, draw.version + at, STEPS[at], JANE.name, state))
+        db.execute("UPDATE draw SET state=?, version=? WHERE id=?",
+                   (LOTS, draw.version + 3, number))
+        db.executemany("INSERT INTO lot VALUES (?, ?, ?, 0, '', NULL, ?)",
+                       [(number, *it, ties[it]) for it in pairs])
+    first = [it for it in pairs if ties[it] == 1]
+    assert len(first) == len(HAT), first
+    office.parts.lots.save(SUP, number, {(it, 0): Typed("", lot) for it, lot in zip(first, HAT)})
 
 
 def letter(office: Site) -> bytes:
@@ -228,16 +325,17 @@ def text_of(pdf: bytes) -> str:
     return " ".join(FOOT.sub("", ran.stdout.decode("utf-8")).split())
 
 
-def texts(office: Site) -> dict[str, str]:
-    """The words of each picture of a screen."""
-    browser = office.browser("jane", "head")
-    return {name: seen(browser, path, part_of(name)) for name, path in screens(office).items()}
+def words_of(office: Site, it: Picture) -> str:
+    """The words of a picture of a screen."""
+    roles = {JANE.name: "head", SUP.name: SUP.role}
+    return seen(office.browser(it.person, roles[it.person]), it.path, it.part)
 
 
 def main() -> None:
     """Prints the words of all pictures."""
     with tempfile.TemporaryDirectory() as folder, office_of(pathlib.Path(folder)) as office:
-        print(json.dumps({**texts(office), "letter": text_of(letter(office))}))
+        words = {it.name: words_of(office, it) for it in pictures(office)}
+        print(json.dumps({**words, "letter": text_of(letter(office))}))
 
 
 if __name__ == "__main__":

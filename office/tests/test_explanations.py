@@ -1,17 +1,14 @@
-"""Why a child got what a round gave it, in the application: for the family, for the office, as PDF.
+"""Why a child got what a draw gave it, in the application: for the family, for the office, as PDF.
 """
 import os
 import pathlib
 import subprocess
 from collections.abc import Iterator
-from typing import Any
 
 import pytest
 from applications import ROUND, Site, child, town
 from explained import COPY, after_round
 from pages import Page
-
-from office import why
 
 CLASS = "class 1 (ranked by distance alone)"
 
@@ -47,13 +44,13 @@ def test_the_child_leads_to_each_school_that_it_did_not_get(office: Site) -> Non
 
 
 def test_the_office_reads_all_numbers(office: Site) -> None:
-    """Of child 3 at Alpha: two places, four who wanted one, two before it."""
+    """Of child 3 at Alpha: two places, four who wanted one, two who have one."""
     page = Page(office.browser("rita").get("/children/3/why/1/office").text)
     assert page.by_id["for"].startswith("For the office alone")
     for said in (
         "The child was offered Beta (B), its second preference.",
-        "4 children wanted a place there in this round, this child among them. 2 were admitted.",
-        "2 children rank before this child there:",
+        "4 children wanted a place there in this round, this child among them. 2 were admitted:",
+        "<li>2 ranked by distance alone</li>",
         f"The last child admitted: {CLASS}, 200 metres.", f"This child: {CLASS}, 300 metres.",
         "the distance decided: the other child lives nearer to the school.",
     ):
@@ -66,8 +63,8 @@ def test_the_family_reads_no_small_number_and_no_other_child(office: Site) -> No
     rita = office.browser("rita")
     page = Page(rita.get("/children/4/why/1/family").text)
     assert page.by_id["for"].startswith("For the family of the child: small numbers are withheld")
-    assert "Some children rank before this child there:" in page.by_id["school-A"]
-    assert "2 children rank" not in page.text and "4 children wanted" not in page.text
+    assert "Some children wanted a place there" in page.by_id["school-A"]
+    assert "2 ranked" not in page.text and "4 children wanted" not in page.text
     for name in ("Abel", "Bell", "Cole", "hild 1", "hild 2", "hild 3"):
         assert name not in page.text, name
     assert "each school on its list was filled by children who rank before it there" in page.text
@@ -104,9 +101,9 @@ def test_both_are_on_paper(office: Site, tmp_path: pathlib.Path) -> None:
         'attachment; filename="why-child-3-draw-1-family.pdf"')
     family = printed(found.data, tmp_path)
     assert "Child 3 Cyd <b>Cole</b>" in family and "For the family" in family
-    assert "Some children rank before this child there" in family and "Ddewi" in family
+    assert "Some children wanted a place there" in family and "Ddewi" in family
     office_one = printed(jane.get("/children/3/why/1/office/pdf").data, tmp_path)
-    assert "2 children rank before this child there" in office_one
+    assert "2 ranked by distance alone" in office_one
 
 
 def test_what_is_no_explanation_is_not_there(office: Site) -> None:
@@ -129,40 +126,63 @@ def test_the_draw_leads_to_each_of_its_children(office: Site) -> None:
     assert 'href="/trials/?round=1"' in page
 
 
-def test_a_round_that_is_not_right_is_not_explained_to_a_family(
-    office: Site, monkeypatch: pytest.MonkeyPatch,
-) -> None:
-    """The screen says so, and no PDF is made of it."""
-    right = office_why_counted()
-
-    def wrong(*given: object) -> object:
-        found = right(*given)
-        found.faults.append("a place remained free")
-        return found
-
-    monkeypatch.setattr("office.why.counted", wrong)
-    jane = office.browser("jane")
-    page = jane.get("/children/3/why/1/family").text
-    assert "This is not right: a place remained free." in page and "/pdf" not in page
-    assert jane.get("/children/3/why/1/family/pdf").status_code == 409
-
-
-def office_why_counted() -> Any:
-    """The function that counts who is before a child."""
-    return why.counted
-
-
-def test_a_round_without_its_copy_says_so(office: Site) -> None:
-    """And no link leads to it."""
+def test_a_round_without_its_copy_is_explained_by_the_data_of_now(office: Site) -> None:
+    """And the screen says so; 'what if' needs the copy."""
+    rita = office.browser("rita")
+    with_copy = Page(rita.get("/children/3/why/1/office").text)
     path = office.parts.config.copies / COPY
     os.rename(path, path.with_suffix(".away"))
     try:
-        rita = office.browser("rita")
+        found = Page(rita.get("/children/3/why/1/office").text)
+        assert found.by_id["note"].startswith("The copy of the register from before this draw is")
+        assert "note" not in with_copy.by_id
+        assert found.by_id["school-A"] == with_copy.by_id["school-A"]
         page = rita.get("/children/3").text
-        assert "the copy from before it is not kept here" in page and "/why/1" not in page
-        assert "/why/1" not in rita.get("/draws/1").text
-        for found in (rita.get("/children/3/why/1/family"), rita.get("/children/3/what-if/1")):
-            assert found.status_code == 409 and "is not kept here" in Page(found.text).said()
+        assert "/why/1" in page and "/what-if/1" not in page and "/what-if/1" not in found.text
+        assert "/why/1" in rita.get("/draws/1").text
+        other = rita.get("/children/3/what-if/1")
+        assert other.status_code == 409 and "is not kept here" in Page(other.text).said()
         assert Page(rita.get("/trials/").text).by_id["none"].startswith("No round can be tried")
     finally:
         os.rename(path.with_suffix(".away"), path)
+
+
+def test_data_of_now_may_give_no_reason(tmp_path: pathlib.Path) -> None:
+    """Child 3 turns out to live nearest to Alpha, which refused it. With the copy the round is
+    explained as it was; without it there is no reason, and no PDF for the family.
+    """
+    nearer = {**child(3, "Cyd Cole", 10), "cmd": "amend"}
+    with after_round(tmp_path, town(), ROUND, nearer) as office:
+        office.add("jane", "officer")
+        jane, path = office.browser("jane"), office.parts.config.copies / COPY
+        page = Page(jane.get("/children/3/why/1/family").text)
+        assert f"This child: {CLASS}, 300 metres." in page.text and "/pdf" in page.text
+        assert "The data of this child were changed after the draw" in page.text
+        os.remove(path)
+        page = Page(jane.get("/children/3/why/1/family").text)
+        said = "There is no reason: the data that the register has now give no reason"
+        assert said in page.by_id["school-A"] and "/pdf" not in page.text
+        assert jane.get("/children/3/why/1/family/pdf").status_code == 409
+        paper = printed(jane.get("/children/3/why/1/office/pdf").data, tmp_path)
+        assert said in paper and "this is by the data that the register has now" in paper
+
+
+def test_a_fill_is_explained(tmp_path: pathlib.Path) -> None:
+    """Child 1 declines Alpha, and the fill offers its place to child 3, which has Beta; child 4
+    waits on. No other child is named, and a fill has no 'what if'.
+    """
+    answers = {"cmd": "decline", "child": 1, "school": "A"}
+    fill = {"cmd": "fill", "draw": 2, "school": "A", "day": "2025-04-14", "lots": [1, 2]}
+    with after_round(tmp_path, town(), ROUND, answers, fill) as office:
+        office.add("jane", "officer")
+        jane = office.browser("jane")
+        words = " ".join(Page(jane.get("/children/4").text).by_id["why"].split())
+        assert words.startswith("Fill of A (draw 2), 14 April 2025: why not Alpha Round 1,")
+        page = Page(jane.get("/children/4/why/2/family").text)
+        assert "Some children waited for the vacancy, this child among them." in page.text
+        assert f"The child that was offered the place: {CLASS}." in page.text
+        assert f"This child: {CLASS}, 400 metres." in page.text and "300 metres" not in page.text
+        assert "what-if/2" not in page.text and "Cole" not in page.text
+        assert "The child was offered Alpha (A), its first preference." in (
+            jane.get("/children/3/why/2/family").text)
+        assert jane.get("/children/4/what-if/2").status_code == 404

@@ -163,7 +163,7 @@ def test_a_plan_since_is_never_counted_wrongly(tmp_path: Path) -> None:
     """A register shows no class and no distance of a child whose application a plan ended. So the
     counts of the round before it are refused, for whoever calls, and with the copy from before the
     round they are as they were: by hand, children 1 to 6 have Oak with flag 7, child 6 last, and
-    child 7 is turned away first.
+    the six others are refused.
     """
     one_school(tmp_path)
     first = counted(tmp_path / "reg.db")
@@ -172,7 +172,7 @@ def test_a_plan_since_is_never_counted_wrongly(tmp_path: Path) -> None:
         {1: 6},
         0,
     )
-    assert (first.schools["OAK"].last, first.schools["OAK"].first_away) == ((1, 600), (1, 700))
+    assert (first.schools["OAK"].last, first.schools["OAK"].turned_away) == ((1, 600), 6)
     for number in (12, 6):
         do(tmp_path / "reg.db", [{"cmd": "name_plan", "child": number, "school": "OAK"}])
         said = (
@@ -181,7 +181,7 @@ def test_a_plan_since_is_never_counted_wrongly(tmp_path: Path) -> None:
         )
         with pytest.raises(Refused, match=said):
             counted(tmp_path / "reg.db")
-        seen = rounds.of_copy(
+        seen = rounds.held_again(
             model.read(str(tmp_path / "before.db")), model.read(str(tmp_path / "reg.db"))
         )
         assert figure_counts.count(seen) == first

@@ -155,9 +155,9 @@ COMMANDS = (
     "trial ODD reg.db --pan A=9",
     "trial reg.db ODD --pan A=9",
     "trial reg.db --pan A=9 --flags ODD",
-    "why ODD reg.db --child 1",
-    "why reg.db ODD --child 1",
-    "why reg.db reg.db --child 1 --flags ODD",
+    "why ODD --child 1",
+    "why reg.db --child 1 --copy ODD",
+    "why reg.db --child 1 --flags ODD",
 )
 
 
@@ -243,8 +243,8 @@ ADDRESSED = (
     "send good.jsonl --url URL",
     "trial URL reg.db --pan BIRS=99",
     "trial before.db URL --pan BIRS=99",
-    "why URL reg.db --child 1",
-    "why before.db URL --child 1",
+    "why URL --child 1",
+    "why reg.db --child 1 --copy URL",
 )
 OTHER_DOCUMENT = "the program shows another document than this command reads"
 EMPTY = b'{"children":[],"draws":[],"schools":[{}],"season":{}}'

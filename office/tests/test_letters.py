@@ -25,6 +25,8 @@ from programs import NO_RIGHT, RUN_FOR_EACH, SERVED, noted, noting, way_in, word
 from served import do_over, served, site
 from test_send import count, wait_for
 
+from office import letter_fields, model
+
 Record = Callable[[str, object], None]
 # a picture of one point
 RED_PNG = (
@@ -366,6 +368,44 @@ def test_a_place_that_cannot_have_lapsed(office: Office, tmp_path: Path) -> None
     assert "not waiting: declined, or not answered in time" in text["late"]
 
 
+def test_why_a_school_refused(tmp_path: Path) -> None:
+    """By hand. Oak's two places go to 1, a sibling, and to 2, at 100 metres with a smaller lot than
+    3; 4 lives farther. Fir's one goes to 5 with flag 7, before 6, which has it too, and 7. Yew's is
+    by a plan. 10 is late. Once 2 has declined and 4 has moved near, neither letter has a reason.
+    """
+    reg = tmp_path / "reg.db"
+    homes = {1: 900, 2: 100, 3: 100, 4: 300, 5: 500, 6: 800, 7: 5, 8: 5, 9: 5, 10: 5}
+    make(reg, [
+        school("OAK", pan=2, criteria=["sibling"]), school("FIR", pan=1, criteria=["flag:7"]),
+        school("YEW", pan=1),
+        *(child(it, east=at, flags=[7] if it in (5, 6) else [], siblings=["OAK"] if it == 1 else [])
+          for it, at in homes.items()),
+        *(apply(it, ["OAK"]) for it in (1, 2, 3, 4)), *(apply(it, ["FIR"]) for it in (5, 6, 7)),
+        apply(9, ["YEW"]), apply(10, ["OAK"], "2024-11-05"), answer("name_plan", 8, "YEW"),
+        held([1, 2, 3, 1, 2, 9, 4, 1]),
+    ])
+    near = "the last place was offered to a child meeting no criterion of the school, who lives"
+    flag = "the last place was offered to a child with a verified priority: need"
+    assert reasons(reg) == {
+        1: [], 2: [], 3: [f"{near} as near, and has a smaller lot"],
+        4: [f"{near} nearer, at 100 metres from the school"], 5: [],
+        6: [f"{flag}, who lives nearer, or as near and with a smaller lot"],
+        7: [f"{flag}, and such children rank before yours"], 8: [],
+        9: ["no place was left to be offered"], 10: [None],
+    }
+    do(reg, [answer("decline", 2, "OAK"), {**child(4, east=50), "cmd": "amend"}])
+    found = reasons(reg)
+    assert found[2] == found[4] == [None]
+    assert found[3] == [f"{near} as near, and has a smaller lot"]
+
+
+def reasons(reg: Path) -> dict[int, list[str | None]]:
+    """Why each child has no place at the schools above its own, as its letter says it."""
+    register = model.read(str(reg))
+    writer = letter_fields.Writer(register, flags={7: "need"}, day=datetime.date(2025, 3, 3))
+    return {it: [one.refused for one in writer.letter(it).listed] for it in register.children}
+
+
 def test_waiting_lists_are_named_where_the_child_waits(office: Office, tmp_path: Path) -> None:
     """By hand: in the town 2 has its first preference, 1, 3 and 4 wait for Oak. The letter of 2
     says nothing of waiting lists that it would remain on.
@@ -377,6 +417,29 @@ def test_waiting_lists_are_named_where_the_child_waits(office: Office, tmp_path:
     assert "waiting list" not in text[2]
     said = "If you accept it you remain on the waiting list named below."
     assert all(said in text[it] for it in (1, 4))
+
+
+def test_a_place_that_can_end_by_a_later_draw(office: Office, tmp_path: Path) -> None:
+    """By hand: both schools are at one point, with a place each. 1 lives nearest and has Oak. 2 is
+    next, has accepted Elm and waits at Oak. 3 waits at both. Only 2 has a place that a fill can
+    replace, and a fill does.
+    """
+    make(tmp_path / "reg.db", [
+        school("OAK", pan=1, name="Oak School"), school("ELM", pan=1, name="Elm School"),
+        *(child(it, east=100 * it) for it in (1, 2, 3)),
+        *(apply(it, ["OAK", "ELM"]) for it in (1, 2, 3)), held([1, 2, 3, 3, 1, 2]),
+    ])
+    do(tmp_path / "reg.db", [answer("accept", 1, "OAK"), answer("accept", 2, "ELM")])
+    assert office("letters", "reg.db", "--pdf", "out").returncode == 0
+    said = ("If your child is offered a place from a waiting list later, it replaces the place at"
+            " Elm School, even if you have accepted that one.")
+    assert [said in letter_in(tmp_path / "out", it) for it in (1, 2, 3)] == [False, True, False]
+    assert "it replaces the place" not in letter_in(tmp_path / "out", 3)
+    do(tmp_path / "reg.db", [answer("decline", 1, "OAK"), {
+        "cmd": "fill", "draw": 2, "school": "OAK", "day": "2025-04-07", "lots": [1, 2]}])
+    place = next(it for it in letter_of(tmp_path / "reg.db", 2).decode().splitlines()
+                 if it.startswith("Place:"))
+    assert place == "Place: OAK Oak School, offered 2025-04-07"
 
 
 def test_the_end_is_not_alone(office: Office, tmp_path: Path) -> None:
@@ -476,7 +539,7 @@ CHANGES = {
 }
 OTHER_DOCUMENT = f"""
 import json, os, subprocess, sys
-if sys.argv[1] != "show":
+if sys.argv[1] != "show" or "--draw" in sys.argv:
     os.execv("{PROGRAM}", ["{PROGRAM}", *sys.argv[1:]])
 shown = subprocess.run(["{PROGRAM}", *sys.argv[1:]], capture_output=True, check=True).stdout
 it = json.loads(shown)
@@ -978,8 +1041,12 @@ Your child ranked among the children ranked by distance alone, at 850 metres fro
 Schools that you prefer to this one
 School Preference Your child there Distance Waiting list
 Oak School first meeting no criterion of the school 150 m position 1 of 1
+Why no place: the last place was offered to a child living within 100 metres of the school, and such
+children rank before yours.
 A waiting list follows the same order, whenever you applied. A position can rise or fall as other
-families apply or move.
+families apply or move. If your child is offered a place from a waiting list later, it replaces the
+place at Elm School, even if you have accepted that one. If you do not want this, ask us to remove
+your child from the list.
 Your right to appeal
 You may appeal to an independent panel against the refusal of a place at this school, whether or not
 you accept another place. Write to the address above within 20 school days of the date of this

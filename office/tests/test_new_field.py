@@ -56,7 +56,7 @@ COMMANDS = (
     "query after.db lots --draw 1", "query after.db equal-at-limit", "query before.db interest",
     "query after.db round-report --round 1", "query after.db moved --round 1 --before before.db",
     "letters after.db letters --csv letters.csv --before before.db",
-    "figures after.db figures.html --copy before.db", "why before.db after.db --child 4",
+    "figures after.db figures.html --copy before.db", "why after.db --copy before.db --child 4",
     "audit before.db after.db",
 )
 

@@ -20,7 +20,7 @@ from pages import Page
 from register_files import Refused
 from werkzeug.datastructures import FileStorage
 
-from office.web import copies, plain, rehearsal, trials, uploads, what_if
+from office.web import copies, held_again, plain, rehearsal, trials, uploads
 from office.web.people import Person
 from office.web.trials import Asked, Run
 
@@ -145,7 +145,7 @@ def test_what_holds_a_round_again_is_said_plainly(
     with pytest.raises(Refused) as error:
         office.parts.trials.begin(Person("jane", "officer"), asked)
     assert is_plain(str(error.value)) and plain.ADVICE in str(error.value), error.value
-    with pytest.raises(Refused) as error, what_if.turn():
+    with pytest.raises(Refused) as error, held_again.turn():
         pass
     assert is_plain(str(error.value)) and plain.ADVICE in str(error.value), error.value
     run = Run(1, "jane", "", [], mock.MagicMock())

@@ -247,25 +247,19 @@ def offered_in(season: Any, draw: int) -> Iterator[tuple[str, list[int], list[in
 
 
 def last_offered(season: Any) -> Iterator[Row]:
-    """The last that was offered at each school. Where the application of one has ended, that is
-    known of one alone, without its class and distance.
-    """
+    """The last that was offered at each school, also where its application has ended."""
     for draw, _, _, day in season.draws:
         lots = season.drawn[draw - 1][0]
         for code, _, offered in offered_in(season, draw):
             keys: dict[int, Any] = {it: season.key(code, it, lots) for it in offered}
             last = max(keys, key=keys.__getitem__)
-            known: Row = [last, *keys[last]]
-            if [it for it in offered if it not in season.lists]:
-                alone: Row = [last, None, None, lots[code, last]]
-                known = alone if len(offered) == 1 else [None] * 4
-            yield [draw, day, code, len(offered), *known]
+            yield [draw, day, code, len(offered), last, *keys[last]]
 
 
 def equal_at_limit(season: Any) -> Iterator[Row]:
-    """For whom the lot alone decided. Of one whose application has ended that cannot be told, nor
-    of anybody where it was offered the place; nothing is shown where nobody can have been refused
-    by a lot.
+    """For whom the lot alone decided. Of one whose application has ended that cannot be told,
+    unless it is the last that was offered; nothing is shown where nobody can have been refused by a
+    lot.
     """
     for draw, *_ in season.draws:
         for code, there, offered in offered_in(season, draw):
@@ -277,19 +271,17 @@ def equal_at(
 ) -> Iterator[Row]:
     """The same at one school."""
     lots, has, _ = season.drawn[draw - 1]
-    ranks = {it: season.key(code, it, lots)[:2] for it in there}
-    gone = [it for it in there if it not in season.lists]
+    keys = {it: season.key(code, it, lots) for it in there}
+    last = max(offered, key=keys.__getitem__)
+    limit = keys[last][:2]
+    gone = [it for it in there if it not in season.lists and it != last]
     turned = [it for it in there if it in season.lists and it not in offered
-              and is_worse(season.lists[it], has.get(it), code)]
-    equal: list[int] = []
-    if not set(gone) & set(offered):
-        limit = max(ranks[it] for it in offered)
-        turned = [it for it in turned if ranks[it] == limit]
-        equal = turned + [it for it in offered if ranks[it] == limit]
+              and keys[it][:2] == limit and is_worse(season.lists[it], has.get(it), code)]
+    equal = turned + [it for it in offered if it not in gone and keys[it][:2] == limit]
     if turned or set(gone) - set(offered):
         for it in sorted(equal + gone, key=lambda it: int(lots[code, it])):
             came = "offered" if it in offered else "unknown" if it in gone else "refused"
-            yield [it, *(ranks[it] if it in equal else (None, None)), lots[code, it], came]
+            yield [it, *(keys[it][:2] if it in equal else (None, None)), lots[code, it], came]
 
 
 def is_worse(listed: list[str], got: str | None, code: str) -> bool:
@@ -324,8 +316,8 @@ def test_draws_beside_the_model(query: Query, tmp_path: Path) -> None:
             seen.update(f"{name} {it}" for it in kinds
                         if not it.isdigit() or name == "preferences")
             if name == "last-offered":
-                seen["the only one"] += sum(bool(it[4] and not it[5]) for it in found)
-    least = {"preferences ended", "last-offered ", "the only one", "equal-at-limit offered",
+                seen["ended last"] += sum(int(it[4]) not in season.lists for it in found)
+    least = {"preferences ended", "ended last", "equal-at-limit offered",
              "equal-at-limit refused", "equal-at-limit unknown"}
     assert least <= set(seen) and min(seen[it] for it in least) > 1, seen
     for name in OF_DRAWS:
@@ -410,8 +402,8 @@ def test_whom_each_draw_moved(query: Query, tmp_path: Path) -> None:
 def test_a_plan_named_since_a_draw(query: Query, tmp_path: Path) -> None:
     """By hand: Oak's two places go to children 1 and 2, who live 100 metres away, and 3 and 4, as
     near, have higher lots; Elm's one to 5. Then plans name Elm for 2, 4 and 5, and 3 has Oak by a
-    fill. Who was Oak's last child in the round cannot be told any more, nor for whom a lot decided
-    there.
+    fill. The last children of the round are those that they were; whether a lot decided for 4
+    cannot be told any more.
     """
     reg = tmp_path / "reg.db"
     make(reg, [
@@ -436,12 +428,11 @@ def test_a_plan_named_since_a_draw(query: Query, tmp_path: Path) -> None:
         {"cmd": "fill", "draw": 2, "school": "OAK", "day": "2025-04-01", "lots": [7, 8]},
     ])
     assert query("reg.db", "last-offered") == [
-        ["1", "2025-03-03", "ELM", "1", "5", "", "", "1"],
-        ["1", "2025-03-03", "OAK", "2", "", "", "", ""],
+        ["1", "2025-03-03", "ELM", "1", "5", "1", "300", "1"],
+        ["1", "2025-03-03", "OAK", "2", "2", "1", "100", "20"],
         ["2", "2025-04-01", "OAK", "1", "3", "1", "100", "7"],
     ]
-    assert query("reg.db", "equal-at-limit") == [
-        ["1", "OAK", "2", "", "", "20", "offered"], ["1", "OAK", "4", "", "", "40", "unknown"]]
+    assert query("reg.db", "equal-at-limit") == equal
     assert query("reg.db", "child", "--child", 5) == [
         ["5", "Child 5", "", "", "ELM", "", "", "plan", "", ""]]
     assert [it[2] for it in query("reg.db", "preferences")] == ["1", "ended", "none"]
@@ -801,7 +792,7 @@ ODD = {
     "view": (f"DROP TABLE draw; CREATE VIEW draw AS {ENDLESS}", (
         "query odd.db season", "query odd.db --workbook out.xlsx",
         "query good.db moved --round 1 --before odd.db", "check good.csv --register odd.db",
-        "figures odd.db out.html", "why odd.db good.db --child 1",
+        "figures odd.db out.html", "why odd.db --child 1",
         "trial odd.db good.db --pan BIRS=99", "lots pairs --sheet out.csv --register odd.db",
     )),
     "trigger": (

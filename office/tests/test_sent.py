@@ -423,3 +423,14 @@ def test_what_is_no_file_of_the_application_is_not_read(
     status, out, errors = sent(made)
     assert (status, out, errors.count("\n")) == (1, "", 1)
     assert errors.startswith(f"admissions-sent: {made.path}")
+
+
+@pytest.mark.parametrize("since, is_printed", [
+    ("2025-10-26T01:30", True), ("2025-10-26T01:30+01:00", True), ("2025-10-26T01:30+00:00", False),
+    ("2025-10-26T00:30Z", True), ("2025-10-26T01:30Z", False)])
+def test_a_moment_with_an_offset_is_certain(since: str, is_printed: bool, made: Made) -> None:
+    """In the hour that the clocks repeat a local time is the first of two. The command was sent at
+    00:45 UTC, which is 01:45 of the first hour."""
+    made.history.moment = lambda: "2025-10-26T00:45:00.000+00:00"
+    line = made.done(7, "Ada")
+    assert ran(made, "x", since, zone="Europe/London") == (0, line if is_printed else "", "")

@@ -15,7 +15,7 @@ from pages import Page, press
 from register_files import Refused
 
 from office import libraries, trial
-from office.web import trials, what_if
+from office.web import held_again, trials
 from office.web.trials import Run
 
 # Alpha has two places and Beta one; all want Alpha first, and then Beta. By distance children 1
@@ -34,7 +34,7 @@ def office_fixture(tmp_path_factory: pytest.TempPathFactory) -> Iterator[Site]:
     with pytest.MonkeyPatch.context() as patch, after_round(folder, commands, ROUND) as found:
         # (a machine that does much else)
         patch.setattr(trials, "MOST_SECONDS", PATIENCE)
-        patch.setattr(what_if, "MOST_SECONDS", PATIENCE)
+        patch.setattr(held_again, "MOST_SECONDS", PATIENCE)
         for name, role in (("jane", "officer"), ("rita", "reader")):
             found.add(name, role)
         yield found
@@ -255,7 +255,7 @@ def test_a_lot_that_was_not_drawn_leaves_it_open(
     tmp_path: pathlib.Path, monkeypatch: pytest.MonkeyPatch,
 ) -> None:
     """Late child 2 lives as far from the one place of Alpha as child 1."""
-    monkeypatch.setattr(what_if, "MOST_SECONDS", PATIENCE)
+    monkeypatch.setattr(held_again, "MOST_SECONDS", PATIENCE)
     commands = [SCHOOLS[0] | {"pan": 1}, child(1, "Ada Abel", 100), child(2, "Ben Bell", 100),
                 {"cmd": "apply", "child": 1, "day": "2024-10-31", "preferences": ["A"]},
                 {"cmd": "apply", "child": 2, "day": "2024-11-20", "preferences": ["A"]}]
@@ -271,12 +271,12 @@ def test_who_waits_too_long_for_an_answer_is_asked_to_try_again(
     monkeypatch: pytest.MonkeyPatch,
 ) -> None:
     """The threads that serve all screens do not all wait for what two have asked for."""
-    monkeypatch.setattr(what_if, "MOST_WAIT", 0.01)
-    with what_if.turn(), what_if.turn():
-        with pytest.raises(Refused) as error, what_if.turn():
+    monkeypatch.setattr(held_again, "MOST_WAIT", 0.01)
+    with held_again.turn(), held_again.turn():
+        with pytest.raises(Refused) as error, held_again.turn():
             pass
         assert str(error.value) == "others are being worked out: try again in a minute"
-    with what_if.turn():
+    with held_again.turn():
         pass
 
 

@@ -108,4 +108,5 @@ def test_requests_are_counted_for_the_machine_alone(office: Site) -> None:
     assert found.status_code == 404
     counted = json.loads(client.get("/counts", base_url=ORIGIN).data)
     assert counted["requests"] == {"200": 3, "401": 1, "404": 2}
+    assert set(counted["sign_ins_failed"].values()) == {0}
     assert counted["seconds"] in range(60)

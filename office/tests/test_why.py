@@ -6,7 +6,6 @@ import random
 import re
 import shutil
 import subprocess
-import sys
 from pathlib import Path
 from typing import Any
 
@@ -14,12 +13,15 @@ import pytest
 from by_path import loaded
 from conftest import ROOT, Office, apply, child, do, make, school
 from files import write
+from register_files import Refused
 from served import served
 
-from office import model, why
+from office import model, rounds, why
 from office.model import Pair, Register
 
 ROUNDS = 400
+# of so many rounds one is also held again on the copy from before it
+AGAIN = 8
 # the lots of a round, and the school of each child after it
 Lots = dict[Pair, int]
 Has = dict[int, str | None]
@@ -86,7 +88,8 @@ def one_round(
 
 def test_random_rounds_beside_the_search(tmp_path: Path) -> None:
     """Each child of each round: what it got, and at each school above that its places, who was
-    before it, the last admitted, and what decided.
+    admitted, the last of them, and what decided. Held again on the copy, a round is explained so
+    too.
     """
     questions = search()
     counts = dict.fromkeys(
@@ -95,6 +98,7 @@ def test_random_rounds_beside_the_search(tmp_path: Path) -> None:
             "class",
             "distance",
             "lot",
+            "nobody",
             "left",
             "kept",
             "out",
@@ -110,18 +114,26 @@ def test_random_rounds_beside_the_search(tmp_path: Path) -> None:
     )
     for seed in range(ROUNDS):
         town, lot, has, before, after = one_round(questions, seed, tmp_path)
+        held = why.held_in(after, None)
+        again = rounds.held_again(before, after) if seed % AGAIN < 2 else None
         for number in town.children:
-            found = why.explain(before, after, number)
+            found = why.explain(held, number)
             assert found.takes_part == (number in has)
+            had = town.places.get(number, (None,))[0]
+            if again:
+                of_copy = why.explain_again(again, before, after, number)
+                assert (of_copy.schools, of_copy.got) == (found.schools, found.got)
+                assert not of_copy.is_amended and of_copy.had == had
             if number not in has:
                 counts["out"] += 1
                 counts["planned"] += number in town.places
                 counts["late"] += number in town.late
                 continue
             counts["refused"] += has[number] is None
-            counts["keeps"] += has[number] is not None and has[number] == found.had
-            counts["moved"] += found.had is not None and has[number] != found.had
-            assert (found.got, found.had) == (has[number], town.places.get(number, (None,))[0])
+            counts["keeps"] += had is not None and has[number] == had
+            counts["moved"] += had is not None and has[number] != had
+            assert found.got == has[number]
+            assert found.had == (had if has[number] == had else None)
             listed = town.lists[number]
             assert [it.code for it in found.schools] == (
                 listed[: listed.index(has[number])] if has[number] else listed
@@ -143,51 +155,41 @@ def beside(
     """One school of one child, counted by the search's definitions alone."""
     code = found.code
     counts["schools"] += 1
-    own = {it: town.places.get(it, (None,))[0] for it in has}
-    plans = sum(1 for where, kind in town.places.values() if where == code and kind == "plan")
-    kept = [it for it in has if has[it] == code == own[it]]
-    assert (found.pan, found.plans, found.kept, bool(found.because)) == (
-        town.schools[code]["pan"],
-        plans,
-        len(kept),
-        (number, code) in town.left,
-    )
-    counts["kept"] += bool(kept)
-    counts["plans"] += bool(plans)
-    counts["full"] += found.places == 0
+    assert bool(found.because) == ((number, code) in town.left)
     if found.because:
         counts["left"] += 1
         return
+    own = {it: town.places.get(it, (None,))[0] for it in has}
+    plans = sum(1 for where, kind in town.places.values() if where == code and kind == "plan")
+    kept = [it for it in has if has[it] == code == own[it]]
+    pan = town.schools[code]["pan"]
+    assert (found.pan, found.plans, found.kept) == (pan, plans, len(kept))
+    counts["kept"] += bool(kept)
+    counts["plans"] += bool(plans)
+    counts["full"] += plans >= pan
     keys = {
         one: (*questions["standing"](town.schools[code], town.children[one]), lot[code, one])
         for where, one in lot
         if where == code
     }
     new = [it for it in keys if has[it] == code]
-    ahead = [it for it in keys if keys[it] < keys[number]]
-    assert found.wanted == len(keys) and found.key == keys[number] and not found.faults
-    assert sum(found.before.values()) == len(ahead) and all(
-        count == sum(keys[it][0] == at for it in ahead) for at, count in found.before.items()
-    )
-    better = [it for it in ahead if has[it] in town.lists[it][: town.lists[it].index(code)]]
-    assert (
-        found.elsewhere == len(better)
-        and found.refused == sum(has[it] != code for it in ahead if it not in better)
-        and found.admitted == len(new)
-        and len(new) + len(kept) >= found.places
-    )
+    assert (found.wanted, found.admitted) == (len(keys), len(new)) and found.key == keys[number]
+    classes = [keys[it][0] for it in new]
+    assert found.classes == {it: classes.count(it) for it in sorted(set(classes))}
     last = max((keys[it] for it in new), default=None)
     assert found.last == last
+    decided = "nobody"
     if last:
         kinds = zip(("class", "distance", "lot"), keys[number], last)
         decided = next(name for name, one, other in kinds if one != other)
-        assert found.decided == decided
-        counts[decided] += 1
+    assert found.decided == decided
+    counts[decided] += 1
 
 
-def test_what_is_not_right_is_said(tmp_path: Path) -> None:
-    """Outcomes that were changed by hand: a child that ranks after another has its place, or a
-    place stays free.
+def test_an_outcome_that_is_not_of_the_data(office: Office, tmp_path: Path) -> None:
+    """Outcomes that were changed by hand: a child that ranks after another has its place, which
+    gives no reason; or a place stays free. On the copy from before it neither is the outcome of the
+    round.
     """
     schools = {
         "A": {"school": "A", "name": "Alpha", "pan": 1, "east": 0, "north": 0, "criteria": []}
@@ -206,13 +208,14 @@ def test_what_is_not_right_is_said(tmp_path: Path) -> None:
     }
     lists, lots = {1: ["A"], 2: ["A"]}, {("A", 1): 5, ("A", 2): 3}
     write(tmp_path / "before.db", schools, children, lists)
-    before = model.read(str(tmp_path / "before.db"))
-    cases: list[tuple[dict[int, str | None], list[str]]] = [
-        ({1: "A", 2: None}, []),
-        ({1: None, 2: "A"}, ["ranks after"]),
-        ({1: None, 2: None}, ["remained free"]),
+    filled = ": each school on its list was filled by children who rank before it there."
+    no_reason = "THERE IS NO REASON: the data that the register has now give no reason"
+    cases: list[tuple[dict[int, str | None], str, str, int, int]] = [
+        ({1: "A", 2: None}, filled, "the distance decided", 0, 0),
+        ({1: None, 2: "A"}, ".", no_reason, 1, 1),
+        ({1: None, 2: None}, ": each school on its list was full.", "0 were admitted.", 0, 1),
     ]
-    for outcomes, faults in cases:
+    for outcomes, nowhere, said, status, with_copy in cases:
         write(
             tmp_path / "after.db",
             schools,
@@ -220,35 +223,15 @@ def test_what_is_not_right_is_said(tmp_path: Path) -> None:
             lists,
             draws=[("2025-03-03", outcomes, lots, {it for it in outcomes if outcomes[it]})],
         )
-        after = model.read(str(tmp_path / "after.db"))
-        loser = 2 if outcomes[1] else 1
-        found = why.explain(before, after, loser)
-        assert len(found.schools[0].faults) == len(faults) and all(
-            part in it for part, it in zip(faults, found.schools[0].faults)
-        )
-        ran = subprocess.run(
-            [
-                sys.executable,
-                "-c",
-                (
-                    "import sys; sys.path[:0] = [sys.argv.pop(1), sys.argv.pop(1)]; sys.argv[0] ="
-                    " 'why'\nfrom office import run, why\nsys.exit(run.run('why', why))"
-                ),
-                str(ROOT),
-                str(ROOT / "tools"),
-                "before.db",
-                "after.db",
-                "--child",
-                str(loser),
-            ],
-            cwd=tmp_path,
-            capture_output=True,
-            text=True,
-            check=False,
-        )
-        assert ran.returncode == bool(faults) and ("THIS IS NOT RIGHT" in ran.stdout) == bool(
-            faults
-        ), ran
+        words = ("why", "after.db", "--child", "2" if outcomes[1] else "1")
+        ran = office(*words)
+        assert ran.returncode == status and said in ran.stdout, ran
+        assert f"\nThe child got no place{nowhere}\n" in ran.stdout, ran
+        assert "this is by the data that the register has now" in ran.stderr
+        ran = office(*words, "--copy", "before.db")
+        assert (ran.returncode, bool(ran.stdout)) == (with_copy, not with_copy), ran
+        assert ("before.db is not from right before draw 1 of after.db: held again, the draw has"
+                " another outcome" in ran.stderr) == bool(with_copy), ran
 
 
 def test_the_sentences_of_a_family(tmp_path: Path) -> None:
@@ -298,7 +281,9 @@ def test_the_sentences_of_a_family(tmp_path: Path) -> None:
         draws=[("2025-03-03", has, lots, set(has))],
     )
     before, after = model.read(str(tmp_path / "b.db")), model.read(str(tmp_path / "a.db"))
-    lines = list(why.lines_of(why.explain(before, after, 3), before, after, is_office=True))
+    held = rounds.held_again(before, after)
+    found = {it: why.explain_again(held, before, after, it) for it in children}
+    lines = list(why.lines_of(found[3], is_office=True))
     assert lines == [
         "For the office alone: it has numbers that are not published",
         "Admission 2025 secondary, round 1 of 3 March 2025",
@@ -308,10 +293,9 @@ def test_the_sentences_of_a_family(tmp_path: Path) -> None:
         "",
         "Oak School (OAK), first preference: no place.",
         "The school has 3 places. 1 of them is taken by an EHC plan.",
-        "4 children wanted a place there in this round, this child among them. 2 were admitted.",
-        "2 children rank before this child there:",
+        "4 children wanted a place there in this round, this child among them. 2 were admitted:",
         "- 1 with a brother or sister at the school",
-        "- 1 meeting no criterion of the school, nearer or with a smaller lot",
+        "- 1 meeting no criterion of the school",
         "The last child admitted: class 2 (meeting no criterion of the school), 400 metres, lot 4.",
         "This child: class 2 (meeting no criterion of the school), 400 metres, lot 9.",
         (
@@ -319,18 +303,14 @@ def test_the_sentences_of_a_family(tmp_path: Path) -> None:
             " smaller one ranks first."
         ),
     ]
-    text = "\n".join(why.lines_of(why.explain(before, after, 5), before, after, is_office=True))
-    assert (
-        "3 children rank before this child there:\n- 1 with a brother or sister at the school\n- 2"
-        " meeting no criterion of the school, nearer to the school\n"
-        in text
+    text = "\n".join(why.lines_of(found[5], is_office=True))
+    assert text.endswith(
+        "The last child admitted: class 2 (meeting no criterion of the school), 400 metres.\n"
+        "This child: class 2 (meeting no criterion of the school), 800 metres.\n"
+        "Both are in the same class, and the distance decided: the other child lives nearer to the"
+        " school."
     )
-    assert (
-        "has a school that" not in text
-        and "1 of them was refused a place here too.\n" in text
-        and "This child: class 2 (meeting no criterion of the school), 800 metres.\n" in text
-    )
-    lines = list(why.lines_of(why.explain(before, after, 3), before, after))
+    lines = list(why.lines_of(found[3]))
     assert lines[0] == "For the family of the child: small numbers are withheld" and lines[
         -1
     ].startswith("Where this says 'some', the number is withheld")
@@ -340,19 +320,12 @@ def test_the_sentences_of_a_family(tmp_path: Path) -> None:
             "Some children wanted a place there in this round, this child among them. Some were"
             " admitted."
         ),
-        "Some children rank before this child there:",
-        "- some with a brother or sister at the school",
-        "- some meeting no criterion of the school, nearer or with a smaller lot",
         "This child: class 2 (meeting no criterion of the school), 400 metres, lot 9.",
     ):
         assert it in lines, (it, lines)
-    assert "by its EHC plan" in "\n".join(
-        why.lines_of(why.explain(before, after, 1), before, after)
-    )
-    assert (
-        list(why.lines_of(why.explain(before, after, 2), before, after))[-1]
-        == "No school was preferred to it."
-    )
+    assert not any(it.startswith("- ") for it in lines), lines
+    assert "by its EHC plan" in "\n".join(why.lines_of(found[1]))
+    assert list(why.lines_of(found[2]))[-1] == "No school was preferred to it."
 
 
 def test_what_a_family_does_not_read(office: Office, tmp_path: Path) -> None:
@@ -377,14 +350,11 @@ def test_what_a_family_does_not_read(office: Office, tmp_path: Path) -> None:
         [{"cmd": "round", "draw": 1, "day": "2025-03-03", "lots": list(range(10))}],
     )
     (tmp_path / "flags.csv").write_text("7,social or medical need\n", "utf-8")
-    family = office("why", "before.db", "reg.db", "--child", "20", "--flags", "flags.csv")
+    family = office("why", "reg.db", "--child", "20", "--flags", "flags.csv")
     assert family.returncode == 0 and family.stdout.startswith(
         "For the family of the child: small numbers are withheld\n"
     ), family
     for it in (
-        "- some looked after, or previously looked after\n",
-        "- some with a verified priority: social or medical need\n",
-        "Some children rank before this child there:\n",
         (
             "The last child admitted: class 1 (with a verified priority: social or medical need);"
             " its distance is withheld.\n"
@@ -394,17 +364,17 @@ def test_what_a_family_does_not_read(office: Office, tmp_path: Path) -> None:
     ):
         assert it in family.stdout, (it, family.stdout)
     assert "700 metres" not in family.stdout and "\n- 1 " not in family.stdout
-    near = office("why", "before.db", "reg.db", "--child", "21").stdout
+    near = office("why", "reg.db", "--child", "21").stdout
     assert (
         "700 metres" not in near
         and "the distance, or between equal distances the lot, decided" in near
         and "as flag 7" in near
-        and "nearer or with a smaller lot" in near
     )
-    whole = office("why", "before.db", "reg.db", "--child", "20", "--office").stdout
+    whole = office("why", "reg.db", "--child", "20", "--office").stdout
     assert (
         whole.startswith("For the office alone")
-        and "- 1 looked after" in whole
+        and "8 were admitted:\n- 1 looked after" in whole
+        and "\n- 7 with the priority that the office has verified as flag 7\n" in whole
         and "700 metres" in whole
         and "some" not in whole.lower()
     )
@@ -415,7 +385,7 @@ def test_what_a_family_does_not_read(office: Office, tmp_path: Path) -> None:
         ("7\n", "has no words"),
     ):
         (tmp_path / "bad.csv").write_text(bad, "utf-8")
-        ran = office("why", "before.db", "reg.db", "--child", "20", "--flags", "bad.csv")
+        ran = office("why", "reg.db", "--child", "20", "--flags", "bad.csv")
         assert ran.returncode == 1 and said in ran.stderr and "Traceback" not in ran.stderr, (
             bad,
             ran,
@@ -423,8 +393,9 @@ def test_what_a_family_does_not_read(office: Office, tmp_path: Path) -> None:
 
 
 def test_what_was_changed_after_the_round(office: Office, tmp_path: Path) -> None:
-    """An admission number that was raised, a child that was amended and a new school leave the
-    explanation as it was; a copy from before a raise is refused.
+    """With the copy from before the round an admission number that was raised, a child that was
+    amended and a new school leave the explanation as it was; without it, it is by the data of now.
+    By hand: child 1 lives 50 metres from Oak and child 2, which has it, 10; then 5,000 metres.
     """
     make(
         tmp_path / "reg.db",
@@ -441,17 +412,17 @@ def test_what_was_changed_after_the_round(office: Office, tmp_path: Path) -> Non
         tmp_path / "reg.db",
         [{"cmd": "round", "draw": 1, "day": "2025-03-03", "lots": [2, 1, 4, 3]}],
     )
-    first = office("why", "before.db", "reg.db", "--child", "1", "--office").stdout
-    amend = {**child(1, east=5000), "cmd": "amend"}
+    now = ("why", "reg.db", "--child", "1", "--office")
+    then = (*now, "--copy", "before.db")
+    first = office(*now).stdout
+    assert office(*then).stdout == first and office(*then).stderr == ""
     do(tmp_path / "reg.db", [{"cmd": "raise_pan", "school": "OAK", "pan": 3}, school("ASH", pan=1)])
-    assert (
-        office("why", "before.db", "reg.db", "--child", "1", "--office").stdout == first
-        and "The school has 1 place." in first
-    )
-    do(tmp_path / "reg.db", [amend])
-    ran = office("why", "before.db", "reg.db", "--child", "1", "--office")
+    assert office(*then).stdout == first and "The school has 1 place." in first
+    assert office(*now).stdout == first.replace("has 1 place.", "has 3 places.")
+    do(tmp_path / "reg.db", [{**child(1, east=5000), "cmd": "amend"}])
+    ran = office(*then)
     changed = (
-        "The data of this child were changed after the round: those that the round saw are used"
+        "The data of this child were changed after the draw: those that the draw saw are used"
         " here.\n"
     )
     assert (
@@ -459,6 +430,14 @@ def test_what_was_changed_after_the_round(office: Office, tmp_path: Path) -> Non
         and ran.stdout.count(changed) == 1
         and ran.stdout.replace(changed, "") == first
         and "50 metres" in first
+    ), ran
+    assert "This child: class 1 (ranked by distance alone), 5,000 metres." in office(*now).stdout
+    do(tmp_path / "reg.db", [{**child(1, east=5), "cmd": "amend"}])
+    ran = office(*now)
+    assert ran.returncode == 1 and ran.stdout.endswith(
+        "THERE IS NO REASON: the data that the register has now give no reason: those of this"
+        " child, or of one that was admitted, were changed after the draw. Name a copy from before"
+        " the draw by --copy.\n"
     ), ran
     make(
         tmp_path / "other.db",
@@ -476,11 +455,11 @@ def test_what_was_changed_after_the_round(office: Office, tmp_path: Path) -> Non
             {"cmd": "round", "draw": 1, "day": "2025-03-03", "lots": [2, 1]},
         ],
     )
-    ran = office("why", "early.db", "other.db", "--child", "1")
+    ran = office("why", "other.db", "--child", "1", "--copy", "early.db")
     assert (
         ran.returncode == 1
-        and "is not from right before draw 1: OAK admitted more children than it has places there"
-        in ran.stderr
+        and "early.db is not from right before draw 1 of other.db: held again, the draw has another"
+        " outcome" in ran.stderr
     ), ran
 
 
@@ -502,7 +481,7 @@ def test_a_plan_that_was_named_since(office: Office, tmp_path: Path) -> None:
         tmp_path / "reg.db",
         [{"cmd": "round", "draw": 1, "day": "2025-03-03", "lots": [3, 2, 1, 6, 5, 4]}],
     )
-    words = ["why", "before.db", "reg.db", "--office", "--child"]
+    words = ["why", "reg.db", "--copy", "before.db", "--office", "--child"]
     first = [office(*words, it).stdout for it in (1, 2, 3)]
     # (by hand: OAK is at 0 and ELM at 900 metres, so child 1 has OAK, and child 3 has ELM before
     # child 2)
@@ -517,11 +496,25 @@ def test_a_plan_that_was_named_since(office: Office, tmp_path: Path) -> None:
     shown = model.read(str(tmp_path / "reg.db"))
     assert set(shown.applications) == {3} and shown.schools["ELM"].plans == 2
     assert [office(*words, it).stdout for it in (1, 2, 3)] == first
+    # (without the copy: of child 3 all is known, also how child 1 ranked, which has a plan now)
+    ran = office("why", "reg.db", "--office", "--child", 3)
+    assert ran.returncode == 0, ran
+    assert ran.stdout.endswith(
+        "The last child admitted: class 1 (ranked by distance alone), 50 metres.\n"
+        "This child: class 1 (ranked by distance alone), 150 metres.\n"
+        "Both are in the same class, and the distance decided: the other child lives nearer to the"
+        " school.\n"
+    ), ran
+    assert office("why", "reg.db", "--child", 2).stdout.splitlines()[4:] == [
+        "The child got no place.",
+        "Its application has ended since, by an EHC plan, so the register does not show how it"
+        " ranked.",
+    ]
 
 
 def test_by_the_address_of_a_register(office: Office, tmp_path: Path) -> None:
-    """AFTER is served, or BEFORE is, or both: the explanation is the same. What cannot be read, or
-    is no copy from before, is named by its address.
+    """The register is served: the explanation is the same. What cannot be read is named by its
+    address, and a copy is a file.
     """
     make(
         tmp_path / "reg.db",
@@ -533,31 +526,30 @@ def test_by_the_address_of_a_register(office: Office, tmp_path: Path) -> None:
     )
     shutil.copy(tmp_path / "reg.db", tmp_path / "before.db")
     do(tmp_path / "reg.db", [{"cmd": "round", "draw": 1, "day": "2025-03-03", "lots": [2, 1]}])
-    first = office("why", "before.db", "reg.db", "--child", "2")
+    first = office("why", "reg.db", "--child", "2")
     assert first.returncode == 0 and "50 metres" in first.stdout
-    shutil.copy(tmp_path / "before.db", tmp_path / "early.db")
-    with served(tmp_path / "reg.db") as (after, run), served(tmp_path / "early.db") as (before, _):
-        for words in (("before.db", after), (before, after), (before, after, "--user", "jane")):
-            ran = office("why", *words, "--child", "2", stdin="secret\n" * 2)
-            assert (ran.returncode, ran.stdout) == (0, first.stdout), (words, ran)
+    with served(tmp_path / "reg.db") as (after, run):
+        for more in ((), ("--user", "jane"), ("--copy", "before.db")):
+            ran = office("why", after, "--child", "2", *more, stdin="secret\n")
+            assert (ran.returncode, ran.stdout) == (0, first.stdout), (more, ran)
         assert (
             "in use: name the address at which it is served"
-            in office("why", "before.db", "reg.db", "--child", "2").stderr
+            in office("why", "reg.db", "--child", "2").stderr
         )
-        ran = office("why", after, after, "--child", "2")
+        ran = office("why", after, "--child", "2", "--copy", after)
         assert (ran.returncode, ran.stderr) == (
             1,
             f"admissions-why: {after} has no draw 2: {after} has 1, and there is none more\n",
         ), ran
         run.terminate()
         run.wait()
-        ran = office("why", "before.db", after, "--child", "2")
+        ran = office("why", after, "--child", "2")
         assert (
             ran.returncode == 1
             and ran.stderr.startswith(f"admissions-why: {after} cannot be read: no connection: ")
             and ran.stderr.count("\n") == 1
         ), ran
-    ran = office("why", "before.db", "reg.db", "--child", "2", "--user", "jane")
+    ran = office("why", "reg.db", "--child", "2", "--user", "jane")
     assert (ran.returncode, ran.stderr) == (
         2,
         "admissions-why: --user needs the address at which a register is served\n",
@@ -598,7 +590,7 @@ def test_schools_that_were_left(office: Office, tmp_path: Path) -> None:
         "The child took no part there, as its family had left the waiting list there.",
         "",
     ]
-    assert office("why", "before.db", "reg.db", "--child", "1").stdout.splitlines() == [
+    assert office("why", "reg.db", "--child", "1").stdout.splitlines() == [
         "For the family of the child: small numbers are withheld",
         "Admission 2025 secondary, round 2 of 7 April 2025",
         "Child 1 Child 1",
@@ -612,7 +604,7 @@ def test_schools_that_were_left(office: Office, tmp_path: Path) -> None:
             " answered its offer in time."
         ),
     ]
-    other = office("why", "before.db", "reg.db", "--child", "5").stdout.splitlines()
+    other = office("why", "reg.db", "--child", "5").stdout.splitlines()
     assert (
         other[4]
         == "The child got no place: each school on its list at which it took part was filled by"
@@ -621,22 +613,104 @@ def test_schools_that_were_left(office: Office, tmp_path: Path) -> None:
     assert (
         other[6:9] == left
         and other[9] == "OAK School (OAK), second preference: no place."
-        and "Some children rank before this child there:" in other
+        and "Both are in the same class, and the distance decided: the other child lives nearer to"
+        " the school." in other
     )
     assert other[-1].startswith("Where this says 'some', the number is withheld")
-    do(tmp_path / "reg.db", [{"cmd": "decline", "child": 2, "school": "OAK"}])
-    shutil.copy(tmp_path / "reg.db", tmp_path / "copy.db")
+
+
+def test_a_draw_as_its_document_has_it() -> None:
+    """Each reason that the program can give, none, and one that it cannot."""
+    text = """{"lots":[{"child":1,"lot":7,"school":"A"},{"child":2,"lot":5,"school":"A"}],
+        "cutoffs":[{"class":2,"lot":5,"metres":300,"school":"A"}],
+        "refusals":[{"by":%s,"child":1,"school":"A"}]}"""
+    for by, wanted in (*((f'"{it}"', it) for it in why.DECIDED), ("null", None)):
+        found = model.drawn_in("reg.db", (text % by).encode())
+        assert found.lots == {("A", 1): 7, ("A", 2): 5}
+        assert found.cutoffs == {"A": model.Cutoff(number=2, metres=300, lot=5)}
+        assert found.refusals == {("A", 1): wanted}
+    said = r"reg.db: the program shows another document than this command reads \(ValueError\('age'"
+    with pytest.raises(Refused, match=said):
+        model.drawn_in("reg.db", (text % '"age"').encode())
+
+
+def test_a_fill_is_explained(office: Office, tmp_path: Path) -> None:
+    """By hand. Oak has 2 places, of which 5 with a sibling and 1, the nearest, have one. 1 declines
+    it, and the fill offers it to 2, as near as 3 and with a smaller lot; 4 lives farther. To a
+    family nothing points to child 2, and nothing at all where that has a flag, as in the next fill.
+    """
+    reg = tmp_path / "reg.db"
+    make(
+        reg,
+        [
+            school("OAK", pan=2, criteria=["flag:3", "sibling"]),
+            *(child(it, east=100 * at) for it, at in ((1, 1), (2, 2), (3, 2), (4, 4))),
+            child(5, east=900, siblings=["OAK"]),
+            child(6, east=950),
+            *(apply(it, ["OAK"]) for it in range(1, 6)),
+            apply(6, ["OAK"], day="2024-11-20"),
+        ],
+    )
     do(
-        tmp_path / "reg.db",
-        [{"cmd": "fill", "draw": 3, "school": "OAK", "day": "2025-04-14", "lots": [1]}],
+        reg,
+        [
+            {"cmd": "round", "draw": 1, "day": "2025-03-03", "lots": [1, 2, 3, 4, 5]},
+            {"cmd": "decline", "child": 1, "school": "OAK"},
+        ],
     )
-    ran = office("why", "copy.db", "reg.db", "--child", "5")
-    said = (
-        "draw 3 is a fill at OAK, and this command takes rounds alone; admissions-audit copy.db"
-        " reg.db explains a fill\n"
+    shutil.copy(reg, tmp_path / "before.db")
+    fill = {"cmd": "fill", "draw": 2, "school": "OAK", "day": "2025-04-14"}
+    do(reg, [{**fill, "lots": [7, 9, 1, 3]}])
+    ran = office("why", "reg.db", "--draw", 2, "--child", 3, "--office")
+    assert ran.stdout.splitlines() == [
+        "For the office alone: it has numbers that are not published",
+        "Admission 2025 secondary, fill of a vacancy at OAK School (OAK) of 14 April 2025, draw 2",
+        "Child 3 Child 3",
+        "",
+        "The place at OAK School (OAK) was offered to another child.",
+        "",
+        "OAK School (OAK), first preference: no place.",
+        "4 children waited for the vacancy, this child among them.",
+        "The child that was offered the place: class 3 (meeting no criterion of the school), 200"
+        " metres, lot 7.",
+        "This child: class 3 (meeting no criterion of the school), 200 metres, lot 9.",
+        "A vacancy is offered to the one that ranks first of those who wait: by the class, then by"
+        " the distance, and between equal distances by the lot.",
+    ], ran
+    again = office("why", "reg.db", "--copy", "before.db", "--child", 3, "--office")
+    assert again.stdout == ran.stdout and again.stderr == ""
+    assert office("why", "reg.db", "--draw", 2, "--child", 3).stdout.splitlines()[6:] == [
+        "OAK School (OAK), first preference: no place.",
+        "Some children waited for the vacancy, this child among them.",
+        "The child that was offered the place: class 3 (meeting no criterion of the school).",
+        "This child: class 3 (meeting no criterion of the school), 200 metres.",
+        "A vacancy is offered to the one that ranks first of those who wait: by the class, then by"
+        " the distance, and between equal distances by the lot.",
+        "",
+        why.MEANING,
+    ]
+    said = {
+        1: "The child did not wait at OAK School (OAK) when the vacancy was filled.",
+        2: "The child was offered OAK School (OAK), its first preference.",
+    }
+    for number, sentence in said.items():
+        ran = office("why", "reg.db", "--draw", 2, "--child", number)
+        assert (ran.returncode, ran.stdout.splitlines()[4:]) == (0, [sentence]), ran
+    do(
+        reg,
+        [
+            {**child(4, east=400, flags=[3]), "cmd": "amend"},
+            {"cmd": "decline", "child": 2, "school": "OAK"},
+            {**fill, "draw": 3, "lots": [9, 7, 3]},
+        ],
     )
-    assert ran.returncode == 1 and ran.stderr.endswith(said), ran
-    assert "child 5" in office("audit", "copy.db", "reg.db").stdout
+    ran = office("why", "reg.db", "--draw", 3, "--child", 3)
+    assert "offered the place:" not in ran.stdout and "This child: class 3" in ran.stdout, ran
+    ran = office("why", "reg.db", "--child", 6)
+    assert ran.stdout.splitlines()[4:] == [
+        "The application of 20 November 2024 came after the closing date, 31 October 2024, and"
+        " took no part in the first round."
+    ], ran
 
 
 def test_with_the_program(office: Office, tmp_path: Path) -> None:
@@ -653,21 +727,28 @@ def test_with_the_program(office: Office, tmp_path: Path) -> None:
     )
     assert office("backup", "reg.db", "before.db").returncode == 0
     do(tmp_path / "reg.db", [{"cmd": "round", "draw": 1, "day": "2025-03-03", "lots": [2, 1]}])
-    ran = office("why", "before.db", "reg.db", "--child", "1")
+    ran = office("why", "reg.db", "--child", "1")
     assert (
         ran.returncode == 0 and "50 metres" in ran.stdout and "the distance decided" in ran.stdout
     ), ran
+    do(tmp_path / "reg.db", [{**child(3), "cmd": "add_child"}, apply(3, ["OAK"])])
     for words, text in (
-        (["before.db", "before.db"], "has no draw 1"),
-        (["reg.db", "reg.db"], "has no draw 2"),
-        (["none.db", "reg.db"], "No such file"),
+        (["before.db", "--child", "1"], "before.db had no round yet"),
+        (["before.db", "--child", "1", "--draw", "1"], "before.db has no draw 1"),
+        (["reg.db", "--child", "9"], "reg.db has no child 9"),
+        (["reg.db", "--child", "1", "--copy", "reg.db"], "reg.db has no draw 2"),
+        (["reg.db", "--child", "1", "--copy", "before.db", "--draw", "2"],
+         "before.db is not from right before draw 2"),
+        (["reg.db", "--child", "3", "--copy", "before.db"], "before.db has no child 3"),
+        (["none.db", "--child", "1"], "No such file"),
     ):
-        ran = office("why", *words, "--child", "1")
-        assert ran.returncode == 1 and text in ran.stderr and ran.stderr.count("\n") == 1
-    assert (
-        office("why", "before.db", "reg.db", "--child", "9").returncode == 1
-        and office("why", "before.db", "reg.db").returncode == 2
-    )
+        ran = office("why", *words)
+        assert ran.returncode == 1 and text in ran.stderr and ran.stderr.count("\n") == 1, ran
+    ran = office("why", "reg.db", "--child", "3")
+    assert ran.stdout.splitlines()[4:] == [
+        "The application of 20 October 2024 was recorded after the round, and took no part in it."
+    ], ran
+    assert office("why", "reg.db").returncode == 2
 
 
 @pytest.mark.parametrize(
@@ -686,7 +767,8 @@ def test_the_example_season(
         check=False,
     )
     assert ran.returncode == 0
-    before, after = model.read(str(season / first)), model.read(str(season / second))
+    after = model.read(str(season / second))
+    held = rounds.of_register(after, number)
     code, checked = None, 0
     found: dict[int, why.Why] = {}
     for line in ran.stdout.splitlines():
@@ -697,18 +779,17 @@ def test_the_example_season(
             ),
             line,
         ):
-            code, places, held = at[1], int(at[2]), int(at[3])
+            code, places, count = at[1], int(at[2]), int(at[3])
             last = tuple(int(it) for it in at.groups()[3:] if it is not None)
         elif at := re.match(
             r"  turned away child ([0-9]+), class ([0-9]+), ([0-9]+) metres, lot ([0-9]+): by (.*)",
             line,
         ):
             child_no, key, by = int(at[1]), tuple(int(it) for it in at.groups()[1:4]), at[5]
-            found.setdefault(child_no, why.explain(before, after, child_no))
+            found.setdefault(child_no, why.explain(held, child_no))
             one = next(it for it in found[child_no].schools if it.code == code)
-            seen = (one.places, one.kept + one.admitted, one.last or (), one.key)
-            assert seen == (places, held, last, key) and not one.faults
-            assert (one.decided or "no place that was free") == by
-            assert found[child_no].round == number
+            seen = (one.pan - one.plans, one.kept + one.admitted, one.last or (), one.key)
+            assert seen == (places, count, last, key)
+            assert (one.decided if one.decided != "nobody" else "no place that was free") == by
             checked += 1
     assert checked > 100 and os.path.exists(season / second)

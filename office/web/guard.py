@@ -13,7 +13,7 @@ from register_files import FULL, Refused
 from werkzeug.exceptions import HTTPException
 from werkzeug.wrappers import Response as AnyResponse
 
-from . import plain, wording
+from . import failures, plain, wording
 from .desk import Away
 from .parts import Parts
 from .people import Person
@@ -97,8 +97,22 @@ def who_asks() -> Person | None:
         return people.of_session(secret)
     if request.authorization and request.authorization.type == "basic":
         name, token = request.authorization.username, request.authorization.password
-        return people.of_token(name or "", token or "")
+        found = people.of_token(name or "", token or "")
+        # (the site asks who is signed in before it passes a request on)
+        if found is None and request.endpoint != "signing.signed_in":
+            sign_in_failed(failures.TOKEN)
+        return found
     return None
+
+
+def address() -> str:
+    """The address of whoever asks, as the site names it."""
+    return flask.request.headers.get("X-Real-IP", "?")
+
+
+def sign_in_failed(kind: str) -> None:
+    """Counts a sign-in that failed, and names its address in the machine's journal."""
+    parts().failures.add(kind, address())
 
 
 def is_foreign() -> bool:

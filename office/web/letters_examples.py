@@ -9,7 +9,9 @@ from office.letter_fields import DECLINED, Letter, Listed
 
 OFFERED_ON, DAY = datetime.date(2025, 3, 3), datetime.date(2025, 3, 3)
 CRITERIA = ("who are looked after or were", "with a sibling at the school", "by distance alone")
-WAITS = Listed("OAK", "Oak School", 1, 2, "by distance alone", 1204, 3, 17)
+WAITS = Listed("OAK", "Oak School", 1, 2, "by distance alone", 1204, 3, 17, None,
+               "the last place was offered to a child by distance alone, who lives nearer, at"
+               " 873 metres from the school")
 GONE = Listed("ASH", "Ash School", 2, 2, "by distance alone", 2118, None, None, DECLINED)
 OFFERED = Letter(
     child=17, name="Example Child", year=2025, phase="secondary", state=model.OFFERED,

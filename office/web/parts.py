@@ -12,6 +12,8 @@ from .desk import Desk
 from .draws import Draws
 from .draws_drafts import Drafts
 from .draws_following import Following
+from .failures import Failures
+from .held_again import HeldAgain
 from .history import History
 from .notes import Notes
 from .people import People
@@ -45,13 +47,15 @@ class Parts:
         self.config = config
         config.folder.mkdir(mode=0o700, exist_ok=True)
         self.history = History(str(config.folder / "history.jsonl"))
-        if config.journal:
-            self.tell(journal.Journal(
-                config.name, config.folder / "journal", journal.sender(config.journal)))
+        send = journal.sender(config.journal) if config.journal else None
+        if send:
+            self.tell(journal.Journal(config.name, config.folder / "journal", send))
+        self.failures = Failures(config.name, send)
         self.store = Store(str(config.folder / "office.db"))
         self.people = People(self.store)
         self.notes = Notes(self.store, self.history)
         self.trials = Trials()
+        self.held_again = HeldAgain()
         is_socket = config.door.startswith("/")
         sender = senders.Door(config.door) if is_socket else senders.Http(config.door)
         sender.called = "the register"

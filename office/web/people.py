@@ -56,6 +56,10 @@ FORGOTTEN_AFTER = 3600
 WRONG = "The name or the password is wrong."
 
 
+class TooMany(Refused):
+    """An attempt that is not looked at, since an earlier one must be waited for."""
+
+
 def is_role(text: str) -> bool:
     """Whether a text is a role."""
     return text in ROLES or text.startswith(SCHOOL) and rules.is_code(text.removeprefix(SCHOOL))
@@ -114,7 +118,7 @@ class Attempts:
             while not (wait := self.wait(*keys)) and any(map(self.is_full, keys)):
                 self.lock.wait()
             if wait:
-                raise Refused(f"Too many attempts failed. Try again in {wait} seconds.")
+                raise TooMany(f"Too many attempts failed. Try again in {wait} seconds.")
             self.open.update(keys)
 
     def is_full(self, key: str) -> bool:

@@ -1,39 +1,19 @@
 """What a round that was held would have given a child by another list, or by an application of
 another day: what was typed, what is wrong with it, and the answer in words.
 """
-import contextlib
 import dataclasses
-import threading
-from collections.abc import Iterator, Mapping, Sequence
+from collections.abc import Mapping, Sequence
 
 from register_files import Refused
 
 from office import texts, what_if
 from office.model import Draw, Register
-from office.trial_registers import Program
 from office.why import nth
 
-from . import explanations, plain
+from . import explanations
+from .held_again import turn
 from .parts import Parts
 from .wording import NOT_A_DAY, day_of, weekday
-
-# wall-clock seconds; a day in time of a late application holds two rounds anew
-MOST_SECONDS = 120
-# so many are worked out at once; another one waits for so many seconds, so that the threads that
-# serve all screens do not all wait here
-AT_ONCE, MOST_WAIT = threading.BoundedSemaphore(2), 20
-BUSY = "others are being worked out: try again in a minute"
-
-
-@contextlib.contextmanager
-def turn() -> Iterator[Program]:
-    """The program for one answer, once it is its turn; or a refusal where that takes too long."""
-    if not AT_ONCE.acquire(timeout=MOST_WAIT):
-        raise Refused(BUSY)
-    try:
-        yield Program(plain.program(), MOST_SECONDS)
-    finally:
-        AT_ONCE.release()
 
 
 class NotThere(Refused):

@@ -155,6 +155,7 @@ def draw_page(number: int, reason: str = "", status: int = 200) -> Answer:
         may_restore=draw.state in SENT, not_second=not_second(draw), alone=alone(draw),
         is_opened=draw.state == OPENED, halted="" if reason else draw.trouble,
         before=parts().draws.given_up_before(draw), is_explained=is_explained(draw, register),
+        is_tried=is_tried(draw, register),
         repeats=found_draw(draw.repeats) if draw.repeats else None,
         may_undo=draw.state == OPENED and bool(draw.before), unsent=unsent_of(draw),
         work=work, looks_again=LOOKS_AGAIN,
@@ -207,10 +208,16 @@ def alone(draw: Draw) -> str:
 
 
 def is_explained(draw: Draw, register: Register | None) -> bool:
-    """Whether each child of a draw can be explained: those of a round that was held."""
-    held = register.rounds if register else []
-    return draw.state in (AUDITED, OPENED) and draw.terms.school is None and any(
-        it.number == draw.terms.first and explanations.kept_before(parts(), it) for it in held)
+    """Whether each child of a draw can be explained: it was held."""
+    return draw.state in (AUDITED, OPENED) and any(
+        it.number == draw.terms.first for it in (register.draws if register else []))
+
+
+def is_tried(draw: Draw, register: Register | None) -> bool:
+    """Whether other schools can be tried: it is a round, and the copy from before it is kept."""
+    return is_explained(draw, register) and any(
+        it.number == draw.terms.first and explanations.kept_before(parts(), it)
+        for it in (register.rounds if register else []))
 
 
 def standing_of(draw: Draw, register: Register | None) -> int:

@@ -1,5 +1,5 @@
 """Whether the application and the register answer, for a monitor without a sign-in; and how many
-requests there were, for the machine alone.
+requests there were, and sign-ins that failed, for the machine alone.
 """
 from typing import Any
 
@@ -22,10 +22,12 @@ def health() -> tuple[dict[str, str], int]:
 @screen.get("/counts")
 @needs(PUBLIC)
 def counts() -> dict[str, Any]:
-    """How many requests were answered with which status, since so many seconds. The site names the
-    address of whoever asks: they get nothing, and this is for the machine alone.
+    """How many requests were answered with which status, and how many sign-ins failed, since so
+    many seconds. The site names the address of whoever asks: they get nothing, and this is for the
+    machine alone.
     """
     if "X-Real-IP" in flask.request.headers:
         flask.abort(404)
     found = watch()
-    return {"requests": found.counts(), "seconds": round(found.clock() - found.began)}
+    return {"requests": found.counts(), "sign_ins_failed": parts().failures.counts(),
+            "seconds": round(found.clock() - found.began)}

@@ -5,7 +5,7 @@ import flask
 from register_files import Refused
 from werkzeug.wrappers import Response
 
-from .. import authority, guard, people
+from .. import authority, failures, guard, people
 from ..guard import PUBLIC, SIGNED_IN, needs, parts, person
 
 screen = flask.Blueprint("signing", __name__)
@@ -36,8 +36,10 @@ def sign_in() -> Answer:
     name = request.form.get("name", "").strip().lower()
     try:
         secret = parts().people.sign_in(
-            name, request.form.get("password", ""), request.headers.get("X-Real-IP", "?"))
+            name, request.form.get("password", ""), guard.address())
     except Refused as error:
+        is_wait = isinstance(error, people.TooMany)
+        guard.sign_in_failed(failures.WAIT if is_wait else failures.PASSWORD)
         return sign_in_page(to, str(error), name), 403
     parts().history.add(name, "signed in", {})
     return with_session(flask.redirect(to, 303), secret)
@@ -72,6 +74,7 @@ def go_out() -> Answer:
     try:
         return authority.go_out(flask.current_app, provider(), own_address())
     except Refused as error:
+        guard.sign_in_failed(failures.PROVIDER)
         return sign_in_page("/", str(error), ""), 403
 
 
@@ -84,6 +87,7 @@ def come_back() -> Answer:
         name = authority.signed_in(flask.current_app, provider())
         secret = parts().people.sign_in_outside(name)
     except Refused as error:
+        guard.sign_in_failed(failures.ACCOUNT)
         return sign_in_page(to, str(error), ""), 403
     parts().history.add(name, "signed in", {"by": "the authority's account"})
     # (a browser that was led here by another site sends the new cookie only from a page of this

@@ -1,5 +1,5 @@
-"""Why a child got what a round gave it, for the family and for the office, as a page and as PDF;
-and what the round would have given it by another list or another day.
+"""Why a child got what a draw gave it, for the family and for the office, as a page and as PDF; and
+what a round would have given it by another list or another day.
 """
 from collections.abc import Mapping
 
@@ -21,20 +21,26 @@ screen = flask.Blueprint("why", __name__, url_prefix="/children")
 Answer = str | Response | tuple[str, int]
 PDF = "application/pdf"
 PATH = f"/<int:number>/why/<int:draw>/<any({', '.join(READERS)}):reader>"
-NOT_RIGHT = ("the round is not right for this child: tell whoever maintains the system before"
-             " anything is sent to the family")
+NO_REASON = ("the text for the family is not made, as a school has no reason in it: the data of the"
+             " register were changed after the draw")
+
+
+def draw_of(register: Register, number: int) -> Draw:
+    """A draw of the register."""
+    found = next((it for it in register.draws if it.number == number), None)
+    return found or flask.abort(404)
 
 
 def round_of(register: Register, number: int) -> Draw:
-    """A round of the register. A fill has no explanation."""
-    found = next((it for it in register.rounds if it.number == number), None)
-    return found or flask.abort(404)
+    """A round of the register."""
+    found = draw_of(register, number)
+    return found if found.round else flask.abort(404)
 
 
 def explained(number: int, draw: int, reader: str) -> Explanation:
     """The explanation that an address names."""
     return explanations.explained(
-        parts(), number, round_of(child_in(number), draw), reader, flags.present())
+        parts(), number, draw_of(child_in(number), draw), reader, flags.present())
 
 
 @screen.get(PATH)
@@ -42,7 +48,7 @@ def explained(number: int, draw: int, reader: str) -> Explanation:
 def show(number: int, draw: int, reader: str) -> Answer:
     """The explanation, for one of its readers."""
     register = child_in(number)
-    held, found, said = round_of(register, draw), None, ""
+    held, found, said = draw_of(register, draw), None, ""
     try:
         found = explained(number, draw, reader)
     except Refused as error:
@@ -58,9 +64,10 @@ def show(number: int, draw: int, reader: str) -> Answer:
 def pdf(number: int, draw: int, reader: str) -> Response:
     """The same as PDF."""
     found = explained(number, draw, reader)
-    if not found.is_right and reader == explanations.FAMILY:
-        raise Refused(NOT_RIGHT)
-    data = explanations.pdf_of(found, parts().config.authority)
+    if not found.is_whole and reader == explanations.FAMILY:
+        raise Refused(NO_REASON)
+    note = found.note if reader == explanations.OFFICE else ""
+    data = explanations.pdf_of(found, parts().config.authority, note)
     name = f"why-child-{number}-draw-{draw}-{reader}.pdf"
     headers = {"Content-Disposition": f'attachment; filename="{name}"'}
     return flask.Response(data, mimetype=PDF, headers=headers)

@@ -1,0 +1,55 @@
+"""The draw that was held again last, on the copy from before it, for whoever looks at its children;
+and how many runs of the program there are at once.
+"""
+import contextlib
+import threading
+from collections.abc import Iterator
+
+from register_files import Refused
+
+from office import rounds
+from office.model import Draw, Register
+from office.rounds import Held
+from office.trial_registers import Program
+
+from . import plain
+
+# wall-clock seconds; a day in time of a late application holds two rounds anew
+MOST_SECONDS = 120
+# so many are worked out at once; another one waits for so many seconds, so that the threads that
+# serve all screens do not all wait here
+AT_ONCE, MOST_WAIT = threading.BoundedSemaphore(2), 20
+BUSY = "others are being worked out: try again in a minute"
+
+
+@contextlib.contextmanager
+def turn() -> Iterator[Program]:
+    """The program for one answer, once it is its turn; or a refusal where that takes too long."""
+    if not AT_ONCE.acquire(timeout=MOST_WAIT):
+        raise Refused(BUSY)
+    try:
+        yield Program(plain.program(), MOST_SECONDS)
+    finally:
+        AT_ONCE.release()
+
+
+class HeldAgain:
+    """Holds draws again, and keeps the last one with the copy from before it."""
+
+    def __init__(self) -> None:
+        self.kept: tuple[Register, Held] | None = None
+
+    def draw(self, before: Register, after: Register, draw: Draw) -> Held:
+        """A draw of AFTER as it was right after it, by the copy from before it."""
+        kept = self.kept
+        if kept is None or kept[0] != before or not is_same(kept[1], after, draw):
+            with turn() as program:
+                kept = self.kept = before, rounds.held_again(before, after, draw.number, program)
+        return kept[1]
+
+
+def is_same(held: Held, after: Register, draw: Draw) -> bool:
+    """Whether a draw that was held again is this one, with its lots and its outcome."""
+    number = draw.number
+    return held.draw == draw and held.outcomes == after.outcomes[number] and (
+        held.drawn.lots == after.lots(number))
