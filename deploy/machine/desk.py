@@ -6,8 +6,19 @@ import json
 import pathlib
 import socket
 import ssl
+import typing
+
+from office.web.failures import KINDS
 
 PORT = 443
+
+
+class Counts(typing.NamedTuple):
+    """What an application has counted since it began: its answers by their status, and the sign-ins
+    that failed by what they were made by."""
+
+    requests: dict[str, int]
+    sign_ins_failed: dict[str, int]
 
 
 def status_of(path: pathlib.Path, seconds: float = 10) -> int | None:
@@ -42,14 +53,17 @@ def site_status_of(host: str, seconds: float = 10) -> tuple[int, bytes]:
         return answer.status, secure.getpeercert(binary_form=True) or b""
 
 
-def counts_of(path: pathlib.Path, seconds: float = 10) -> dict[str, int]:
-    """How many requests the application at a socket has answered since it began, by their status.
-    OSError, HTTPException or ValueError where it does not say."""
+def counts_of(path: pathlib.Path, seconds: float = 10) -> Counts:
+    """What the application at a socket has counted. OSError, HTTPException or ValueError where it
+    does not say."""
     with socket.socket(socket.AF_UNIX) as it:
         it.settimeout(seconds)
         it.connect(str(path))
         it.sendall(b"GET /counts HTTP/1.1\r\nHost: localhost\r\nConnection: close\r\n\r\n")
         answer = http.client.HTTPResponse(it)
         answer.begin()
-        found = json.loads(answer.read())["requests"] if answer.status == 200 else {}
-        return {f"{int(status)}": int(count) for status, count in found.items()}
+        found = json.loads(answer.read()) if answer.status == 200 else {"requests": {}}
+        # (no label has what the application makes up)
+        failed = {kind: int(found.get("sign_ins_failed", {}).get(kind, 0)) for kind in KINDS}
+        requests = {f"{int(status)}": int(it) for status, it in found["requests"].items()}
+        return Counts(requests, failed)

@@ -6,6 +6,8 @@ import json
 import typing
 
 VERSION = 1
+# the exit status of a plugin of Nagios that does not know: UNKNOWN
+UNKNOWN = 3
 
 
 class Level(enum.IntEnum):
@@ -19,6 +21,11 @@ class Level(enum.IntEnum):
     def status(self) -> int:
         """The exit status. 2 is that of wrong arguments."""
         return 3 if self is Level.FAILED else self.value
+
+    @property
+    def plugin_status(self) -> int:
+        """The exit status of a plugin of Nagios: 0 OK, 1 WARNING, 2 CRITICAL."""
+        return self.value
 
     @property
     def label(self) -> str:

@@ -23,6 +23,7 @@ Sample = tuple[str, dict[str, str], float]
 METRICS = {
     "part_state": ("gauge", "How a part of a register is: 0 ok, 1 attention, 2 failed"),
     "requests_total": ("counter", "Requests that the application has answered, by status"),
+    "sign_ins_failed_total": ("counter", "Sign-ins that failed, by what they were made by"),
     "commands_total": ("counter", "Requests to the register in the history, by their result"),
     "commands_unanswered": ("gauge", "Those of which no answer is known after a minute"),
     "register_bytes": ("gauge", "Size of the register's file"),
@@ -30,8 +31,8 @@ METRICS = {
     "copy_age_seconds": ("gauge", "Age of the nightly copy that was made last"),
     "second_copy_age_seconds": ("gauge", "Time since the copies went to the second place"),
     "drill_age_seconds": ("gauge", "Time since a restore was tried"),
-    "disk_free_bytes": ("gauge", "Free room on the disk of the register, its copies, or its"
-                                 " application"),
+    "disk_free_bytes": ("gauge", "Free room on the disk of the register, its copies, its"
+                                 " application, or the second place"),
     "certificate_days": ("gauge", "Days until the site's certificate ends"),
     "written_seconds": ("gauge", "When these numbers were made, in seconds since 1970"),
 }
@@ -103,6 +104,8 @@ def of_copies(register: Register) -> typing.Iterator[Sample]:
 def of_disks(register: Register) -> typing.Iterator[Sample]:
     folders = {"register": register.folder, "copies": register.copies,
                "application": register.office}
+    if place := second_copy.folder_here():
+        folders["second_place"] = place
     for name, path in folders.items():
         if path.is_dir():
             yield "disk_free_bytes", {"of": name}, shutil.disk_usage(path).free
@@ -123,5 +126,8 @@ def of_commands(register: Register) -> typing.Iterator[Sample]:
 
 
 def of_requests(register: Register) -> typing.Iterator[Sample]:
-    for status, count in counts_of(register.office_socket).items():
+    found = counts_of(register.office_socket)
+    for status, count in found.requests.items():
         yield "requests_total", {"status": status}, count
+    for kind, count in found.sign_ins_failed.items():
+        yield "sign_ins_failed_total", {"by": kind}, count

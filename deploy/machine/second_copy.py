@@ -86,6 +86,16 @@ def is_local(place: str) -> bool:
     return ":" not in place.partition("/")[0]
 
 
+def folder_here() -> pathlib.Path | None:
+    """The second place, where it is a folder of this machine that is there."""
+    try:
+        place = place_of()
+    except (OSError, Refused):
+        return None
+    path = pathlib.Path(place) if place and is_local(place) else None
+    return path if path and path.is_dir() else None
+
+
 def rsync(*arguments: object) -> str:
     """Runs rsync, with what all calls share, and returns what it printed."""
     return call(

@@ -8,9 +8,10 @@ They are those that the office's application of the register NAME has sent, in
 the order in which they were done, from its history,
 /var/lib/admissions-office/NAME/history.jsonl, also while it is in use. FILE is
 a copy of a history, compressed or not, such as one from the second place. TIME
-is a day or a moment of the local time, such as 2025-03-03T02:30; a command is
-printed if it was sent then or later, unless the application has undone it by a
-restore. Commands that were sent by `admissions do` are not in the history.
+is a day or a moment of the local time, such as 2025-03-03T02:30, or one with an
+offset, such as 2025-10-26T01:30+00:00; a command is printed if it was sent then
+or later, unless the application has undone it by a restore. Commands that were
+sent by `admissions do` are not in the history.
 
 Four things are not printed, but named on the standard error with file and
 line: a command or import of which no answer is known, with who sent it and
@@ -89,7 +90,7 @@ def listed(found: histories.Record, since: datetime.datetime, rows: str | None) 
 
 
 def moment(text: str) -> datetime.datetime:
-    """A moment of the local time."""
+    """A moment of the local time, unless it has an offset."""
     try:
         return datetime.datetime.fromisoformat(text).astimezone()
     except (ValueError, OverflowError) as error:

@@ -3,19 +3,22 @@ people, history, copies, disks, certificates; and which were deleted.
 
   admissions-status [NAME ..] [--line | --json | --metrics [--to FILE]]
 
-Without a NAME it reports all registers. With --line it prints one line, with
---json one object, both for a monitoring system; with --metrics numbers in the
-text format of Prometheus, without personal data, which --to writes into FILE in
-one step. No register is opened. The site is sent a request of nobody, which it
-must refuse. The people and the history are those of the office's application,
-whose files are only read.
+Without a NAME it reports all registers. With --line it prints one line, for a
+monitoring system that runs plugins as Nagios and Icinga do; with --json one
+object; with --metrics numbers in the text format of Prometheus, without
+personal data, which --to writes into FILE in one step. No register is opened.
+The site is sent a request of nobody, which it must refuse. The people and the
+history are those of the office's application, whose files are only read.
 
 example:
   admissions-status --line
 
 exit status: 0 all is well, or the numbers are written; 1 something needs
 attention; 2 wrong arguments, or no such register; 3 an office cannot work: its
-register cannot be read, or its server or its site does not answer.
+register cannot be read, or its server or its site does not answer. With --line
+they are those of such plugins: 0 all is well; 1 (WARNING) something needs
+attention; 2 (CRITICAL) an office cannot work, or an option is wrong; 3
+(UNKNOWN) it could not look, and the line says why.
 """
 import argparse
 import collections
@@ -35,7 +38,8 @@ from register_files import Refused
 from office.days import DELETION_NOTICE
 
 from . import (
-    certificates, copies, deletion, files, findings, histories, metrics, office_store, standby,
+    certificates, copies, deletion, files, findings, histories, metrics, office_store, sealed,
+    second_copy, standby,
 )
 from .desk import site_status_of, status_of
 from .drill import NOT_TRIED, OPENED, REPORT as DRILL
@@ -47,7 +51,7 @@ from .settings_copy import REPORT as BESIDE
 
 # from when on something needs attention
 COPY_HOURS, DRILL_DAYS, CERTIFICATE_DAYS = 26, 35, 21
-LEAST_ROOM, ROOM_FACTOR = 200_000_000, 10
+LEAST_ROOM, ROOM_FACTOR, ARCHIVES = 200_000_000, 10, 3
 # for so long the answer to a request may be unknown
 OPEN_SECONDS = 3600
 # what the application asks for, and the units whose last run must not have failed
@@ -76,6 +80,18 @@ def arguments(reader: argparse.ArgumentParser) -> None:
 
 
 def main(given: argparse.Namespace) -> int:
+    if not given.line:
+        return reported(given)
+    try:
+        return reported(given)
+    except (Refused, OSError) as error:
+        # (such a system reads the standard output)
+        print(f"UNKNOWN - {error}")
+        return findings.UNKNOWN
+
+
+def reported(given: argparse.Namespace) -> int:
+    """Looks and prints, and returns the exit status."""
     if os.geteuid() != 0:
         raise Refused("only root can see all of it")
     if given.to and not given.metrics:
@@ -93,7 +109,8 @@ def main(given: argparse.Namespace) -> int:
         print(findings.as_line(reports))
     else:
         print("\n".join(findings.as_text(reports)))
-    return findings.worst_of(reports).status
+    level = findings.worst_of(reports)
+    return level.plugin_status if given.line else level.status
 
 
 def report(register: Register) -> Report:
@@ -235,7 +252,8 @@ def units_of(register: Register) -> State:
                        " dpkg --configure -a; apt-get install --reinstall admissions")
     if had_site(register):
         return False, f"its site is not set up: {site_command(register)}"
-    backup, drill = (f"admissions-{it}@{register.name}.timer" for it in ("backup", "drill"))
+    backup, drill, hourly = (
+        f"admissions-{it}@{register.name}.timer" for it in ("backup", "drill", "second-copy"))
     desk, bad = f"admissions@{register.name}.service", []
     enabled = (desk, backup, drill, *(["nginx.service"] if register.host else []))
     for unit in (*enabled, *(office_units(register) if register.host else [])):
@@ -245,13 +263,20 @@ def units_of(register: Register) -> State:
         if unit in enabled and found["UnitFileState"] != "enabled":
             state = found["UnitFileState"] or "not there"
             bad.append(f"{unit} is {state}: systemctl enable {unit}")
+    # (an administrator decides whether the history is copied by day, too)
+    found = shown_of(hourly, "ActiveState", "UnitFileState")
+    is_hourly = found["UnitFileState"] == "enabled"
+    if is_hourly and found["ActiveState"] != "active":
+        bad.append(f"{hourly} is {found['ActiveState']}: systemctl start {hourly}")
     for name in JOBS:
         unit = f"admissions-{name}@{register.name}.service"
         if shown_of(unit, "ActiveState")["ActiveState"] == "failed":
             bad.append(f"{unit} has failed: journalctl -u {unit}")
     if bad:
         return False, "; ".join(bad)
-    return True, f"enabled and active; next backup {next_of(backup)}, next drill {next_of(drill)}"
+    by_day = f", next hourly copy {next_of(hourly)}" if is_hourly else ""
+    return True, (f"enabled and active; next backup {next_of(backup)}, next drill"
+                  f" {next_of(drill)}{by_day}")
 
 
 def is_dpkg_at_work() -> bool:
@@ -328,7 +353,11 @@ def history_of(register: Register) -> State:
     if not record.entries:
         return True, "no entries yet"
     last = datetime.datetime.fromisoformat(record.entries[-1].at).astimezone()
-    return True, f"{len(record.entries):,} entries, the last of {last:%Y-%m-%d %H:%M}"
+    text = f"{len(record.entries):,} entries, the last of {last:%Y-%m-%d %H:%M}"
+    old = time.time() - last.timestamp()
+    # (a clock that was ahead then, or is behind now, decides days and the order of all that is
+    # recorded next)
+    return not is_ahead(old), f"{text}, {age_text(old)}" if is_ahead(old) else text
 
 
 def is_late(request: histories.Request) -> bool:
@@ -404,7 +433,10 @@ def second_of(register: Register) -> State:
     line, old = found
     if f" is in {place}/{register.name}, " not in line:
         return False, f"this machine has copied nothing to {place} yet: {how}; before, {line}"
-    return is_recent(old, COPY_HOURS * 3600) and "WARNING" not in line, f"{line}; {age_text(old)}"
+    is_well = is_recent(old, COPY_HOURS * 3600) and "WARNING" not in line
+    plain = "" if sealed.recipient() else (
+        f"; not encrypted there, as {SETTINGS / sealed.RECIPIENT} names nobody")
+    return is_well, f"{line}; {age_text(old)}{plain}"
 
 
 def drill_of(register: Register) -> State:
@@ -433,10 +465,14 @@ def is_young(register: Register) -> bool:
 
 
 def room_of(register: Register) -> State:
-    """The room on the disks of the register, its copies and its application: ten times the
-    register, and 200 MB at least."""
-    needed = max(LEAST_ROOM, ROOM_FACTOR * register.file.stat().st_size)
-    folders = (register.folder, register.copies, register.office)
+    """The room on the disks of the register, its copies, its application, and of a second place on
+    this machine: ten times the register, three times its newest archive of people and files, which
+    each night makes anew, and 200 MB at least."""
+    archives = [copies.settings_of(it) for it in register.nightly_copies()[-1:]]
+    beside = sum(it.stat().st_size for it in archives if it.exists())
+    needed = max(LEAST_ROOM, ROOM_FACTOR * register.file.stat().st_size, ARCHIVES * beside)
+    place = second_copy.folder_here()
+    folders = (register.folder, register.copies, register.office, *([place] if place else []))
     rooms = [(shutil.disk_usage(path).free, path) for path in folders if path.is_dir()]
     free, path = min(rooms)
     text = f"{free / 1e9:.1f} GB free at {path}, of {needed / 1e9:.1f} GB that are needed"

@@ -255,7 +255,7 @@ export const words = {
   },
   "NotWaiting": {
    "means": "{child} does not wait at {school}; before the first round nobody waits",
-   "do": "look at the list"
+   "do": "look at the waiting list of the school"
   },
   "NoVacancy": {
    "means": "{school} has no vacancy",

@@ -580,6 +580,21 @@ def test_people_settings_and_history_come_back_where_there_are_none(
     assert names == ["alpha", "ben", "jane", "page"]
 
 
+def test_people_alone_come_back_where_the_application_has_none(
+    copied: pathlib.Path, register: registers.Register, machine: pathlib.Path
+) -> None:
+    """As where docs/DEPLOYMENT.md puts the file of the application aside: all else stays."""
+    before = register.history.read_bytes()
+    for it in register.office.glob("office.db*"):
+        it.unlink()
+    assert list(settings_copy.restored(register, copied)) == [
+        f"{machine}/etc/authority is there already, and stays as it is",
+        f"{machine}/etc/second-copy is there already, and stays as it is",
+        f"took {register.office}/office.db from the archive, with 3 people and programs",
+    ]
+    assert register.history.read_bytes() == before
+
+
 def test_notes_and_files_of_children_come_back_with_the_people(office: registers.Register) -> None:
     """Whole, on a machine that has nothing of the application: also bytes that are no text."""
     path = copy(office, "nightly-000001-2025-03-01T023000.db", with_settings=False)

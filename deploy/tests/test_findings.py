@@ -14,6 +14,7 @@ from machine.findings import Finding, Level
 from office_files import add_people, record
 from register_files import Refused
 
+NONE_FAILED = {"password": 0, "wait": 0, "account": 0, "token": 0, "provider": 0}
 WELL, BAD, DEAD = (Finding(level, level.name) for level in Level)
 NAME = "secondary-2025"
 LABEL = r'[a-z]+="[a-zA-Z0-9_-]+"'
@@ -52,7 +53,8 @@ def test_the_same_in_each_form(
     capsys: pytest.CaptureFixture[str],
 ) -> None:
     found |= {"second copy": copy, "desk": server}
-    assert run() == run("--json") == run("--line") == exit_status
+    assert run() == run("--json") == exit_status
+    assert run("--line") == {0: 0, 1: 1, 3: 2}[exit_status]
     text, _, rest = capsys.readouterr().out.partition("{")
     assert text.splitlines() == [
         NAME, f"  {server.level.label:9} desk: {server.text}",
@@ -142,7 +144,8 @@ def test_the_numbers(
     add_people(register, ("jane", "head"))
     record(register, 1, 2)
     found["desk"] = DEAD
-    monkeypatch.setattr(metrics, "counts_of", lambda _: {"200": 7, "503": 1})
+    monkeypatch.setattr(metrics, "counts_of", lambda _: desk.Counts(
+        {"200": 7, "503": 1}, {"password": 3, "token": 0}))
     assert run("--metrics") == 0
     there = samples(capsys.readouterr().out)
     own = f'register="{NAME}"'
@@ -150,6 +153,8 @@ def test_the_numbers(
         (("admissions_part_state", f'{own},part="desk"'), 2),
         (("admissions_part_state", f'{own},part="second_copy"'), 0)}
     assert there["admissions_requests_total", f'{own},status="200"'] == 7
+    assert there["admissions_sign_ins_failed_total", f'{own},by="password"'] == 3
+    assert there["admissions_sign_ins_failed_total", f'{own},by="token"'] == 0
     assert there["admissions_commands_total", f'{own},result="done"'] == 2
     assert there["admissions_commands_total", f'{own},result="not_done"'] == 0
     assert there["admissions_commands_unanswered", own] == 0
@@ -203,13 +208,16 @@ def served_once(path: pathlib.Path, answer: bytes) -> threading.Thread:
 
 @pytest.mark.parametrize(
     "answer, wanted",
-    [(b'{"requests":{"200":3,"502":1},"seconds":9}', {"200": 3, "502": 1}), (b"none", None),
+    [(b'{"requests":{"200":3,"502":1},"seconds":9}', ({"200": 3, "502": 1}, NONE_FAILED)),
+     (b'{"requests":{},"sign_ins_failed":{"password":3,"wait":2,"jane":1}}',
+      ({}, NONE_FAILED | {"password": 3, "wait": 2})), (b"none", None),
      (b'{"requests":{"200\\"} 1":3}}', None)],
 )
 def test_what_the_application_has_counted(
-    answer: bytes, wanted: dict[str, int] | None, tmp_path: pathlib.Path
+    answer: bytes, wanted: tuple[dict[str, int], dict[str, int]] | None, tmp_path: pathlib.Path
 ) -> None:
-    """What is no status is not taken, so that no label has what the application makes up."""
+    """What is no status and no kind is not taken, so that no label has what the application makes
+    up."""
     path = tmp_path / "s"
     head = f"HTTP/1.1 200 OK\r\nContent-Length: {len(answer)}\r\n\r\n".encode()
     thread = served_once(path, head + answer)
@@ -224,3 +232,30 @@ def test_what_the_application_has_counted(
 def test_the_worst_decides() -> None:
     assert findings.worst({"a": WELL, "b": BAD, "c": DEAD}) is Level.FAILED
     assert [it.status for it in Level] == [0, 1, 3]
+    assert [it.plugin_status for it in Level] == [0, 1, 2]
+
+
+@pytest.mark.parametrize("error", [
+    Refused("no such register: nope", 2), PermissionError(13, "Permission denied", "reg.db")])
+def test_a_plugin_that_cannot_look_is_unknown(
+    error: Exception, found: dict[str, Finding], monkeypatch: pytest.MonkeyPatch,
+    capsys: pytest.CaptureFixture[str],
+) -> None:
+    """Nagios reads what is printed, and shows no other status so."""
+
+    def refuse(_: object) -> None:
+        raise error
+
+    monkeypatch.setattr(status, "report", refuse)
+    assert run("--line") == 3
+    assert capsys.readouterr().out == f"UNKNOWN - {error}\n"
+    with pytest.raises(type(error)):
+        run("--json")
+
+
+def test_a_plugin_of_another_user_is_unknown(
+    machine: pathlib.Path, monkeypatch: pytest.MonkeyPatch, capsys: pytest.CaptureFixture[str]
+) -> None:
+    monkeypatch.setattr(os, "geteuid", lambda: 1000)
+    assert run("--line") == 3
+    assert capsys.readouterr().out == "UNKNOWN - only root can see all of it\n"

@@ -331,3 +331,56 @@ def test_the_archive_of_settings_has_the_recipient_and_not_the_identity() -> Non
 
     names: typing.Collection[str] = settings_copy.OWN + settings_copy.SHARED
     assert sealed.RECIPIENT in names and sealed.IDENTITY not in names
+
+
+def test_another_key_needs_another_folder_there(
+    copied: registers.Register, machine: pathlib.Path, key: tuple[str, pathlib.Path],
+    tmp_path: pathlib.Path,
+) -> None:
+    """As docs/DEPLOYMENT.md says where an identity file is lost: once the folder has another name,
+    all that this machine has is sent for the new key."""
+    send(copied, machine)
+    new, identity = made_key(tmp_path / "new")
+    (machine / "etc/second-copy-recipient").write_text(f"{new}\n", encoding="ascii")
+    send(copied, machine)
+    place, oldest = machine / PLACE, "nightly-000001-2025-03-01T023000.db.age"
+    assert opened(place / copied.name / oldest, key[1]) == SECRET + b" 1"
+    (place / copied.name).rename(place / "before")
+    send(copied, machine)
+    names = sorted(it.name for it in (place / copied.name).rglob("*.age"))
+    assert names == sorted(it.name for it in (place / "before").rglob("*.age"))
+    for path in (place / copied.name).rglob("*.age"):
+        assert SECRET in opened(path, identity)
+
+
+@pytest.mark.parametrize("is_sealed", [False, True])
+def test_a_key_that_may_do_nothing_but_copy(
+    is_sealed: bool, copied: registers.Register, machine: pathlib.Path,
+    monkeypatch: pytest.MonkeyPatch,
+) -> None:
+    """As docs/DEPLOYMENT.md has another machine admit it: by rrsync, which deletes nothing."""
+    vault, ssh, place = machine / "vault", machine / "ssh", "vault.example:copies"
+    (vault / "copies").mkdir(parents=True)
+    ssh.write_text(
+        f'#!/bin/sh\nshift\nSSH_ORIGINAL_COMMAND="$*" exec rrsync -no-del {vault}\n',
+        encoding="utf-8")
+    ssh.chmod(0o755)
+    monkeypatch.setattr(second_copy, "SSH", str(ssh))
+    if not is_sealed:
+        (machine / "etc/second-copy-recipient").unlink()
+    line = second_copy.copied(copied, place)
+    assert f"is in {place}/{copied.name}, " in line
+    end = ".age" if is_sealed else ""
+    there_now = {str(it.relative_to(vault)) for it in vault.rglob("*") if it.is_file()}
+    assert there_now == {
+        f"copies/{copied.name}/{it}{end}" for it in (
+            "nightly-000001-2025-03-01T023000.db", "nightly-000001-2025-03-01T023000.tar",
+            "nightly-000002-2025-03-02T023000.db", "nightly-000002-2025-03-02T023000.tar",
+            "history/history-000001-0123456789abcdef.gz")}
+    history(copied, b"one and more")
+    assert second_copy.copied(copied, place)
+    for arguments in (["--list-only", "vault.example:/etc/"],
+                      ["-r", "--delete", f"{machine / PLACE}/", f"{place}/{copied.name}/"]):
+        done = subprocess.run(["rsync", "--rsh", ssh, *arguments], capture_output=True, check=False)
+        assert done.returncode != 0
+    assert {str(it.relative_to(vault)) for it in vault.rglob("*") if it.is_file()} == there_now

@@ -12,7 +12,7 @@ import time
 
 import pytest
 from machine import (
-    certificates, deletion, office_store, registers, second_copy, setup, status,
+    certificates, deletion, metrics, office_store, registers, second_copy, setup, status,
 )
 from machine.findings import Level
 from office.web.history import SENDS, SETTLED
@@ -33,22 +33,35 @@ def office_fixture(register: registers.Register, write_as_me: None) -> registers
 
 
 @pytest.mark.parametrize(
-    "bytes_of_register, free, is_well",
+    "bytes_of_register, of_archive, free, is_well",
     [
-        (1000, 200 * MB, True),
-        (1000, 200 * MB - 1, False),
-        (30 * MB, 300 * MB, True),
-        (30 * MB, 300 * MB - 1, False),
+        (1000, 1000, 200 * MB, True),
+        (1000, 1000, 200 * MB - 1, False),
+        (30 * MB, None, 300 * MB, True),
+        (30 * MB, None, 300 * MB - 1, False),
+        (30 * MB, 110 * MB, 330 * MB, True),
+        (30 * MB, 110 * MB, 330 * MB - 1, False),
     ],
 )
 def test_the_room_on_the_disks(
     bytes_of_register: int,
+    of_archive: int | None,
     free: int,
     is_well: bool,
     register: registers.Register,
     monkeypatch: pytest.MonkeyPatch,
 ) -> None:
     os.truncate(register.file, bytes_of_register)
+    made = register.copies / "nightly-000002-2025-03-02T023000.db"
+    made.touch()
+    # (that of an earlier night is not asked for)
+    (register.copies / "nightly-000001-2025-03-01T023000.db").touch()
+    older = register.copies / "nightly-000001-2025-03-01T023000.tar"
+    older.touch()
+    os.truncate(older, 500 * MB)
+    if of_archive is not None:
+        made.with_suffix(".tar").touch()
+        os.truncate(made.with_suffix(".tar"), of_archive)
     for full in (register.folder, register.copies, register.office):
 
         def usage(path: pathlib.Path, here: pathlib.Path = full) -> Usage:
@@ -57,6 +70,48 @@ def test_the_room_on_the_disks(
         monkeypatch.setattr(shutil, "disk_usage", usage)
         found, text = status.room_of(register)
         assert (found, f"at {full}" in text) == (is_well, True)
+
+
+@pytest.mark.parametrize("free, is_well", [(200 * MB, True), (200 * MB - 1, False)])
+def test_the_room_at_the_second_place(
+    free: int, is_well: bool, register: registers.Register, machine: pathlib.Path,
+    monkeypatch: pytest.MonkeyPatch,
+) -> None:
+    """Where it is a folder of this machine; of another machine nothing is known."""
+    place, setting = machine / "copies", machine / "etc/second-copy"
+
+    def usage(path: pathlib.Path) -> Usage:
+        return Usage(10**12, 0, free if path == place else 10**12)
+
+    monkeypatch.setattr(shutil, "disk_usage", usage)
+    for line in (place, "none", "vault.example:copies", f"{place}\n{place}"):
+        setting.write_text(f"{line}\n", encoding="ascii")
+        assert status.room_of(register)[0] is True
+        assert second_copy.folder_here() is None
+    place.mkdir()
+    setting.write_text(f"{place}/\n", encoding="ascii")
+    assert second_copy.folder_here() == place
+    found, text = status.room_of(register)
+    assert (found, f"at {place}" in text) == (is_well, not is_well or free < 10**12)
+    rooms = {it["of"]: value for _, it, value in metrics.of_disks(register)}
+    assert rooms["second_place"] == free
+
+
+@pytest.mark.parametrize("key, said", [
+    (None, "; not encrypted there, as "), ("age1" + "q" * 58, None), ("no key", "copied")])
+def test_whether_copies_are_encrypted_is_said(
+    key: str | None, said: str | None, register: registers.Register, machine: pathlib.Path
+) -> None:
+    """Without a key it is a choice, and well."""
+    (machine / "etc/second-copy").write_text("/mnt/copies\n", encoding="ascii")
+    line = f"now x.db is in /mnt/copies/{register.name}, equal to the first copy, and opens"
+    (register.copies / second_copy.REPORT).write_text(f"{line}\n", encoding="ascii")
+    if key is not None:
+        (machine / "etc/second-copy-recipient").write_text(f"{key}\n", encoding="ascii")
+    found = status.report(register)["second copy"]
+    assert found.level is (Level.ATTENTION if said == "copied" else Level.OK)
+    assert ("not encrypted" in found.text, "must have one line" in found.text) == (
+        key is None, said == "copied")
 
 
 @pytest.mark.parametrize(
@@ -158,7 +213,7 @@ def test_a_history_that_was_changed(office: registers.Register) -> None:
     )
 
 
-@pytest.mark.parametrize("minutes, is_well", [(59, True), (61, False), (-180, True)])
+@pytest.mark.parametrize("minutes, is_well", [(59, True), (61, False), (-60, True)])
 def test_a_request_without_a_known_answer(
     minutes: int, is_well: bool, office: registers.Register
 ) -> None:
@@ -173,6 +228,18 @@ def test_a_request_without_a_known_answer(
     with history(office) as found:
         found.add("ben", SETTLED, {"of": 3, "done": False})
     assert status.history_of(office)[0] is True
+
+
+@pytest.mark.parametrize("hours, is_well", [(-1, True), (1.9, True), (2.1, False)])
+def test_an_entry_that_is_dated_ahead(
+    hours: float, is_well: bool, office: registers.Register
+) -> None:
+    """The clock was ahead, or is behind now."""
+    at = datetime.datetime.now(datetime.timezone.utc) + datetime.timedelta(hours=hours)
+    with history(office, at.isoformat()) as found:
+        found.add("ben", "signed in", {})
+    found_well, text = status.history_of(office)
+    assert (found_well, text.endswith("is the clock right?")) == (is_well, not is_well)
 
 
 @pytest.mark.parametrize("mode", [0o660, 0o640, 0o604])
@@ -341,8 +408,28 @@ def test_a_unit_that_does_not_run_or_start(
     monkeypatch.setattr(status, "shown_of", lambda it, *names: good)
     assert status.units_of(register) == (
         True,
-        "enabled and active; next backup Sat 2025-03-01 02:30:00 GMT, next drill Sat 2025-03-01 02:30:00 GMT",
+        "enabled and active; next backup Sat 2025-03-01 02:30:00 GMT, next drill Sat 2025-03-01 02:30:00 GMT,"
+        " next hourly copy Sat 2025-03-01 02:30:00 GMT",
     )
+
+
+@pytest.mark.parametrize("shown, is_well, is_named", [
+    ({"ActiveState": "active", "UnitFileState": "enabled"}, True, True),
+    ({"ActiveState": "inactive", "UnitFileState": "enabled"}, False, True),
+    ({"ActiveState": "inactive", "UnitFileState": "disabled"}, True, False),
+])
+def test_the_hourly_copies_of_the_history(
+    shown: dict[str, str], is_well: bool, is_named: bool, register: registers.Register,
+    monkeypatch: pytest.MonkeyPatch,
+) -> None:
+    """They are a choice; once they are chosen, they must be made."""
+    good = {"ActiveState": "active", "UnitFileState": "enabled", "NextElapseUSecRealtime": "soon"}
+    hourly = f"admissions-second-copy@{register.name}.timer"
+    monkeypatch.setattr(status, "is_booted", lambda: True)
+    monkeypatch.setattr(status, "shown_of", lambda it, *_: good | (shown if it == hourly else {}))
+    found, text = status.units_of(register)
+    assert (found, "next hourly copy soon" in text or f"start {hourly}" in text) == (
+        is_well, is_named)
 
 
 def test_a_register_without_a_site_has_no_application(
