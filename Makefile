@@ -6,7 +6,7 @@
 #   make cases    the cases, the same way; they take seconds once the program is built
 #   make test     every proof, mutants, tests, examples, cases and the tests of the office's commands and the deployment; its last line is 'N passed, M failed'
 #   make reference     the definitions, public functions, clauses, mutants and files, as linked pages and one text, at out/reference; needs python3-jinja2, graphviz
-#   make evidence  what an auditor takes away, at out/evidence: claims, promises, clauses and the verdicts that were seen here; LOG=.. names logs of `make test`
+#   make evidence  what an auditor takes away, at out/evidence: each sentence promised, its clauses, what they assume, and verdicts; LOG=.. names logs of `make test`
 #                 and `make mutants`; needs git, python3-jinja2, graphviz
 #   make mutants  the planted bugs that the gate does not try, each of which the proof must reject
 #   make sweep    each request of the built program for memory refused, in turn: its answers and files are judged; some minutes

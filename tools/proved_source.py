@@ -3,8 +3,9 @@
 crates and mutants, which tools/proofs and tools/mutants print before their outcomes.
 
 tools/build leaves the verdict on each crate that it proves in out/verdicts/CRATE: the sum of the
-source that was proved, and the line in which the toolchain says so. tools/evidence takes a verdict
-only where the sum is that of the source as it is now.
+source that was proved, the line in which the toolchain says so, and what the build knows beside it:
+'anew', where nothing was kept of the crate before, and 'program SHA-256' of what was linked.
+tools/evidence takes a verdict only where the sum is that of the source as it is now.
 """
 import hashlib
 import re
@@ -17,6 +18,7 @@ VERDICTS, TABLE = Path("out/verdicts"), Path("crates.txt")
 PARTS = ("src", "specs", "proofs")
 # (of a program it has its axioms and its machine, too)
 PROVED = re.compile(r"logic=proved functions=\d+ (?:\S+ )*?sum=[0-9a-f]+\b.*")
+NOTE = re.compile(r"anew|program [0-9a-f]{64}")
 
 
 class Verdict(NamedTuple):
@@ -24,6 +26,7 @@ class Verdict(NamedTuple):
 
     source: str
     line: str
+    notes: tuple[str, ...] = ()
 
 
 def sum_of_files(root: Path, paths: Iterable[Path]) -> str:
@@ -52,19 +55,24 @@ def sum_of_all(root: Path) -> str:
     return sum_of_files(root, [*found, root / TABLE])
 
 
-def leave(name: str, source: str, log: str) -> None:
+def leave(name: str, source: str, log: str, is_anew: bool = False) -> None:
     """Leaves the verdict on a crate that was proved; none where the log has no line of it."""
+    program = Path("crates", name, "out", name)
     VERDICTS.mkdir(parents=True, exist_ok=True)
     lines = [line for line in log.splitlines() if PROVED.fullmatch(line)]
     if lines:
-        (VERDICTS / name).write_text(f"{source}\n{lines[-1]}\n", encoding="utf-8")
+        kept = [source, lines[-1], *(["anew"] if is_anew else [])]
+        if program.is_file():
+            kept.append(f"program {hashlib.sha256(program.read_bytes()).hexdigest()}")
+        (VERDICTS / name).write_text("".join(f"{it}\n" for it in kept), encoding="utf-8")
 
 
 def left(name: str) -> Verdict | None:
     """The verdict that a build left on a crate, whatever source it is of."""
     path = VERDICTS / name
     lines = path.read_text(encoding="utf-8").splitlines() if path.exists() else []
-    return Verdict(*lines) if len(lines) == 2 and PROVED.fullmatch(lines[1]) else None
+    is_one = len(lines) > 1 and PROVED.fullmatch(lines[1]) and all(map(NOTE.fullmatch, lines[2:]))
+    return Verdict(lines[0], lines[1], tuple(lines[2:])) if is_one else None
 
 
 if __name__ == "__main__":

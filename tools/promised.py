@@ -1,0 +1,194 @@
+"""What is promised, for tools/evidence: the claims of README.md, the rows of docs/GUARANTEES.md and
+the rules of the Code, each sentence with its clauses; and each clause with what it assumes."""
+import re
+from collections.abc import Callable
+from pathlib import Path
+from typing import Any
+
+from claims import LIMIT, TABLE, Claims, Sentence, Unclear, named, sentences
+from page_text import Refused, plain, section, table
+from premises import Premise, Premises
+
+README, CODE = Path("README.md"), "The rules of the Code"
+CLAIM = re.compile(r"\*\*(.+?)\.\*\* (.*)")
+LEFT = "Of the rule on the .."
+# what a row of a table of tests names, and the command that runs it
+PYTEST = "/usr/bin/python3 -m pytest -q -p no:cacheprovider"
+COMMANDS: list[tuple[str, Callable[[str], str]]] = [
+    (r"cases", lambda it: "make cases"),
+    (r"cases/\w+", lambda it: f"tools/cases bin/admissions {it.partition('/')[2]}"),
+    (r"office/tests", lambda it: "make office"),
+    (r"(office|deploy)/tests/test_\w+\.py", lambda it: f"{PYTEST} {it}"),
+    (r"deploy/tests", lambda it: "tools/python-tests deploy"),
+    (r"deploy/site/tests", lambda it: "tools/site-tests"),
+    (r"make [\w-]+", lambda it: it),
+    (r"bench/\w+/run", lambda it: f"{it} bin/admissions"),
+    (r"deploy/[\w-]+", lambda it: it),
+    (r"tools/refusals", lambda it: "make refusals"),
+    (r"\w+_runs", lambda it: f"cd crates/{it} && rt run"),
+]
+
+
+def identity(clause: Any) -> str:
+    """By which a clause is known, and linked to."""
+    return f"{clause.crate}.{clause.anchor}"
+
+
+class Promised:
+    """The promises of a project (tools/reference), with the goals of its Makefile."""
+
+    def __init__(self, reference: Any, project: Any, goals: set[str]) -> None:
+        self.reference, self.project, self.goals = reference, project, goals
+        self.list, self.premises = Claims(project), Premises(project)
+        self.named: dict[str, Any] = {}
+        try:
+            self.rows = [(row, self.of_row(row)) for row in project.rows]
+            self.of_readme = list(self.of_claims())
+        except Unclear as error:
+            raise Refused(str(error)) from error
+        if unused := self.list.unused():
+            raise Refused("\n".join(f"{TABLE}: no promise begins so: {it}" for it in unused))
+
+    def said(self, row: Any) -> list[str]:
+        """What a row promises: of a rule of the Code, what holds here."""
+        cells = [row.cells[1], row.cells[3]] if self.is_of_code(row) else [row.cells[0]]
+        return [it for cell in cells for it in sentences(plain(cell))]
+
+    @staticmethod
+    def is_of_code(row: Any) -> bool:
+        """Whether a row is a rule of the Code, with what holds of it here."""
+        return len(row.titles) > 3 and row.titles[0] == "The Code"
+
+    def of_row(self, row: Any) -> list[Sentence]:
+        """The sentences of a row with their clauses."""
+        carrying = list(dict.fromkeys(it for it in row.carrying if it.kind == "ensures"))
+        if not carrying:
+            raise Refused(f"{row.where}: this promise has no clause: {row.cells[0]}")
+        page = str(row.page)
+        return self.list.of(page, plain(row.cells[0]), self.said(row), carrying)
+
+    def of_claims(self) -> Any:
+        """The claims of README.md, each with the heading that it links to and its sentences."""
+        carrying = {it for _, found in self.rows for one in found for it in one.clauses}
+        for said, link in table(README.read_text(encoding="utf-8"), "What is promised"):
+            found = CLAIM.fullmatch(said)
+            if not found:
+                raise Refused(f"{README}: this claim has no name in bold: {said}")
+            texts = sentences(plain(found[2]))
+            # (a name that is a promise itself)
+            first = next(iter(self.list.entries.get((str(README), found[1]), ())), "")
+            texts = [f"{found[1]}.", *texts] if first == found[1] else texts
+            result = self.list.of(str(README), found[1], texts, [])
+            for clause in (it for one in result for it in one.clauses):
+                if clause not in carrying:
+                    raise Refused(f"{README}: {found[1]}: no row of {self.reference.GUARANTEES} has"
+                                  f" {named(clause)}")
+            yield found[1], re.findall(r"#([\w-]+)", link)[0], result
+
+    def sentence(self, it: Sentence) -> dict[str, Any]:
+        """A sentence with the names of its clauses; none: it says what is not covered."""
+        self.named.update({identity(clause): clause for clause in it.clauses})
+        return {"text": it.text, "is": "promised" if it.carriers else LIMIT,
+                "clauses": [{"id": identity(clause), "name": named(clause), "crate": clause.crate,
+                             "by": [self.reference.href(used) for used in by]}
+                            for clause, by in it.carriers]}
+
+    def claims(self) -> list[dict[str, Any]]:
+        """The claims of README.md, with the numbers of the promises below their heading."""
+        anchors = [(self.reference.anchor_of(row.heading), row.number) for row, _ in self.rows]
+        return [{"claim": name, "heading": anchor,
+                 "sentences": [self.sentence(it) for it in found],
+                 "promises": [number for at, number in anchors if at == anchor]}
+                for name, anchor, found in self.of_readme]
+
+    def promises(self) -> list[dict[str, Any]]:
+        """The rows of the guarantees."""
+        out = []
+        for row, found in self.rows:
+            beside = zip(row.titles[1:], row.cells[1:])
+            more = {title: plain(cell) for title, cell in beside if cell}
+            out.append({
+                "number": row.number, "promise": plain(row.cells[0]), "where": row.where,
+                "heading": row.heading.strip("# "), "page": f"reference/{row.file}", "said": more,
+                "sentences": [self.sentence(it) for it in found],
+            })
+        return out
+
+    def code(self) -> list[dict[str, Any]]:
+        """The rules of the Code, each with what is proved of it, what is only tested, and what is
+        neither."""
+        rules = [(row, found) for row, found in self.rows if self.is_of_code(row)]
+        rest = table(section(self.reference.GUARANTEES, CODE), LEFT)
+        if len(rules) != len(rest):
+            raise Refused(f"{self.reference.GUARANTEES}: {len(rules)} rules of the Code, and of"
+                          f" {len(rest)} it is said what is not proved")
+        out = []
+        for (row, found), (words, tested, neither) in zip(rules, rest):
+            if words not in row.cells[0]:
+                raise Refused(f"{row.where}: this rule has no '{words}', as the row that says what"
+                              " of it is not proved")
+            names = re.findall(r"`([^`]+)`", tested)
+            if not names or not neither:
+                raise Refused(f"{row.where}: no test is named for this rule, or nothing remains")
+            out.append({
+                "rule": plain(row.cells[0]), "promise": row.number,
+                "proved": [self.sentence(it) for it in found if it.clauses],
+                "limits": [it.text for it in found if not it.clauses],
+                "only_tested": plain(tested), "neither": plain(neither),
+                "commands": [self.command(name) for name in names],
+            })
+        return out
+
+    def only_tested(self) -> list[dict[str, Any]]:
+        """What no clause says, with the tests that are named for it and their commands."""
+        out = []
+        for said, tests in table(section(self.reference.GUARANTEES, "Only tested"), "Left open"):
+            names = [it for it in re.findall(r"`([^`]+)`", tests) if not self.is_function(it)]
+            if not names:
+                raise Refused(f"{self.reference.GUARANTEES}: this row names no test: {said}")
+            out.append({"left_open": plain(said), "tested_by": plain(tests),
+                        "commands": [self.command(name) for name in names]})
+        return out
+
+    def is_function(self, name: str) -> bool:
+        """Whether a name is that of a function, of which a test is told."""
+        return any(it.name == name for it in self.project.functions)
+
+    def command(self, name: str) -> str:
+        """The command of a test that the guarantees name, which must be there."""
+        path = Path("crates", name) if re.fullmatch(r"\w+_runs", name) else Path(name)
+        is_there = name[5:] in self.goals if name.startswith("make ") else path.exists()
+        for pattern, command in COMMANDS:
+            if is_there and re.fullmatch(pattern, name):
+                return command(name)
+        raise Refused(f"{self.reference.GUARANTEES}: there is no test `{name}`")
+
+    def definition(self, it: Any) -> dict[str, str]:
+        """A definition in plain words, with its place and its text."""
+        return {"name": it.name, "place": f"crates/{it.crate}/{it.file}:{it.line}",
+                "sentence": it.sentence, "page": f"reference/{self.reference.href(it)}",
+                "text": it.text.rstrip()}
+
+    def premise(self, clause: Any, it: Premise) -> dict[str, Any]:
+        """A premise, with the definitions that it names."""
+        used = [one for name, one in self.premises.named(it.of or clause).items()
+                if re.search(rf"(?<![\w.]){re.escape(name)}(?![\w'])", it.text)]
+        return {"text": it.text, "of": it.of.name if it.of else "", "field": it.field,
+                "definitions": [self.reference.href(one) for one in dict.fromkeys(used)]}
+
+    def clause(self, it: Any, verdict: str) -> dict[str, Any]:
+        """A clause with its place, what it assumes, and the definitions that it names."""
+        function, found = it.function, self.premises.of_clause(it)
+        return {
+            "id": identity(it), "name": named(it), "crate": it.crate, "function": function.name,
+            "clause": it.name, "kind": it.kind, "about": function.sentence,
+            "file": f"crates/{it.crate}/{function.file}", "line": it.line, "text": it.text,
+            "signature": function.signature,
+            "requires": [{"name": one.name, "text": one.text, "line": one.line,
+                          "definitions": [self.reference.href(used) for used in one.names]}
+                         for one in function.clauses if one.kind == "requires"],
+            "assumes": [self.premise(it, one) for one in found if one.depth < 2],
+            "within": [self.premise(it, one) for one in found if one.depth > 1],
+            "definitions": [self.reference.href(used) for used in it.names],
+            "verdict_of_the_crate": verdict,
+        }
