@@ -13,7 +13,7 @@
 #   make refusals  the same of a script over disks in memory, judged by rules that share no code with the program, and of the calls that need none
 #   make killed-opens  an open after a crash, and opens that are refused, killed at each of their calls to the system; a minute
 #   make audits   admissions-audit on the rounds and fills of 200 random registers, on files changed by hand, and on all allocations of small ones
-#   make office   the tests of the office's commands (office/tests) alone, with the built program; needs python3-pytest, poppler-utils, and what cases need
+#   make office   the tests of the office's commands (office/tests) alone, with the built program; needs python3-pytest, python3-pytest-xdist, poppler-utils, and what cases need
 #   make races    a restore beside which a program starts at 300 random moments; restore and backup with a program started before each operation, killed, failing, without power; some minutes
 #   make costs    the CPU seconds of each crate's proof in the build here, beside a unit of this hour, and the longest chain of crates
 #   make bench    the aims for the costs, beside the measured costs, as one page, which it writes to bench/RESULTS.md; some minutes once the program is built
