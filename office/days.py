@@ -7,7 +7,7 @@ from .rules import RULES
 FIRST, LAST = (
     datetime.date.fromisoformat(RULES["limits"]["day"][it]) for it in ("least", "most")
 )
-# an offer may be reminded of after so long, and withdrawn so long after the reminder
+# so long a family has to answer an offer, and as long again to answer the reminder of it
 NOTICE = datetime.timedelta(days=RULES["limits"]["notice"]["least"])
 # a day of deletion is kept only if it is so far ahead, so that whoever runs the machine can object
 DELETION_NOTICE = datetime.timedelta(days=14)
@@ -31,6 +31,18 @@ MONTHS = (
 
 # as 3rd March 2025
 NAMED_MONTH = r"([0-9]{1,2})(?:st|nd|rd|th)?[-/. ]+([A-Za-z]{3,9})\.?,?[-/. ]+([0-9]{4})"
+
+
+def answer_by(since: datetime.date) -> datetime.date:
+    """The last day on which a family may answer an offer, or a reminder, of a day."""
+    return since + NOTICE
+
+
+def due_from(since: datetime.date) -> datetime.date:
+    """The day after it, from which the reminder or the withdrawal is due. The register accepts them
+    on the last day of the answer already.
+    """
+    return answer_by(since) + datetime.timedelta(days=1)
 
 
 def read(text: str) -> datetime.date | None:

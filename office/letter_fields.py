@@ -223,10 +223,10 @@ class Writer:
 
     def may_have_lapsed(self, offered: datetime.date, reminded: datetime.date | None = None,
                         ) -> bool:
-        """Whether an offer can have been withdrawn by the date of the letter: the days of notice
-        after the reminder, which is sent as many days after the offer or later.
+        """Whether an offer can have been withdrawn by the date of the letter. The register accepts
+        a withdrawal, as the reminder before it, on the last day of the answer.
         """
-        return self.day - (reminded or offered + days.NOTICE) >= days.NOTICE
+        return self.day >= days.answer_by(reminded or days.answer_by(offered))
 
     def letter(self, number: int) -> Letter:
         """The letter of a child."""
@@ -236,7 +236,7 @@ class Writer:
         found = application.listed.get(place.school) if application and place else None
         above = self.above(number, application, place) if register.draws else ()
         started = place and (place.reminded or place.day)
-        answer_by = started + days.NOTICE if started else None
+        answer_by = days.answer_by(started) if started else None
         criterion, code = self.criterion_of(school, found)
         ended = self.ended(number, place)
         return Letter(

@@ -52,7 +52,7 @@ examples:
   admissions-letters --copy-template letter.html
   admissions-letters reg.db --pdf letters-1 --template letter.html \\
       --before copies/before-draw-1.db --date 2025-03-03
-  admissions-letters reg.db reminders --only remind-2025-03-17.csv
+  admissions-letters reg.db reminders --only remind-2025-03-18.csv
 
 exit status: 0 the letters are there; 1 refused or failed, and nothing was
 written; 2 wrong arguments. The program is the one that ADMISSIONS names, or

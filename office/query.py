@@ -27,7 +27,7 @@ an apostrophe before a text that a spreadsheet would take for a formula.
 example:
   admissions-query reg.db find abel
   admissions-query http://127.0.0.1:8080 unplaced
-  admissions-query reg.db remind-due --day 2025-03-17 --excel > remind.csv
+  admissions-query reg.db remind-due --day 2025-03-18 --excel > remind.csv
   admissions-query reg.db amend --child 23 > corrections-2024-11-04.jsonl
   admissions-query reg.db moved --round 2 --before copies/before-draw-5.db
   admissions-query reg.db --workbook worklists.xlsx

@@ -130,23 +130,23 @@ def no_answer(register: Register) -> Rows:
 
 
 def remind_due(register: Register, today: datetime.date) -> Rows:
-    """Who is due for a reminder."""
+    """Who is due for a reminder, from which day on."""
     header: list[Cell] = ["child", "school", "offered", "due", "name"]
     due = [(day, child, it) for day, child, it in offers(register) if not it.reminded]
-    rows: Rows = [[child, it.school, text_of(day), text_of(day + days.NOTICE),
+    rows: Rows = [[child, it.school, text_of(day), text_of(days.due_from(day)),
                    register.children[child].name]
-                  for day, child, it in due if day + days.NOTICE <= today]
+                  for day, child, it in due if days.due_from(day) <= today]
     return [header, *rows]
 
 
 def lapse_due(register: Register, today: datetime.date) -> Rows:
-    """Whose offer may lapse."""
+    """Whose offer may lapse, from which day on."""
     header: list[Cell] = ["child", "school", "reminded", "due", "name"]
     due = sorted((it.reminded, child, it.school) for _, child, it in offers(register)
                  if it.reminded)
-    rows: Rows = [[child, code, text_of(reminded), text_of(reminded + days.NOTICE),
+    rows: Rows = [[child, code, text_of(reminded), text_of(days.due_from(reminded)),
                    register.children[child].name]
-                  for reminded, child, code in due if reminded + days.NOTICE <= today]
+                  for reminded, child, code in due if days.due_from(reminded) <= today]
     return [header, *rows]
 
 

@@ -44,7 +44,7 @@ file is continued after them by --continue, or begun anew by --again.
 example:
   admissions-send plans.jsonl
   admissions-send replies.csv --url http://127.0.0.1:8080
-  admissions-send remind-2025-03-17.csv --as remind --day 2025-03-17
+  admissions-send remind-2025-03-18.csv --as remind --day 2025-03-18
 
 exit status: 0 every line is done; 1 some are not, or nothing was sent; 2 wrong
 arguments.

@@ -56,8 +56,8 @@ WORKLISTS = {
         "what families want: how many list each school, as which preference, how many of them"
         " applied late, and how many need a lot in the next round", (), register_lists.interest),
     "lapse-due": Worklist(
-        f"whose offer may lapse on a day (--day): no answer {days.NOTICE.days} days after the"
-        " reminder", ("day",), register_lists.lapse_due),
+        "whose offer may lapse on a day (--day): no answer by the end of the"
+        f" {days.NOTICE.days}th day after the reminder", ("day",), register_lists.lapse_due),
     "last-offered": Worklist(
         "the last class, distance and lot that were offered at each school in each draw, and how"
         " many were", (), draw_lists.last_offered),
@@ -78,8 +78,8 @@ WORKLISTS = {
         "how many children each round left with their first, second, .. preference, or with none",
         (), draw_lists.preferences),
     "remind-due": Worklist(
-        "who is due for a reminder on a day (--day): an offer without an answer"
-        f" {days.NOTICE.days} days after it", ("day",), register_lists.remind_due),
+        "who is due for a reminder on a day (--day): no answer by the end of the"
+        f" {days.NOTICE.days}th day after the offer", ("day",), register_lists.remind_due),
     "round-report": Worklist(
         "the result of a round (--round) for each child that took part, with names", ("round",),
         draw_lists.round_report, ("round",)),

@@ -24,7 +24,7 @@ import tempfile
 from collections.abc import Iterator, Sequence
 from typing import Any
 
-DAY = "2025-03-17"
+DAY = "2025-03-18"
 
 
 class Day(datetime.date):
@@ -78,7 +78,7 @@ COPIES = (
     ("before the EHC plans of March", "jane", "2025-03-10T10:02:00+00:00"),
 )
 # late applications, of which three rows have something wrong
-LATE_FILE, LATE_ADDED = "late.csv", "2025-03-17T09:20:00+00:00"
+LATE_FILE, LATE_ADDED = "late.csv", "2025-03-18T09:20:00+00:00"
 LATE_ROWS = """child,name,east,north,looked_after,flags,siblings,day,preferences
 151,Nia Howells,2210,1480,no,,,4/3/2025,A;DEAN
 152,Tomos Reid,1900,820,no,,FERN,2025-03-06,FERN
@@ -88,8 +88,8 @@ LATE_ROWS = """child,name,east,north,looked_after,flags,siblings,day,preferences
 """
 # a fill at the first school: when each of its steps was done; and the lots that are typed, which
 # the slips of a hat have given to the first group
-STEPS = {0: "2025-03-17T09:40:00+00:00", 1: "2025-03-17T09:41:00+00:00",
-         2: "2025-03-17T09:42:00+00:00", 3: "2025-03-17T09:42:00+00:00"}
+STEPS = {0: "2025-03-18T09:40:00+00:00", 1: "2025-03-18T09:41:00+00:00",
+         2: "2025-03-18T09:42:00+00:00", 3: "2025-03-18T09:42:00+00:00"}
 HAT = ("3", "1", "2")
 Commands = list[dict[str, Any]]
 # who applied too late, each before others at the first school by another criterion

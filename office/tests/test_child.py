@@ -14,12 +14,12 @@ from office.web import children, corrections, effects, flags, wording
 from office.web.people import Person
 from office.web.screens import child as screen
 
-TODAY = datetime.date(2025, 3, 17)
+TODAY = datetime.date(2025, 3, 18)
 
 
 @pytest.fixture(name="office")
 def office_fixture(tmp_path: pathlib.Path, monkeypatch: pytest.MonkeyPatch) -> Iterator[Site]:
-    """The application over a register after its first round, on the day on which reminders are due.
+    """The application over a register after its first round, on the first day of reminders.
     Child 5 has flags, a sibling and no application.
     """
     monkeypatch.setattr(screen, "today", lambda: TODAY)
@@ -48,7 +48,7 @@ def test_a_child_is_shown_with_its_place_its_list_and_its_data(office: Site) -> 
     assert page.by_id["heading"] == "Child 3, Cyd <b>Cole</b>"
     assert page.by_id["place"] == (
         "The child was offered a place at Beta on 3 March 2025. There is no answer yet.")
-    assert page.by_id["deadline"] == "A reminder is due from 17 March 2025 on."
+    assert page.by_id["deadline"] == "A reminder is due from 18 March 2025 on."
     assert page.tables["list"][1:] == [
         ["1", "A Alpha", "waits, position 1 of 2", "ranked by distance alone", "300"],
         ["2", "B Beta", "offered", "ranked by distance alone", "300"]]
@@ -76,8 +76,8 @@ ACTIONS: list[tuple[str, str, dict[str, Any]]] = [
      {"cmd": "accept", "child": 3, "school": "B"}),
     ("/children/3/decline", "Decline Beta for Cyd <b>Cole</b>",
      {"cmd": "decline", "child": 3, "school": "B"}),
-    ("/children/3/remind?day=17/3/2025", "Record the reminder of Cyd <b>Cole</b> about Beta",
-     {"cmd": "remind", "child": 3, "school": "B", "day": "2025-03-17"}),
+    ("/children/3/remind?day=18/3/2025", "Record the reminder of Cyd <b>Cole</b> about Beta",
+     {"cmd": "remind", "child": 3, "school": "B", "day": "2025-03-18"}),
     ("/children/3/leave?school=A", "Take Cyd <b>Cole</b> off the list of Alpha",
      {"cmd": "leave_list", "child": 3, "school": "A"}),
     ("/children/4/plan?school=A", "Give Dai O'Dare a place at Alpha by a plan",
@@ -114,13 +114,30 @@ def test_a_withdrawal_needs_a_reminder(office: Site) -> None:
     found = act(jane, "/children/3/remind", "Record the reminder of Cyd <b>Cole</b> about Beta")
     page = Page(jane.get(found.location).text)
     assert page.by_id["deadline"] == (
-        "The offer may be withdrawn from 31 March 2025 on, if it is not answered.")
-    path = "/children/3/lapse?day=31 March 2025"
+        "The offer may be withdrawn from 2 April 2025 on, if it is not answered.")
+    path = "/children/3/lapse?day=2 April 2025"
     page = Page(jane.get(path).text)
     assert "<b>Cole" not in page.text and "&lt;b&gt;Cole" in page.text
-    assert page.by_id["on"] == "Day: Monday, 31 March 2025"
-    assert "The day is 14 days after today." in page.text
+    assert page.by_id["on"] == "Day: Wednesday, 2 April 2025"
+    assert "The day is 15 days after today." in page.text and "may answer" not in page.text
     found = press(jane, path, page, "Withdraw the offer of Beta from Cyd <b>Cole</b>")
+    assert found.status_code == 303 and 3 not in office.parts.desk.now().places
+
+
+def test_the_last_day_of_an_answer_is_said_before_a_reminder_and_a_withdrawal(
+    office: Site,
+) -> None:
+    """On that day the register accepts them, and the family may still answer."""
+    jane = office.browser("jane")
+    for name, last, after in (("remind", "17 March 2025", "18 March 2025"),
+                              ("lapse", "1 April 2025", "2 April 2025")):
+        said = f"The family may answer until the end of {last}."
+        assert said in jane.get(f"/children/3/{name}?day={last}").text
+        assert "may answer" not in jane.get(f"/children/3/{name}?day={after}").text
+        if name == "remind":
+            act(jane, "/children/3/remind", "Record the reminder of Cyd <b>Cole</b> about Beta")
+    found = act(jane, "/children/3/lapse?day=1 April 2025",
+                "Withdraw the offer of Beta from Cyd <b>Cole</b>")
     assert found.status_code == 303 and 3 not in office.parts.desk.now().places
 
 
@@ -147,9 +164,9 @@ def test_a_day_is_typed_and_warned_of(office: Site) -> None:
         assert found.status_code == 400 and "17 March 2025" in page.error("day")
         assert page.fields["day"]["value"] == text and "confirm" not in page.fields
     page = Page(jane.get("/children/3/remind?day=3/3/2026").text)
-    assert "The day is outside the season" in page.text and "351 days after today" in page.text
+    assert "The day is outside the season" in page.text and "350 days after today" in page.text
     page = Page(jane.get("/children/3/remind").text)
-    assert page.by_id["on"] == "Day: Monday, 17 March 2025" and "warning" not in page.text
+    assert page.by_id["on"] == "Day: Tuesday, 18 March 2025" and "warning" not in page.text
 
 
 @pytest.mark.parametrize("name, button", (

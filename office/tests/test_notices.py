@@ -59,54 +59,54 @@ def confirmed(browser: Browser, kind: str, page: Any) -> Any:
 def test_reminders_and_withdrawals_lead_to_the_letters_of_the_same_children(
     office: Site, address: str,
 ) -> None:
-    """Two of five are reminded on 17 March; of these one is withdrawn on 31 March."""
+    """Two of five are reminded on 18 March; of these one is withdrawn on 2 April."""
     jane = office.browser("jane")
-    page = jane.get("/notices/remind?day=17 March 2025")
+    page = jane.get("/notices/remind?day=18 March 2025")
     assert re.findall(r'name="child" value="([0-9]+)"[^>]* checked', page.text) == list("12345")
-    assert jane.get("/notices/remind?day=16 March 2025").text.count('name="child"') == 0
-    page = shown(jane, "remind", "17 March 2025", [2, 3])
-    assert "Record 2 reminders of 17 March 2025" in page.text
-    assert "Monday, 17 March 2025" in page.text and "=SUM(A1)" in page.text
-    assert "may be withdrawn from 31 March 2025 on" in page.text
+    assert jane.get("/notices/remind?day=17 March 2025").text.count('name="child"') == 0
+    page = shown(jane, "remind", "18 March 2025", [2, 3])
+    assert "Record 2 reminders of 18 March 2025" in page.text
+    assert "Tuesday, 18 March 2025" in page.text and "=SUM(A1)" in page.text
+    assert "may be withdrawn from 2 April 2025 on" in page.text
     found = confirmed(jane, "remind", page)
     assert found.status_code == 303, found.text
     row = jane.get(found.location)
     assert "2 of 2 reminders recorded" in row.text and "Letters to these 2 children" in row.text
     places = office.parts.desk.now().places
     assert {it for it, place in places.items() if place.reminded} == {2, 3}
-    assert str(places[3].reminded) == "2025-03-17"
-    assert office.copied == ["before reminders of 2025-03-17"]
+    assert str(places[3].reminded) == "2025-03-18"
+    assert office.copied == ["before reminders of 2025-03-18"]
     assert not any(it.reminded for it in office.parts.copies.register(1).places.values())
     form = asked(jane, "row", "1", day_of_letters="18 March 2025")
     assert form["child"] == ["2", "3"]
     for number, text in zip((2, 3), letter_pages(jane, made(jane, form))):
         assert NAMES[number] in text and "18 March 2025" in text
-        assert "We offered this place on 3 March 2025 and reminded you on 17 March 2025" in text
-        assert "If we have no answer by 31 March 2025, the offer may be withdrawn." in text
-    assert jane.get("/letters/whom?whom=reminded&value=17/3/2025").text.count(
-        "reminder of 17 March 2025") == 2
+        assert "We offered this place on 3 March 2025 and reminded you on 18 March 2025" in text
+        assert "If we have no answer by 1 April 2025, the offer may be withdrawn." in text
+    assert jane.get("/letters/whom?whom=reminded&value=18/3/2025").text.count(
+        "reminder of 18 March 2025") == 2
     withdrawn(jane, office, address)
 
 
 def withdrawn(jane: Browser, office: Site, address: str) -> None:
     """The other half: one of the two answers, and the other offer is withdrawn."""
-    assert jane.get("/notices/lapse?day=30 March 2025").text.count('name="child"') == 0
+    assert jane.get("/notices/lapse?day=1 April 2025").text.count('name="child"') == 0
     beside(office, address, [{"cmd": "accept", "child": 3, "school": "ELM"}])
-    page = shown(jane, "lapse", "31 March 2025", [2])
-    assert "Record 1 withdrawal of 31 March 2025" in page.text
+    page = shown(jane, "lapse", "2 April 2025", [2])
+    assert "Record 1 withdrawal of 2 April 2025" in page.text
     assert "cannot be undone" in page.text
     found = confirmed(jane, "lapse", page)
     assert found.status_code == 303
     assert 2 not in office.parts.desk.now().places
-    for whom, value in (("row", "2"), ("withdrawn", "31 March 2025")):
-        early = jane.post("/letters/make", asked(jane, whom, value, day_of_letters="30 March 2025"))
+    for whom, value in (("row", "2"), ("withdrawn", "2 April 2025")):
+        early = jane.post("/letters/make", asked(jane, whom, value, day_of_letters="1 April 2025"))
         assert early.status_code == 400 and (
-            "tell of withdrawals of 31 March 2025, and cannot have an earlier date" in early.text)
-        form = asked(jane, whom, value, day_of_letters="31 March 2025")
+            "tell of withdrawals of 2 April 2025, and cannot have an earlier date" in early.text)
+        form = asked(jane, whom, value, day_of_letters="2 April 2025")
         assert form["child"] == ["2"]
         text = letter_pages(jane, made(jane, form))[0]
         assert "The place at Elm has ended" in text
-        assert "our offer of 3 March 2025, of which we reminded you on 17 March 2025" in text
+        assert "our offer of 3 March 2025, of which we reminded you on 18 March 2025" in text
 
 
 def test_the_letters_of_a_row_are_made_by_themselves(office: Site, address: str) -> None:
@@ -114,28 +114,28 @@ def test_the_letters_of_a_row_are_made_by_themselves(office: Site, address: str)
     they were taken. One set for a row, however often it is looked at.
     """
     jane = office.browser("jane")
-    row = confirmed(jane, "remind", shown(jane, "remind", "17 March 2025", [2, 3])).location
+    row = confirmed(jane, "remind", shown(jane, "remind", "18 March 2025", [2, 3])).location
     page = waited(jane, row)
     place = re.search(r'href="(/letters/sets/[0-9]+)/file">Take the file: 2 letters<', page)
     assert place and "made, not recorded as sent" in page
-    assert "reminder of 17 March 2025: 2 letters" in page
-    path, given = place[1], {"day": "17 March 2025", "count": hidden(jane.get(row), "count")}
+    assert "reminder of 18 March 2025: 2 letters" in page
+    path, given = place[1], {"day": "18 March 2025", "count": hidden(jane.get(row), "count")}
     found = jane.post(f"{path}/record", given)
     assert found.status_code == 400 and "Nobody has taken the file" in found.text
     for number, text in zip((2, 3), letter_pages(jane, path)):
         assert NAMES[number] in text
-        assert "We offered this place on 3 March 2025 and reminded you on 17 March 2025" in text
+        assert "We offered this place on 3 March 2025 and reminded you on 18 March 2025" in text
     jane.post(row)
     assert count(office, "letter_set") == 1
     assert jane.post(f"{path}/record", given).status_code == 303
-    assert "sent on 17 March 2025, by jane" in jane.get(row).text
+    assert "sent on 18 March 2025, by jane" in jane.get(row).text
     assert jane.get("/letters/whom?whom=row&value=1").text.count(
-        "sent on 17 March 2025, by jane") == 2
+        "sent on 18 March 2025, by jane") == 2
     # those of withdrawals name the place that has ended; and a reader only sees that they are made
     beside(office, address, [{"cmd": "accept", "child": 3, "school": "ELM"}])
-    row = confirmed(jane, "lapse", shown(jane, "lapse", "31 March 2025", [2])).location
+    row = confirmed(jane, "lapse", shown(jane, "lapse", "2 April 2025", [2])).location
     page = waited(jane, row)
-    assert "Take the file: 1 letter<" in page and "withdrawal of 31 March 2025: 1 letter" in page
+    assert "Take the file: 1 letter<" in page and "withdrawal of 2 April 2025: 1 letter" in page
     place = re.search(r'href="(/letters/sets/[0-9]+)/file"', page)
     assert place and "The place at Elm has ended" in letter_pages(jane, place[1])[0]
     seen = office.browser("rita", "reader").get(row).text
@@ -147,7 +147,7 @@ def test_letters_that_nobody_can_send_are_not_made_by_themselves(office: Site) -
     with office.parts.store.writing() as db:
         db.execute("DELETE FROM letter_sender")
     jane = office.browser("jane")
-    row = confirmed(jane, "remind", shown(jane, "remind", "17 March 2025", [2, 3])).location
+    row = confirmed(jane, "remind", shown(jane, "remind", "18 March 2025", [2, 3])).location
     page = waited(jane, row)
     assert "2 of 2 reminders recorded" in page and count(office, "letter_set") == 0
     assert "not made by themselves, as the office’s address is not typed yet" in page
@@ -158,24 +158,24 @@ def test_the_letters_of_a_row_are_not_dated_before_it(
     office: Site, monkeypatch: pytest.MonkeyPatch,
 ) -> None:
     """Where it is recorded before its day: they would not know of it."""
-    monkeypatch.setattr(screen, "today", lambda: datetime.date(2025, 3, 16))
+    monkeypatch.setattr(screen, "today", lambda: datetime.date(2025, 3, 17))
     jane = office.browser("jane")
-    row = confirmed(jane, "remind", shown(jane, "remind", "17 March 2025", [2])).location
+    row = confirmed(jane, "remind", shown(jane, "remind", "18 March 2025", [2])).location
     assert "1 of 1 reminder recorded" in jane.get(row).text
     found = letters_rows.of_row(office.app.extensions["letters"], 1)
-    assert found and found.asked.date == datetime.date(2025, 3, 17)
+    assert found and found.asked.date == datetime.date(2025, 3, 18)
 
 
 def test_what_changed_meanwhile_is_not_recorded(office: Site, address: str) -> None:
     """Neither what is on the page, nor what was shown to be confirmed; and two clicks record once.
     """
     jane = office.browser("jane")
-    page = shown(jane, "remind", "17 March 2025", [1, 4])
+    page = shown(jane, "remind", "18 March 2025", [1, 4])
     beside(office, address, [{"cmd": "accept", "child": 4, "school": "ELM"}])
     found = confirmed(jane, "remind", page)
     assert found.status_code == 409 and "child 4 is not due any more" in found.text.lower()
     assert count(office, "notice_row") == 0
-    page = shown(jane, "remind", "17 March 2025", [1])
+    page = shown(jane, "remind", "18 March 2025", [1])
     first = confirmed(jane, "remind", page)
     assert first.status_code == 303
     assert confirmed(jane, "remind", page).location == first.location
@@ -189,7 +189,7 @@ def test_wrong_days_and_ticks_are_said(office: Site) -> None:
     jane = office.browser("jane")
     found = jane.get("/notices/remind?day=someday")
     assert found.status_code == 400 and "a day as 17 March 2025" in found.text
-    found = shown(jane, "remind", "17 March 2025", [])
+    found = shown(jane, "remind", "18 March 2025", [])
     assert found.status_code == 409 and "Tick at least one child" in found.text
     found = jane.get("/notices/remind?day=1 March 2025")
     assert found.status_code == 400 and "Nobody had an offer" in found.text
@@ -200,7 +200,7 @@ def test_a_row_that_stopped_goes_on_and_sends_nothing_twice(
 ) -> None:
     """The register is away after the first of two; then the other one is recorded."""
     jane = office.browser("jane")
-    page = shown(jane, "remind", "17 March 2025", [1, 2])
+    page = shown(jane, "remind", "18 March 2025", [1, 2])
     sender, send, sent = office.parts.desk.sender, office.parts.desk.sender.send, list[bytes]()
 
     def once(line: bytes) -> bytes:
@@ -225,7 +225,7 @@ def test_a_row_that_stopped_goes_on_and_sends_nothing_twice(
 def test_a_row_stops_where_the_register_is_closed(office: Site) -> None:
     """Before the first one, without a copy; and goes on once it is open."""
     jane, desk = office.browser("jane"), office.parts.desk
-    page, is_open = shown(jane, "remind", "17 March 2025", [1, 4]), desk.closed
+    page, is_open = shown(jane, "remind", "18 March 2025", [1, 4]), desk.closed
     desk.closed = lambda: "Closed for a draw."
     path = confirmed(jane, "remind", page).location
     with office.app.app_context():
@@ -245,7 +245,7 @@ def test_a_row_stops_where_the_register_is_closed(office: Site) -> None:
 def test_a_row_that_was_killed_is_settled_by_a_look(office: Site) -> None:
     """The first was sent and its answer lost with the application: it is not sent again."""
     jane = office.browser("jane")
-    page = shown(jane, "remind", "17 March 2025", [1, 2])
+    page = shown(jane, "remind", "18 March 2025", [1, 2])
     row = confirmed(jane, "remind", page).location
     with office.parts.store.writing() as db:
         db.execute("UPDATE notice SET state='sending', said='' WHERE place=0")
@@ -260,7 +260,7 @@ def test_who_may_have_answered_is_not_ticked_at_first(office: Site) -> None:
     jane, bo = office.browser("jane"), office.browser("bo")
     bo.get("/answers/")
     assert bo.post("/answers/", {"entry": "2"}).status_code == 303
-    path, ticks = "/notices/remind?day=17 March 2025", r'name="child" value="(.)"[^>]* checked'
+    path, ticks = "/notices/remind?day=18 March 2025", r'name="child" value="(.)"[^>]* checked'
     assert re.findall(ticks, jane.get(path).text) == list("1345")
     assert re.findall(ticks, jane.get(f"{path}&tick=all").text) == list("12345")
 
@@ -278,7 +278,7 @@ def test_a_row_that_runs_says_so_while_the_register_is_away(
 
     monkeypatch.setattr(office.parts.copies, "make", slow)
     monkeypatch.setattr("office.web.screens.notices.WAIT_SECONDS", 0.05)
-    row = confirmed(jane, "remind", shown(jane, "remind", "17 March 2025", [2, 3])).location
+    row = confirmed(jane, "remind", shown(jane, "remind", "18 March 2025", [2, 3])).location
     monkeypatch.setattr(office.parts.desk, "register", away)
     page = jane.get(row)
     assert page.status_code == 200 and '<meta http-equiv="refresh"' in page.text
@@ -300,34 +300,34 @@ def test_an_offer_is_not_withdrawn_while_its_answer_waits_in_a_pile(
 ) -> None:
     """Nobody is ticked; each row says what to look at; and the piles are read again at the end."""
     beside(office, address, [
-        {"cmd": "remind", "child": it, "school": "ELM", "day": "2025-03-17"} for it in (2, 3, 4)])
+        {"cmd": "remind", "child": it, "school": "ELM", "day": "2025-03-18"} for it in (2, 3, 4)])
     jane, bo = office.browser("jane"), office.browser("bo")
     bo.get("/answers/")
     assert bo.post("/answers/", {"entry": "2-"}).status_code == 303
-    path = "/notices/lapse?day=31 March 2025"
+    path = "/notices/lapse?day=2 April 2025"
     page = jane.get(path).text
     assert re.findall(r'name="child" value="([0-9]+)"', page) == list("234")
     assert not re.findall(r'name="child"[^>]* checked', page)
     assert re.findall(r'name="child" value="([0-9]+)"[^>]* checked', jane.get(
         f"{path}&tick=all").text) == ["3", "4"]
     waits = "bo has an answer for this child in a pile (decline)"
-    letter = "the letter of the reminder of 17 March 2025 is not recorded as sent"
+    letter = "the letter of the reminder of 18 March 2025 is not recorded as sent"
     assert page.count(waits) == 1 and page.count(letter) == 3
     assert re.search(r'value="2"[^>]* disabled', page)
-    found = shown(jane, "lapse", "31 March 2025", [2, 3])
+    found = shown(jane, "lapse", "2 April 2025", [2, 3])
     assert found.status_code == 409 and f"hild 2: {waits}. Nothing was recorded" in found.text
-    question = shown(jane, "lapse", "31 March 2025", [3, 4])
+    question = shown(jane, "lapse", "2 April 2025", [3, 4])
     assert question.status_code == 200 and question.text.count(letter) == 2
     bo.post("/answers/", {"entry": "4"})
     found = confirmed(jane, "lapse", question)
     assert found.status_code == 409 and "hild 4: bo has an answer" in found.text
-    day = datetime.date(2025, 3, 31)
+    day = datetime.date(2025, 4, 2)
     due = [it for it in notices.due(office.parts.desk.now(), "lapse", day) if it.child == 4]
     # (and once more right before it is stored, as the answer may have come since)
     with pytest.raises(Refused, match="child 4: bo has an answer"), office.app.app_context():
         screen.rows().add(Person("jane", "officer"), "a key", "lapse", day, due)
     assert count(office, "notice_row") == 0
-    question = shown(jane, "lapse", "31 March 2025", [3])
+    question = shown(jane, "lapse", "2 April 2025", [3])
     make = office.parts.copies.make
 
     def meanwhile(purpose: str, *more: Any) -> int:
@@ -362,11 +362,11 @@ def test_a_child_that_is_looked_after_is_named_before_a_withdrawal(
 ) -> None:
     """On the list, and in the question."""
     beside(office, address, [
-        {"cmd": "remind", "child": 2, "school": "ELM", "day": "2025-03-17"},
+        {"cmd": "remind", "child": 2, "school": "ELM", "day": "2025-03-18"},
         {**child(2, 200, NAMES[2]), "cmd": "amend", "looked_after": True}])
     jane = office.browser("jane")
-    assert "looked after, or was" in jane.get("/notices/lapse?day=31 March 2025").text
-    question = shown(jane, "lapse", "31 March 2025", [2])
+    assert "looked after, or was" in jane.get("/notices/lapse?day=2 April 2025").text
+    question = shown(jane, "lapse", "2 April 2025", [2])
     assert "looked after, or was" in question.text
     # (what is said beside a child is confirmed with it)
     beside(office, address, [{**child(2, 200, NAMES[2]), "cmd": "amend"}])
@@ -375,7 +375,7 @@ def test_a_child_that_is_looked_after_is_named_before_a_withdrawal(
     assert "looked after, or was" not in found.text and count(office, "notice_row") == 0
 
 
-DAY = datetime.date(2025, 3, 17)
+DAY = datetime.date(2025, 3, 18)
 
 
 def row_of(office: Site, *children: int) -> tuple[notices.Notices, int]:
@@ -398,7 +398,7 @@ def test_a_row_that_cannot_be_recorded_now_makes_no_copy(tmp_path: pathlib.Path)
         assert not office.copied and row.copy is None and row.count("waits") == 2
         office.parts.desk.closed = str
         found.send_all(JANE, number)
-        assert office.copied == ["before reminders of 2025-03-17"]
+        assert office.copied == ["before reminders of 2025-03-18"]
 
 
 def test_a_form_without_its_key_records_nothing(tmp_path: pathlib.Path) -> None:
@@ -430,7 +430,7 @@ def test_a_row_that_ends_while_its_page_is_made_is_looked_at_again(
 def test_a_register_that_is_away_is_no_wrong_day(tmp_path: pathlib.Path) -> None:
     """The page says so, and marks no field."""
     with site(tmp_path, "http://127.0.0.1:9") as office:
-        page = office.browser("jane").get("/notices/remind?day=17 March 2025")
+        page = office.browser("jane").get("/notices/remind?day=18 March 2025")
         assert page.status_code == 503 and "The register does not answer now" in page.text
 
 

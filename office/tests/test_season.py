@@ -3,7 +3,8 @@ import datetime
 import io
 import pathlib
 import re
-from collections.abc import Iterator
+from collections.abc import Callable, Iterator
+from types import SimpleNamespace
 from typing import Any
 
 import openpyxl
@@ -12,12 +13,14 @@ from applications import ROUND, Site, office_over, town
 from pages import Page, press
 
 from office import worklists as office_worklists
-from office.web import steps, worklists
+from office.model import OFFERED, Place
+from office.register_lists import Rows, lapse_due, remind_due
+from office.web import steps, wording, worklists
 from office.web.draws_terms import IN_ORDER, Draw, Terms
 from office.web.people import Person
 from office.web.screens import lists, season
 
-REMIND = {"cmd": "remind", "child": 1, "school": "A", "day": "2025-03-17"}
+REMIND = {"cmd": "remind", "child": 1, "school": "A", "day": "2025-03-18"}
 HAL = Person("hal", "head")
 
 
@@ -87,12 +90,16 @@ def test_a_season_goes_step_by_step(
                             "held for 3 March 2025: 3 children were offered a place", "", ""]
         assert found[3] == ["Answers to offers", "next", "3 offers without an answer",
                             "17 March 2025, in 1 day", ""]
-        assert rows("2025-03-17")[3][4] == "3 reminders are due."
+        # (on the last day of the answer nothing is due yet)
+        assert rows("2025-03-17")[3][3:] == ["17 March 2025, today", ""]
+        assert rows("2025-03-18")[3][3:] == ["", "3 reminders are due."]
         assert office.parts.desk.send(HAL, REMIND).is_done
-        found = rows("2025-03-17")
-        assert found[3][3:] == ["31 March 2025, in 14 days", "2 reminders are due."]
-        found = rows("2025-03-31")
-        assert found[3][4] == "2 reminders are due.1 offer may be withdrawn."
+        found = rows("2025-03-18")
+        assert found[3][3:] == ["1 April 2025, in 14 days", "2 reminders are due."]
+        found = rows("2025-04-01")
+        assert found[3][3:] == ["1 April 2025, today", "2 reminders are due."]
+        found = rows("2025-04-02")
+        assert found[3][3:] == ["", "2 reminders are due.1 offer may be withdrawn."]
         for child, code in ((1, "A"), (3, "B")):
             command = {"cmd": "accept", "child": child, "school": code}
             assert office.parts.desk.send(HAL, command).is_done
@@ -108,9 +115,30 @@ def test_a_season_goes_step_by_step(
         assert found[5][4] == "Keep the last copy with the sheets and the audits."
 
 
+def test_nothing_is_due_on_a_day_on_which_a_family_may_answer() -> None:
+    """An offer of 3 March and one that was reminded of on 20 March: the last days of their answers
+    are 17 March and 3 April, and the lists and the screens begin after them.
+    """
+    register: Any = SimpleNamespace(
+        places={1: Place("A", OFFERED, datetime.date(2025, 3, 3)),
+                2: Place("B", OFFERED, datetime.date(2025, 3, 4), datetime.date(2025, 3, 20))},
+        children={1: SimpleNamespace(name="Ada"), 2: SimpleNamespace(name="Ben")})
+
+    def due(made: Callable[[Any, datetime.date], Rows], day: str) -> Rows:
+        return made(register, datetime.date.fromisoformat(day))[1:]
+
+    assert due(remind_due, "2025-03-17") == due(lapse_due, "2025-04-03") == []
+    assert due(remind_due, "2025-03-18") == [[1, "A", "2025-03-03", "2025-03-18", "Ada"]]
+    assert due(lapse_due, "2025-04-04") == [[2, "B", "2025-03-20", "2025-04-04", "Ben"]]
+    assert [str(it) for it in steps.last_days(register)] == ["2025-03-17", "2025-04-03"]
+    assert [wording.deadline(it) for it in register.places.values()] == [
+        "A reminder is due from 18 March 2025 on.",
+        "The offer may be withdrawn from 4 April 2025 on, if it is not answered."]
+
+
 def test_each_step_leads_to_its_screens(office: Site, monkeypatch: pytest.MonkeyPatch) -> None:
     """Those that are there, and that a person may see."""
-    on(monkeypatch, "2025-03-17")
+    on(monkeypatch, "2025-03-18")
     jane, rita = office.browser("jane"), office.browser("rita", "reader")
     for browser in (jane, rita):
         page = Page(browser.get("/").text)
@@ -162,7 +190,7 @@ def test_every_list_of_the_office_is_there(office: Site, monkeypatch: pytest.Mon
 
 def test_a_list_has_its_rows_and_options(office: Site, monkeypatch: pytest.MonkeyPatch) -> None:
     """Worked out by hand of the four children of the register."""
-    on(monkeypatch, "2025-03-16")
+    on(monkeypatch, "2025-03-17")
     rita = office.browser("rita", "reader")
 
     def rows(path: str) -> list[list[str]]:
@@ -175,13 +203,13 @@ def test_a_list_has_its_rows_and_options(office: Site, monkeypatch: pytest.Monke
     assert rows("list?school=B")[1:] == [["B", "1", "4", "Dai O'Dare", "1", "400", "2"]]
     assert [it[:3] for it in rows("list")[1:]] == [["A", "1", "3"], ["A", "2", "4"],
                                                    ["B", "1", "4"]]
-    assert rows("remind-due")[1:] == [] and rows("remind-due?day=16/3/2025")[1:] == []
+    assert rows("remind-due")[1:] == [] and rows("remind-due?day=17/3/2025")[1:] == []
     due = [["1", "A"], ["2", "A"], ["3", "B"]]
-    for day in ("17 March 2025", "17/3/2025", "2025-03-17"):
+    for day in ("18 March 2025", "18/3/2025", "2025-03-18"):
         assert [it[:2] for it in rows(f"remind-due?day={day}")[1:]] == due
-    found = rita.get("/lists/remind-due?day=17/3/2025").text
+    found = rita.get("/lists/remind-due?day=18/3/2025").text
     page = Page(found)
-    assert "Reminders that are due, Monday, 17 March 2025: 3 rows</caption>" in found
+    assert "Reminders that are due, Tuesday, 18 March 2025: 3 rows</caption>" in found
     assert page.stops.count("/children/1") == 1 and page.stops.count("/schools/A") == 2
     assert rows("round-report?round=1")[1:] == [
         ["1", "Ada Abel", "A", "offered"], ["2", "Ben Bell", "A", "offered"],

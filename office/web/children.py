@@ -10,7 +10,6 @@ from register_files import Refused
 
 from office import days, model, risks, rules, texts
 from office.model import Child, Place, Register
-from office.days import NOTICE
 
 from . import wording
 
@@ -120,8 +119,9 @@ def question(
     if action.is_dated:
         command["day"] = day.isoformat()
         warnings += day_warnings(register, command, day, today)
+        warnings += last_day_warning(register.places[number], day)
     words = {"school": school.name, "child": child.name}
-    withdrawn = days.in_words(day + NOTICE)
+    withdrawn = days.in_words(days.due_from(day))
     return Question(
         action, command, action.title, filled(action.button, words),
         action.becomes.replace("{withdrawn}", withdrawn), tuple(warnings))
@@ -155,6 +155,14 @@ def day_warnings(
         count = texts.count(abs((day - today).days), "day")
         found.append(f"The day is {count} {'after' if day > today else 'before'} today.")
     return found
+
+
+def last_day_warning(place: Place, day: datetime.date) -> list[str]:
+    """That a family may still answer on the day of a reminder or a withdrawal."""
+    since = place.reminded or place.day
+    if since is None or day >= days.due_from(since):
+        return []
+    return [f"The family may answer until the end of {days.in_words(days.answer_by(since))}."]
 
 
 FIELDS = tuple(it for it in rules.COMMANDS["amend"].values() if it.name != "child")

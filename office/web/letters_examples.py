@@ -8,6 +8,7 @@ from office import days, letter_fields, model
 from office.letter_fields import DECLINED, Letter, Listed
 
 OFFERED_ON, DAY = datetime.date(2025, 3, 3), datetime.date(2025, 3, 3)
+REMINDED_ON = days.due_from(OFFERED_ON)
 CRITERIA = ("who are looked after or were", "with a sibling at the school", "by distance alone")
 WAITS = Listed("OAK", "Oak School", 1, 2, "by distance alone", 1204, 3, 17, None,
                "the last place was offered to a child by distance alone, who lives nearer, at"
@@ -16,7 +17,7 @@ GONE = Listed("ASH", "Ash School", 2, 2, "by distance alone", 2118, None, None, 
 OFFERED = Letter(
     child=17, name="Example Child", year=2025, phase="secondary", state=model.OFFERED,
     applied=datetime.date(2024, 10, 24), school="ELM", school_name="Elm School", preference=3,
-    offered=OFFERED_ON, reminded=None, answer_by=OFFERED_ON + days.NOTICE,
+    offered=OFFERED_ON, reminded=None, answer_by=days.answer_by(OFFERED_ON),
     criterion="with a sibling at the school", criterion_code="sibling", metres=1350,
     criteria=CRITERIA, ended_school=None, ended_name=None, ended_because=None,
     listed=(WAITS, GONE), closing=datetime.date(2024, 10, 31), is_late=False,
@@ -27,8 +28,8 @@ NONE = dataclasses.replace(
     days_left=None)
 EXAMPLES = {
     "an offer": OFFERED,
-    "an offer with a reminder": dataclasses.replace(OFFERED, reminded=OFFERED_ON + days.NOTICE,
-                                                    answer_by=OFFERED_ON + 2 * days.NOTICE),
+    "an offer with a reminder": dataclasses.replace(
+        OFFERED, reminded=REMINDED_ON, answer_by=days.answer_by(REMINDED_ON)),
     "a place that was accepted": dataclasses.replace(
         OFFERED, state=model.ACCEPTED, offered=None, answer_by=None, days_left=None),
     "a place by a plan": dataclasses.replace(

@@ -5,7 +5,6 @@ from collections.abc import Iterator, Mapping
 
 from office import days, model, register_lists, texts
 from office.model import Register
-from office.days import NOTICE
 
 from .draws_terms import LOTS, Draw
 from .letters_whom import OFFERS, PART
@@ -139,7 +138,7 @@ def answers(register: Register, today: datetime.date) -> Step:
     if lapse:
         due.append(Due(f"{texts.count(lapse, 'offer', 'offers')} may be withdrawn.",
                        "notices.choose", {"name": LAPSE}))
-    later = [day for day in deadlines(register) if day > today]
+    later = [day for day in last_days(register) if day >= today]
     return Step("Answers to offers", bool(register.draws) and not offers, said,
                 min(later, default=None), tuple(due),
                 (("answers.show", "Answers", {}),
@@ -149,10 +148,10 @@ def answers(register: Register, today: datetime.date) -> Step:
                  ("lists.one", "Offers that may be withdrawn", {"name": "lapse-due"})))
 
 
-def deadlines(register: Register) -> Iterator[datetime.date]:
-    """The days from which offers without an answer are due for a reminder or a withdrawal."""
+def last_days(register: Register) -> Iterator[datetime.date]:
+    """The last days on which families may answer the offers, or the reminders of them."""
     for day, _, it in register_lists.offers(register):
-        yield (it.reminded or day) + NOTICE
+        yield days.answer_by(it.reminded or day)
 
 
 def can_be_filled(register: Register, today: datetime.date) -> str:

@@ -6,7 +6,6 @@ from collections.abc import Mapping
 
 from office import criteria, days, model, rules
 from office.model import Draw, Place, Preference, Register
-from office.days import NOTICE
 
 FOREVER = "This cannot be undone: the school is not offered to the child again."
 # what is wrong with what was typed for a day
@@ -68,12 +67,12 @@ def place(register: Register, found: Place | None) -> str:
 
 
 def deadline(found: Place | None) -> str:
-    """Until when an offer is to be answered, or ""."""
+    """From which day on a reminder or the withdrawal of an offer is due, or ""."""
     if found is None or found.kind != model.OFFERED or found.day is None:
         return ""
     if found.reminded is None:
-        return f"A reminder is due from {days.in_words(found.day + NOTICE)} on."
-    since = days.in_words(found.reminded + NOTICE)
+        return f"A reminder is due from {days.in_words(days.due_from(found.day))} on."
+    since = days.in_words(days.due_from(found.reminded))
     return f"The offer may be withdrawn from {since} on, if it is not answered."
 
 

@@ -10,7 +10,6 @@ from register_files import Refused
 from werkzeug.wrappers import Response
 
 from office import days, texts
-from office.days import NOTICE
 from office.model import Register
 
 from .. import children, letters_rows, notices, numbers, wording
@@ -162,7 +161,7 @@ def ask(name: str) -> Answer:
 def becomes(kind: str, day: datetime.date) -> str:
     """What becomes of it."""
     action = children.ACTIONS[kind]
-    return action.becomes.replace("{withdrawn}", days.in_words(day + NOTICE))
+    return action.becomes.replace("{withdrawn}", days.in_words(days.due_from(day)))
 
 
 def known_row(key: str) -> int | None:
