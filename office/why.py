@@ -54,17 +54,16 @@ MEANING = (f"Where this says '{SOME.lower()}', the number is withheld, because i
 DECIDED = {
     CLASS: "The criterion decided: the last child admitted met one that comes before any that this"
     " child meets.",
-    DISTANCE: "Both are in the same class, and the distance decided: the other child lives nearer"
-    " to the school.",
-    LOT: "Both are in the same class and live at the same distance, and the lot decided: the"
+    DISTANCE: "Both rank equally by the criteria, and the distance decided: the other child lives"
+    " nearer to the school.",
+    LOT: "Both rank equally by the criteria and live at the same distance, and the lot decided: the"
     " smaller one ranks first.",
     NOBODY: "Nobody was newly admitted.",
 }
-BY_DISTANCE_OR_LOT = (
-    "Both are in the same class, and the distance, or between equal distances the lot, decided."
-)
-ORDER = ("A vacancy is offered to the one that ranks first of those who wait: by the class, then by"
-         " the distance, and between equal distances by the lot.")
+BY_DISTANCE_OR_LOT = ("Both rank equally by the criteria, and the distance, or between equal"
+                      " distances the lot, decided.")
+ORDER = ("A vacancy is offered to the one that ranks first of those who wait: by the criteria, then"
+         " by the distance, and between equal distances by the lot.")
 OF_NOW = ("this is by the data that the register has now; where they were changed after the draw,"
           " it is not what the draw saw")
 AMENDED = ("The data of this child were changed after the draw: those that the draw saw are used"
@@ -256,8 +255,10 @@ class View:
         return not self.is_office and criteria.is_private(self.school, key.number)
 
     def ranked(self, key: Cutoff) -> str:
-        """A class and a distance in words."""
-        return f"class {key.number} ({self.words(key.number)}), {key.metres:,} metres"
+        """A class and a distance in words. A family does not know the number of a class."""
+        words = self.words(key.number)
+        found = f"class {key.number} ({words})" if self.is_office else words
+        return f"{found}, {key.metres:,} metres"
 
 
 def sentences_of(found: School, school: model.School, view: View) -> Iterator[str]:
@@ -292,8 +293,7 @@ def compared(found: School, view: View) -> Iterator[str]:
     last, key, is_by_lot = found.last, found.key, found.decided == LOT
     is_hidden = last is not None and view.is_private(last)
     if last and is_hidden:
-        yield (f"The last child admitted: class {last.number} ({view.words(last.number)}); its"
-               " distance is withheld.")
+        yield f"The last child admitted: {view.words(last.number)}; its distance is withheld."
     elif last:
         lot = f", lot {last.lot:,}" if is_by_lot else ""
         yield f"The last child admitted: {view.ranked(last)}{lot}."
@@ -317,7 +317,7 @@ def sentences_of_fill(found: School, school: model.School, view: View) -> Iterat
     if found.last and view.is_office:
         yield f"{other}: {view.ranked(found.last)}, lot {found.last.lot:,}."
     elif found.last and not view.is_private(found.last):
-        yield f"{other}: class {found.last.number} ({view.words(found.last.number)})."
+        yield f"{other}: {view.words(found.last.number)}."
     if found.key:
         lot = f", lot {found.key.lot:,}" if view.is_office else ""
         yield f"This child: {view.ranked(found.key)}{lot}."

@@ -10,7 +10,9 @@ from applications import ROUND, Site, child, town
 from explained import COPY, after_round
 from pages import Page
 
-CLASS = "class 1 (ranked by distance alone)"
+# the only class of each school, for the office and for a family
+WORDS = "ranked by distance alone"
+CLASS = f"class 1 ({WORDS})"
 
 
 @pytest.fixture(name="office", scope="module")
@@ -64,6 +66,8 @@ def test_the_family_reads_no_small_number_and_no_other_child(office: Site) -> No
     page = Page(rita.get("/children/4/why/1/family").text)
     assert page.by_id["for"].startswith("For the family of the child: small numbers are withheld")
     assert "Some children wanted a place there" in page.by_id["school-A"]
+    assert f"This child: {WORDS}, 400 metres." in page.by_id["school-A"]
+    assert "class " not in page.by_id["school-A"]
     assert "2 ranked" not in page.text and "4 children wanted" not in page.text
     for name in ("Abel", "Bell", "Cole", "hild 1", "hild 2", "hild 3"):
         assert name not in page.text, name
@@ -156,7 +160,7 @@ def test_data_of_now_may_give_no_reason(tmp_path: pathlib.Path) -> None:
         office.add("jane", "officer")
         jane, path = office.browser("jane"), office.parts.config.copies / COPY
         page = Page(jane.get("/children/3/why/1/family").text)
-        assert f"This child: {CLASS}, 300 metres." in page.text and "/pdf" in page.text
+        assert f"This child: {WORDS}, 300 metres." in page.text and "/pdf" in page.text
         assert "The data of this child were changed after the draw" in page.text
         os.remove(path)
         page = Page(jane.get("/children/3/why/1/family").text)
@@ -180,8 +184,8 @@ def test_a_fill_is_explained(tmp_path: pathlib.Path) -> None:
         assert words.startswith("Fill of A (draw 2), 14 April 2025: why not Alpha Round 1,")
         page = Page(jane.get("/children/4/why/2/family").text)
         assert "Some children waited for the vacancy, this child among them." in page.text
-        assert f"The child that was offered the place: {CLASS}." in page.text
-        assert f"This child: {CLASS}, 400 metres." in page.text and "300 metres" not in page.text
+        assert f"The child that was offered the place: {WORDS}." in page.text
+        assert f"This child: {WORDS}, 400 metres." in page.text and "300 metres" not in page.text
         assert "what-if/2" not in page.text and "Cole" not in page.text
         assert "The child was offered Alpha (A), its first preference." in (
             jane.get("/children/3/why/2/family").text)

@@ -299,16 +299,16 @@ def test_the_sentences_of_a_family(tmp_path: Path) -> None:
         "The last child admitted: class 2 (meeting no criterion of the school), 400 metres, lot 4.",
         "This child: class 2 (meeting no criterion of the school), 400 metres, lot 9.",
         (
-            "Both are in the same class and live at the same distance, and the lot decided: the"
-            " smaller one ranks first."
+            "Both rank equally by the criteria and live at the same distance, and the lot decided:"
+            " the smaller one ranks first."
         ),
     ]
     text = "\n".join(why.lines_of(found[5], is_office=True))
     assert text.endswith(
         "The last child admitted: class 2 (meeting no criterion of the school), 400 metres.\n"
         "This child: class 2 (meeting no criterion of the school), 800 metres.\n"
-        "Both are in the same class, and the distance decided: the other child lives nearer to the"
-        " school."
+        "Both rank equally by the criteria, and the distance decided: the other child lives nearer"
+        " to the school."
     )
     lines = list(why.lines_of(found[3]))
     assert lines[0] == "For the family of the child: small numbers are withheld" and lines[
@@ -320,10 +320,13 @@ def test_the_sentences_of_a_family(tmp_path: Path) -> None:
             "Some children wanted a place there in this round, this child among them. Some were"
             " admitted."
         ),
-        "This child: class 2 (meeting no criterion of the school), 400 metres, lot 9.",
+        "The last child admitted: meeting no criterion of the school, 400 metres, lot 4.",
+        "This child: meeting no criterion of the school, 400 metres, lot 9.",
     ):
         assert it in lines, (it, lines)
     assert not any(it.startswith("- ") for it in lines), lines
+    # (a family does not know the numbers of the classes)
+    assert not any("class" in it for number in found for it in why.lines_of(found[number]))
     assert "by its EHC plan" in "\n".join(why.lines_of(found[1]))
     assert list(why.lines_of(found[2]))[-1] == "No school was preferred to it."
 
@@ -356,7 +359,7 @@ def test_what_a_family_does_not_read(office: Office, tmp_path: Path) -> None:
     ), family
     for it in (
         (
-            "The last child admitted: class 1 (with a verified priority: social or medical need);"
+            "The last child admitted: with a verified priority: social or medical need;"
             " its distance is withheld.\n"
         ),
         "8 were admitted.",
@@ -502,8 +505,8 @@ def test_a_plan_that_was_named_since(office: Office, tmp_path: Path) -> None:
     assert ran.stdout.endswith(
         "The last child admitted: class 1 (ranked by distance alone), 50 metres.\n"
         "This child: class 1 (ranked by distance alone), 150 metres.\n"
-        "Both are in the same class, and the distance decided: the other child lives nearer to the"
-        " school.\n"
+        "Both rank equally by the criteria, and the distance decided: the other child lives nearer"
+        " to the school.\n"
     ), ran
     assert office("why", "reg.db", "--child", 2).stdout.splitlines()[4:] == [
         "The child got no place.",
@@ -613,8 +616,8 @@ def test_schools_that_were_left(office: Office, tmp_path: Path) -> None:
     assert (
         other[6:9] == left
         and other[9] == "OAK School (OAK), second preference: no place."
-        and "Both are in the same class, and the distance decided: the other child lives nearer to"
-        " the school." in other
+        and "Both rank equally by the criteria, and the distance decided: the other child lives"
+        " nearer to the school." in other
     )
     assert other[-1].startswith("Where this says 'some', the number is withheld")
 
@@ -674,18 +677,18 @@ def test_a_fill_is_explained(office: Office, tmp_path: Path) -> None:
         "The child that was offered the place: class 3 (meeting no criterion of the school), 200"
         " metres, lot 7.",
         "This child: class 3 (meeting no criterion of the school), 200 metres, lot 9.",
-        "A vacancy is offered to the one that ranks first of those who wait: by the class, then by"
-        " the distance, and between equal distances by the lot.",
+        "A vacancy is offered to the one that ranks first of those who wait: by the criteria, then"
+        " by the distance, and between equal distances by the lot.",
     ], ran
     again = office("why", "reg.db", "--copy", "before.db", "--child", 3, "--office")
     assert again.stdout == ran.stdout and again.stderr == ""
     assert office("why", "reg.db", "--draw", 2, "--child", 3).stdout.splitlines()[6:] == [
         "OAK School (OAK), first preference: no place.",
         "Some children waited for the vacancy, this child among them.",
-        "The child that was offered the place: class 3 (meeting no criterion of the school).",
-        "This child: class 3 (meeting no criterion of the school), 200 metres.",
-        "A vacancy is offered to the one that ranks first of those who wait: by the class, then by"
-        " the distance, and between equal distances by the lot.",
+        "The child that was offered the place: meeting no criterion of the school.",
+        "This child: meeting no criterion of the school, 200 metres.",
+        "A vacancy is offered to the one that ranks first of those who wait: by the criteria, then"
+        " by the distance, and between equal distances by the lot.",
         "",
         why.MEANING,
     ]
@@ -705,7 +708,7 @@ def test_a_fill_is_explained(office: Office, tmp_path: Path) -> None:
         ],
     )
     ran = office("why", "reg.db", "--draw", 3, "--child", 3)
-    assert "offered the place:" not in ran.stdout and "This child: class 3" in ran.stdout, ran
+    assert "offered the place:" not in ran.stdout and "This child: meeting no" in ran.stdout, ran
     ran = office("why", "reg.db", "--child", 6)
     assert ran.stdout.splitlines()[4:] == [
         "The application of 20 November 2024 came after the closing date, 31 October 2024, and"
