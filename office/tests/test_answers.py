@@ -193,7 +193,7 @@ def test_what_a_colleague_did_meanwhile_is_named(office: Site) -> None:
     page = shown(jane)
     assert "2 answers were not recorded" in page.said() or "1 answer was not" in page.said()
     row = next(it for it in pile(page) if it[0] == "13")
-    assert "Child 13: bo recorded accept at " in row[5] and "Nothing was sent." in row[5]
+    assert "Child 13: bo recorded accept at " in row[5] and "Nothing was recorded now." in row[5]
     assert recorded(page) == [["11", "Ada Abel", "decline", "A"]]
 
 

@@ -196,7 +196,7 @@ MEANWHILE: dict[str, tuple[dict[str, Any], dict[str, Any], str]] = {
     "data": ({**child(1, "Ada Abel", 150), "cmd": "amend"}, {**child(1, "Ada Bell", 100),
              "cmd": "amend"}, "Child 1: jane recorded a correction at "),
     "a number": ({"cmd": "raise_pan", "school": "A", "pan": 7}, {"cmd": "raise_pan", "school": "A",
-                 "pan": 5}, "It has changed meanwhile. Nothing was sent."),
+                 "pan": 5}, "It has changed meanwhile. Nothing was recorded now."),
     "a new child": (child(9, "Eve", 900), child(9, "Ida", 900), "Child 9: jane recorded the child"),
 }
 
@@ -233,7 +233,7 @@ def test_without_a_history_nothing_is_sent(office: Site) -> None:
     office.parts.history.fd, kept = -1, office.parts.history.fd
     found = browser.command(ACCEPT)
     assert found.status_code == 503
-    assert "Nothing was sent: the history cannot" in found.json["reason"]
+    assert "Nothing was recorded: the history cannot" in found.json["reason"]
     office.parts.history.fd = kept
     assert office.parts.desk.now().places[1].kind == "offered"
 

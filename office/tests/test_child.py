@@ -122,6 +122,8 @@ def test_a_withdrawal_needs_a_reminder(office: Site) -> None:
     assert "The day is 15 days after today." in page.text and "may answer" not in page.text
     found = press(jane, path, page, "Withdraw the offer of Beta from Cyd <b>Cole</b>")
     assert found.status_code == 303 and 3 not in office.parts.desk.now().places
+    # (as the button and the letters call it)
+    assert Page(jane.get("/children/3").text).tables["list"][2][2] == "offer withdrawn"
 
 
 def test_the_last_day_of_an_answer_is_said_before_a_reminder_and_a_withdrawal(
@@ -185,7 +187,7 @@ def test_a_day_that_was_typed_is_shown_before_it_is_sent(
     found = press(jane, path, page, button, day="2/4/2025")
     page = Page(found.text)
     assert found.status_code == 409 and sent(office) == before
-    assert page.said().startswith("Nothing was sent: Wednesday, 2 April 2025, was typed")
+    assert page.said().startswith("Nothing was recorded: Wednesday, 2 April 2025, was typed")
     assert page.by_id["on"] == "Day: Wednesday, 2 April 2025"
     assert page.fields["day"]["value"] == "2/4/2025"
     page = Page(press(jane, path, page, "Show this day", day="3 April 2025").text)
@@ -207,7 +209,7 @@ def test_what_a_colleague_did_is_named(office: Site) -> None:
     again = Page(found.text)
     assert found.status_code == 409
     assert again.said().startswith("Child 1: bo recorded accept at ")
-    assert again.said().endswith("Nothing was sent.")
+    assert again.said().endswith("Nothing was recorded now.")
     assert "The family had accepted this place." in again.text
     assert office.parts.desk.now().places[1].kind == "accepted"
     assert [it["cmd"] for it in sent(office)] == ["accept"]
@@ -321,7 +323,7 @@ def test_a_correction_that_is_wrong_stays_in_the_form(office: Site) -> None:
     assert "numbers of flags from 0 to 15" in page.by_id["flags-error"]
     assert page.fields["east"]["value"] == "x"
     found = press(jane, path, Page(jane.get(path).text), "Compare with the register")
-    assert found.status_code == 409 and "there is nothing to send" in Page(found.text).said()
+    assert found.status_code == 409 and "there is nothing to record" in Page(found.text).said()
 
 
 def test_only_who_may_record_finds_a_question(office: Site) -> None:

@@ -115,7 +115,7 @@ def test_what_somebody_else_did_just_before_is_seen_for_each_command(
         assert desk.send(BO, other).is_done, name
         reads.paths.clear()
         found = desk.send(JANE, command, seen)
-        assert found.outcome == "differs" and "Nothing was sent." in found.said, name
+        assert found.outcome == "differs" and "Nothing was recorded now." in found.said, name
         assert reads.paths == ["/register"], name
         before = desk.now()
         assert desk.send(JANE, command, seen).outcome == "differs", name

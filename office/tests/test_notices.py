@@ -230,7 +230,7 @@ def test_a_row_stops_where_the_register_is_closed(office: Site) -> None:
     path = confirmed(jane, "remind", page).location
     with office.app.app_context():
         row = screen.rows().get(1)
-    assert row.said == "Closed for a draw. Nothing was sent." and not office.copied
+    assert row.said == "Closed for a draw. Nothing was recorded." and not office.copied
     assert [(it.state, it.said) for it in row.notices] == [("waits", ""), ("waits", "")]
     with office.parts.store.writing() as db:
         # (as where the application ends right before it sends one)
@@ -337,7 +337,7 @@ def test_an_offer_is_not_withdrawn_while_its_answer_waits_in_a_pile(
 
     monkeypatch.setattr(office.parts.copies, "make", meanwhile)
     row = confirmed(jane, "lapse", question)
-    assert "bo has an answer for this child in a pile (accept). Nothing was sent." in jane.get(
+    assert "bo has an answer for this child in a pile (accept). Nothing was recorded." in jane.get(
         row.location).text
     assert {2, 3, 4} <= set(office.parts.desk.now().places)
 
@@ -394,7 +394,7 @@ def test_a_row_that_cannot_be_recorded_now_makes_no_copy(tmp_path: pathlib.Path)
         office.parts.desk.closed = lambda: "Closed for draw 1 by hal since 10:00."
         found.send_all(JANE, number)
         row = found.get(number)
-        assert row.said == "Closed for draw 1 by hal since 10:00. Nothing was sent."
+        assert row.said == "Closed for draw 1 by hal since 10:00. Nothing was recorded."
         assert not office.copied and row.copy is None and row.count("waits") == 2
         office.parts.desk.closed = str
         found.send_all(JANE, number)

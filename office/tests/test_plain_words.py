@@ -209,6 +209,17 @@ def test_no_template_names_anything_of_the_machine() -> None:
         assert is_plain(shown), path.name
 
 
+def test_what_is_not_recorded_is_not_said_to_be_not_sent() -> None:
+    """Letters are sent, and commands are recorded: a sentence without its object would be taken for
+    the other one on the screens that have both.
+    """
+    said = re.compile(r"Nothing (?:was|is) sent|nothing (?:was|is) sent(?: for it)?[.{<\"]")
+    found = [it.name for it in (ROOT / "office" / "web").rglob("*.*")
+             if it.suffix in (".py", ".html") and said.search(it.read_text("utf-8"))]
+    # (what came since a copy is sent again, and no letter is on that screen)
+    assert found == ["restore.html"]
+
+
 def test_no_text_of_people_is_taken_for_markup() -> None:
     """No template has a text as it is, but that of the handbook, which the product itself has."""
     found = [path.name for path in (ROOT / "office" / "web").rglob("*")

@@ -349,7 +349,7 @@ def test_storing_goes_on_where_it_stopped(empty: Site, monkeypatch: pytest.Monke
     page = Page(jane.get("/schools/new/").text)
     rows = page.tables["Each line as it will be stored"][1:]
     assert [it[0] for it in rows] == ["B", "C"]
-    assert "the register has it already: nothing is sent for it" in rows[0][6]
+    assert "the register has it already: nothing is stored for it" in rows[0][6]
     found = stores(jane, "", page, "Store 2 schools")
     assert found.status_code == 200 and draft.rows() == []
     assert [it["school"] for it in sent(empty)] == ["A", "B", "C"]
@@ -548,7 +548,7 @@ def test_a_raise_shows_both_numbers(held: Site) -> None:
     # (the page from before is sent again)
     found = press(jane, "/schools/A/raise", page, "Raise Alpha from 2 to 3", pan="5")
     assert found.status_code == 409
-    assert Page(found.text).said() == "It has changed meanwhile. Nothing was sent."
+    assert Page(found.text).said() == "It has changed meanwhile. Nothing was recorded now."
     assert "Raise Alpha from 3 to 5" in Page(found.text).buttons()
     assert [it["pan"] for it in sent(held)] == [3]
     rita = held.browser("rita", "reader")

@@ -584,7 +584,7 @@ def test_two_officers_store_at_once(office: Site, screens: Screens) -> None:
         it.join()
     assert sorted(it.status_code for it in came) == [303, 409]
     told = next(it for it in came if it.status_code == 409)
-    assert "has changed since it was shown, and nothing was sent" in told.text
+    assert "has changed since it was shown, and nothing was stored" in told.text
     assert len(imports(office)) == 1 and has(office.parts.desk.now()) == expected(GOOD)
 
 

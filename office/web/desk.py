@@ -269,7 +269,7 @@ class Desk:
         from is in the history beside it.
         """
         if command["cmd"] in DRAWS and not draw:
-            return Result(UNSENT, "Nothing was sent: a round or a fill is held on the screen of"
+            return Result(UNSENT, "Nothing was recorded: a round or a fill is held on the screen of"
                                   " draws, where a second person confirms it.")
         with self.lock:
             if reason := self.reason(draw):
@@ -325,7 +325,7 @@ class Desk:
         try:
             self.settle()
         except Refused as error:
-            return f"Nothing was sent. {error}"
+            return f"Nothing was recorded. {error}"
         return ""
 
     def difference(self, command: Command, seen: Seen) -> str:
@@ -333,8 +333,8 @@ class Desk:
         try:
             said = self.changed(self.compared(command), command, seen)
         except Refused as error:
-            return f"Nothing was sent. {error}"
-        return f"{said} Nothing was sent." if said else ""
+            return f"Nothing was recorded. {error}"
+        return f"{said} Nothing was recorded now." if said else ""
 
     def changed(self, register: Register, command: Command, seen: Seen) -> str:
         """What a register has otherwise than it was seen, with who recorded it last, or ""."""
@@ -355,7 +355,7 @@ class Desk:
         try:
             entry = self.history.add(who.name, SENDS, about)
         except Refused as error:
-            return Result(UNSENT, f"Nothing was sent: {error}")
+            return Result(UNSENT, f"Nothing was recorded: {error}")
         try:
             answer = send()
         except senders.Ended as error:
@@ -390,7 +390,7 @@ class Desk:
                                  {"of": entry.number, "done": False, "why": str(error)})
             except Refused:
                 pass
-            return Result(UNSENT, f"Nothing was sent: {error}.")
+            return Result(UNSENT, f"Nothing was recorded: {error}.")
         return self.looked(entry, str(error))
 
     def looked(self, entry: Entry, why: str) -> Result:

@@ -215,8 +215,8 @@ class Draws(DrawStore):
                 count = self.held(draw, found)
                 if draw.state == CONFIRMED:
                     if count:
-                        raise Refused("the register has the draw already, and it was not sent from"
-                                      " here: tell whoever maintains the system")
+                        raise Refused("the register has the draw already, and it was not held"
+                                      " from here: tell whoever maintains the system")
                     self.record(who, "held", draw)
                     with self.moving(draw, who, SENDING):
                         pass

@@ -149,7 +149,7 @@ IN_WORDS = {
     REHEARSED: "closed, and rehearsed: not confirmed yet",
     CONFIRMED: "closed, and confirmed: not held yet", SENDING: "closed, and being held",
     AUDITED: "held, and the audit agrees", OPENED: "held, and open for all",
-    GIVEN_UP: "given up: nothing was sent", RESTORED: "undone: the copy was restored",
+    GIVEN_UP: "given up: nothing was recorded", RESTORED: "undone: the copy was restored",
 }
 RUNS = {
     BEGUN: "the register is closed for all others", CLOSED: "the register is copied",
@@ -185,8 +185,8 @@ STEPS = (
          "The supervisor draws the lots, and seals them on the screen of lots. After that nobody"
          " changes them. The rehearsal follows by itself."),
     Step(REHEARSED, "Rehearsal on a scratch copy",
-         "The draw is held on a scratch copy, and audited by a second program. Nothing is sent. The"
-         " outcome is shown here.", "Rehearse"),
+         "The draw is held on a scratch copy, and audited by a second program. Nothing is"
+         " recorded. The outcome is shown here.", "Rehearse"),
     Step(CONFIRMED, "Confirmed by a second person",
          "Somebody other than the person who began the draw has read the outcome, and says that it"
          " may be held.", "Confirm"),

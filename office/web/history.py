@@ -154,7 +154,7 @@ class History:
         """
         with self.lock:
             if self.is_broken:
-                raise Refused("the history could not be written, and nothing is sent until the"
+                raise Refused("the history could not be written, and nothing is recorded until the"
                               " application is started again")
             # (as it is read again: a key that is a number would be another one then)
             kept = json.loads(json.dumps(about))
@@ -165,7 +165,7 @@ class History:
             except OSError as error:
                 self.take_back()
                 raise Refused(f"the history cannot be written ({error.strerror}), and nothing is"
-                              " sent without it") from error
+                              " recorded without it") from error
             self.take(entry)
             self.before, self.length = digest(line), self.length + len(line)
             self.added()

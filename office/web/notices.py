@@ -202,7 +202,7 @@ class Notices:
             with self.desk.lock:
                 if said := self.desk.closed():
                     # (a copy from before a draw or a restore would undo that too)
-                    raise Refused(f"{said} Nothing was sent.")
+                    raise Refused(f"{said} Nothing was recorded.")
                 if row.copy is None:
                     what = "reminders" if row.kind == REMIND else "withdrawals"
                     copy = self.copies.make(f"before {what} of {row.day}", who.name)
@@ -230,7 +230,7 @@ class Notices:
         """Sends one, unless its answer has come into a pile. Whether the next can be sent."""
         after = len(self.history.entries)
         if said := self.kept(row.kind).get(it.child):
-            self.set_state(row.number, it.place, FAILED, f"{said}. Nothing was sent.", after)
+            self.set_state(row.number, it.place, FAILED, f"{said}. Nothing was recorded.", after)
             return True
         self.set_state(row.number, it.place, SENDING, "", after)
         result = self.desk.send(who, row.command(it), Seen(it.seen))

@@ -230,7 +230,7 @@ class Piles:
         for it in left:
             sent = next((one for one in entries[it.after:] if one.what == SENDS
                          and one.who == person and one.about.get("command") == it.command), None)
-            came, is_done = came_of(sent, ends) if sent else ("it was not sent", False)
+            came, is_done = came_of(sent, ends) if sent else ("it was not recorded", False)
             state, said = (DONE, "Done, and stored.") if is_done else (
                 WAITS, f"There was no answer: {came}.")
             self.set_state(it.number, state, said)

@@ -196,8 +196,8 @@ def last_of(history: History, who: str, number: int) -> str:
 
 
 def ended_by(history: History, number: int, code: str) -> str:
-    """How a child gave up a school: declined, lapsed or left, as the history has it, or ""."""
-    kinds = {"decline": "declined", "lapse": "lapsed", "leave_list": "left"}
+    """How a child lost a school: declined, its offer withdrawn, or left, as the history has it."""
+    kinds = {"decline": "declined", "lapse": "offer withdrawn", "leave_list": "left"}
     for it in history.done():
         command = it.about.get("command", {})
         if (command.get("child"), command.get("school")) == (number, code):

@@ -133,7 +133,7 @@ def facts_of_child(register: Register, number: int, left: Mapping[int, str]) -> 
     place = wording.place(register, register.places.get(number))
     return {**{wording.label(name): it for name, it in cells.items()},
             "Place": place.removeprefix("The child has ").removeprefix("The child ").rstrip("."),
-            "Declined, lapsed or left": left.get(number, "")}
+            "Declined, withdrawn or left": left.get(number, "")}
 
 
 def compared(whose: str, now: dict[str, str], then: dict[str, str]) -> Iterator[Difference]:

@@ -19,8 +19,8 @@ from .store import Store
 
 MOST = LIMITS["schools"].most
 THERE = Result(DONE, "The register has it already, with the same data.")
-CHANGED = Result(DIFFERS, "The line was changed or removed since it was shown. Nothing was sent for"
-                          " it.")
+CHANGED = Result(DIFFERS, "The line was changed or removed since it was shown. Nothing was stored"
+                          " for it.")
 
 
 @dataclasses.dataclass(frozen=True)
@@ -136,5 +136,5 @@ def store_one(desk: Desk, who: Person, line: Line) -> Result:
         there = desk.now().schools[line.command["school"]]
     if other := schools.differences(there, line.command):
         return Result(DIFFERS, f"The register has this school with other data: {other}. Nothing"
-                      " was sent for it.")
+                      " was stored for it.")
     return THERE

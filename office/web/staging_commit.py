@@ -29,7 +29,7 @@ from .staging_rows import COMMITTED, OPEN, SENDING, WITHDRAWN, Staged, packed_no
 
 # what the copy is for that is made before rows are sent, and without which nothing is sent
 PURPOSE = "before applications are stored"
-CHANGED = "The table or the register has changed since it was shown, and nothing was sent."
+CHANGED = "The table or the register has changed since it was shown, and nothing was stored."
 
 
 @dataclasses.dataclass(frozen=True)
@@ -163,7 +163,7 @@ class Committing:
             if found.digest != digest:
                 return Outcome(False, CHANGED)
             if found.why_not:
-                return Outcome(False, f"Nothing was sent: {found.why_not}.")
+                return Outcome(False, f"Nothing was stored: {found.why_not}.")
             if not found.rows:
                 self.mark(found.equal, COMMITTED)
                 return Outcome(True, "", None, len(found.equal))

@@ -16,7 +16,7 @@ WRONG_DECLINE = ("A decline of the wrong child is put right only by a restore of
 REFUSAL = re.compile(rf"(?<=\()({'|'.join(rules.RULES['refusals'])})(?=\))")
 # what came of a school of a child's list
 STATES = {
-    model.LEFT: "declined, lapsed or left", model.BEFORE: "before the first round",
+    model.LEFT: "declined, offer withdrawn, or left", model.BEFORE: "before the first round",
     model.BELOW: "below the child's place",
 }
 KINDS = {model.OFFERED: "offered", model.ACCEPTED: "accepted", model.PLAN: "by a plan"}

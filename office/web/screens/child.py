@@ -174,8 +174,9 @@ def record(number: int, name: str) -> Answer:
         if day is None or form.get("what") == "show":
             return ask_page(number, name)
         if day.isoformat() != form.get("day_shown"):
-            return ask_page(number, name, f"Nothing was sent: {wording.weekday(day)}, was typed and"
-                            " not shown before. What becomes of it with this day is below.", 409)
+            return ask_page(number, name, f"Nothing was recorded: {wording.weekday(day)}, was typed"
+                            " and not shown before. What becomes of it with this day is below.",
+                            409)
         command["day"] = day.isoformat()
     result = parts().desk.send(person(), command, Seen(form.get("seen", "")))
     if not result.is_done:
@@ -249,7 +250,7 @@ def do_correct(number: int) -> Answer:
     if what == "look":
         return look_up(number, cells)
     if wrong or what == "edit":
-        said = "Nothing was sent: see the fields that are marked." if wrong else ""
+        said = "Nothing was recorded: see the fields that are marked." if wrong else ""
         return form_page(number, cells, wrong, said, 400 if wrong else 200)
     seen = Seen(flask.request.form.get("seen", ""))
     # (a form that was opened before another correction has the data from before it)
@@ -270,7 +271,7 @@ def compare_page(
     child = register.children[number]
     changes = corrections.changes(child, command)
     if not changes:
-        same = "The register has this data: there is nothing to send."
+        same = "The register has this data: there is nothing to record."
         return form_page(number, cells, {}, f"{said} {same}".strip(), 409)
     return flask.render_template(
         "correction.html", child=child, changes=changes, cells=cells, said=said, fields=FIELDS,

@@ -68,7 +68,7 @@ def record(number: int) -> Answer:
     register, form = child_in(number), flask.request.form
     found, what = preferences.read(register, form), form.get("what")
     if found.wrong or what == "edit":
-        said = "Nothing was sent: see the fields that are marked." if found.wrong else ""
+        said = "Nothing was recorded: see the fields that are marked." if found.wrong else ""
         return form_page(register, number, found, said)
     command, seen = preferences.command_of(number, found), Seen(form.get("seen", ""))
     said = parts().desk.changed(register, command, seen)
