@@ -5,6 +5,8 @@ import csv
 import datetime
 import html.parser
 import io
+import pathlib
+import re
 import urllib.parse
 import zipfile
 from collections.abc import Iterator
@@ -14,10 +16,11 @@ from unittest import mock
 import openpyxl
 import pytest
 from applications import ROUND, Browser, Site, child, office_over, town
+from conftest import apply, school
 
 from office import book, texts
 from office.register_lists import Rows
-from office.web import list_choice
+from office.web import flags, list_choice
 
 # A has two places and B one: the nearest two have A, the third B, and the fourth none
 ADA, BEN, CYD, DAI = "Ada Abel", "Ben Bell", "Cyd <b>Cole</b>", "Dai O'Dare"
@@ -196,6 +199,56 @@ def test_the_files_have_what_is_chosen(browser: Browser) -> None:
     assert found.headers["Content-Disposition"] == 'attachment; filename="children.csv"'
     assert list(csv.reader(io.StringIO(found.text.removeprefix("\ufeff")))) == [
         ["child", "name"], ["4", DAI], ["5", f"'{SUM}"]]
+
+
+def test_a_class_is_in_words_beside_its_number(tmp_path: pathlib.Path) -> None:
+    """On the screen and in the files, by the office's words for flags; rows and letters are found
+    by these words too. One place, for a child that is looked after; three wait.
+    """
+    alpha = school("A", pan=1, criteria=["flag:7", "sibling"])
+    extra: list[dict[str, Any]] = [
+        {"looked_after": True}, {"flags": [7]}, {"siblings": ["A"]}, {}]
+    children = [{**child(it, name, it * 100), **more}
+                for it, (name, more) in enumerate(zip((ADA, BEN, CYD, DAI), extra), 1)]
+    commands = [alpha, *children, *(apply(it, ["A"]) for it in range(1, 5)),
+                {"cmd": "round", "draw": 1, "day": "2025-03-03", "lots": [1, 2, 3, 4]}]
+    with office_over(tmp_path, commands) as office:
+        flags.change(office.parts.store, "{}", {7: "medical need"}, lambda _: None)
+        browser = office.browser("rita", "reader")
+        found = listed(browser, "list")
+        at = found.heads.index("Class")
+        assert found.heads[at + 1] == "Criterion"
+        words = [["1", "with a verified priority: medical need"],
+                 ["2", "with a brother or sister at the school"],
+                 ["3", "meeting no criterion of the school"]]
+        assert [it[at:at + 2] for it in found.rows] == words
+        text = browser.get("/lists/list/csv?words=medical").text.removeprefix("\ufeff")
+        rows = list(csv.reader(io.StringIO(text)))
+        assert [it[at:at + 2] for it in rows] == [["class", "criterion"], words[0]]
+        for found in (listed(browser, "child", child="1"), listed(browser, "last-offered")):
+            at = found.heads.index("Class")
+            assert found.rows[0][at:at + 2] == ["0", "looked after, or previously looked after"]
+        jane = office.browser("jane", "officer")
+        page = jane.get(jane.get("/letters/from-list/list?words=medical").location)
+        assert re.findall(r'name="child" value="([0-9]+)"', page.text) == ["2"]
+
+
+def test_children_on_other_screens_have_the_files_of_their_list(
+    office: Site, browser: Browser
+) -> None:
+    """Those who are found by a name, and those of whom a reminder is due on a day."""
+    jane = office.browser("june", "officer")
+    for who, path, wanted in ((browser, "/children/?find=bell", ["2"]),
+                              (jane, "/notices/remind?day=18+March+2025", ["1", "2", "3"])):
+        page = who.get(path).text
+        links = [it.replace("&amp;", "&")
+                 for it in re.findall(r'href="(/lists/[^"]*/(?:workbook|csv)\?[^"]*)"', page)]
+        assert [it.partition("?")[0].rpartition("/")[2] for it in links] == ["workbook", "csv"]
+        rows = list(csv.reader(io.StringIO(who.get(links[1]).text.removeprefix("\ufeff"))))
+        assert [it[0] for it in rows] == ["child", *wanted]
+        book_of = openpyxl.load_workbook(io.BytesIO(who.get(links[0]).data)).active
+        assert [str(it.value) for it in book_of["A"]] == ["child", *wanted]
+    assert "/csv" not in browser.get("/children/?find=zzzz").text
 
 
 def test_a_long_list_has_pages(browser: Browser, monkeypatch: pytest.MonkeyPatch) -> None:

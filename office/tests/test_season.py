@@ -200,7 +200,8 @@ def test_a_list_has_its_rows_and_options(office: Site, monkeypatch: pytest.Monke
 
     assert rows("unplaced") == [["Child", "Name", "Applied", "Preferences", "Waiting"],
                                 ["4", "Dai O'Dare", "31 October 2024", "A;B", "A;B"]]
-    assert rows("list?school=B")[1:] == [["B", "1", "4", "Dai O'Dare", "1", "400", "2"]]
+    assert rows("list?school=B")[1:] == [
+        ["B", "1", "4", "Dai O'Dare", "1", "ranked by distance alone", "400", "2"]]
     assert [it[:3] for it in rows("list")[1:]] == [["A", "1", "3"], ["A", "2", "4"],
                                                    ["B", "1", "4"]]
     assert rows("remind-due")[1:] == [] and rows("remind-due?day=17/3/2025")[1:] == []

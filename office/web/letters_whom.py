@@ -13,7 +13,7 @@ from werkzeug.datastructures import MultiDict
 from office import days, model, texts
 from office.model import Register
 
-from . import list_choice, worklists
+from . import flags, list_choice, worklists
 from .draws_store import DrawStore
 from .history import History
 from .letters_audits import announced
@@ -138,7 +138,7 @@ class Lists:
         if whom.kind == CHILDREN:
             found = numbers_in(whom.value)
         elif whom.kind == LIST:
-            found = of_list(register, whom)
+            found = of_list(register, whom, flags.words_of(self.store))
         elif whom.kind == ROW:
             found = list(self.row(whom.value).children)
         elif whom.kind == WITHDRAWN:
@@ -269,7 +269,7 @@ def of_draw(register: Register, whom: Whom) -> list[int]:
     return [it for it in register.outcomes[number] if whom.kind == PART or fresh[it]]
 
 
-def of_list(register: Register, whom: Whom) -> list[int]:
+def of_list(register: Register, whom: Whom, words: Mapping[int, str]) -> list[int]:
     """The children of a list, each once."""
     name, _, options = whom.value.partition("?")
     if name not in worklists.NAMES:
@@ -278,7 +278,7 @@ def of_list(register: Register, whom: Whom) -> list[int]:
     found, values = worklists.options(register, name, given, datetime.date.today())
     if not worklists.is_whole(name, found, values):
         raise Refused("choose what the list is of first")
-    listed = worklists.rows_of(register, name, values)
+    listed = worklists.rows_of(register, name, values, words)
     choice = dataclasses.replace(list_choice.of_address(given), columns=())
     if list_choice.wrong(choice, listed, register):
         raise Refused("the list does not have what was chosen of it: look at it again")

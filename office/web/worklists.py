@@ -5,7 +5,7 @@ import re
 from collections.abc import Mapping
 from typing import Any
 
-from office import days, worklists
+from office import criteria, days, worklists
 from office.model import Register
 from office.register_lists import Cell, Rows
 
@@ -34,6 +34,8 @@ TYPED = {"day": "as 17 March 2025 or 17/3/2025", "child": "", "text": "in any sp
          " and accents"}
 # the columns whose cells lead to a child or to a school
 CHILD, SCHOOLS = "child", ("school", "from", "to", "allotted")
+# the column of a class at the school of a row, and the one after it that has it in words
+CLASS, SCHOOL, CRITERION = "class", "school", "criterion"
 
 
 @dataclasses.dataclass(frozen=True)
@@ -121,9 +123,21 @@ def is_whole(name: str, found: list[Option], values: Mapping[str, Any]) -> bool:
     return not any(it.wrong for it in found) and not worklists.unfit(name, values)
 
 
-def rows_of(register: Register, name: str, values: Mapping[str, Any]) -> Rows:
-    """The rows of a list, of which the first is the header."""
-    return worklists.rows_of(register, name, values)
+def rows_of(
+    register: Register, name: str, values: Mapping[str, Any], flags: Mapping[int, str],
+) -> Rows:
+    """The rows of a list, of which the first is the header: with each class in words too."""
+    header, *rows = worklists.rows_of(register, name, values)
+    if CLASS not in header:
+        return [header, *rows]
+    at, school = header.index(CLASS), header.index(SCHOOL)
+    found: Rows = [[*header[:at + 1], CRITERION, *header[at + 1:]]]
+    for row in rows:
+        number = row[at]
+        words = criteria.in_words(register.schools[str(row[school])], number, flags) if (
+            isinstance(number, int)) else None
+        found.append([*row[:at + 1], words, *row[at + 1:]])
+    return found
 
 
 @dataclasses.dataclass(frozen=True)

@@ -16,7 +16,7 @@ from office.book import Page
 from office.model import Register
 from office.register_lists import Cell, Rows
 
-from .. import guard, list_choice, worklists
+from .. import flags, guard, list_choice, worklists
 from ..guard import needs, parts, person
 from ..list_choice import Choice
 from ..list_views import Views
@@ -95,7 +95,7 @@ def asked(name: str, given: MultiDict[str, str]) -> Asked:
     choice, wrong, rows = list_choice.of_address(given), dict[str, str](), Rows()
     if worklists.is_whole(name, options, values):
         try:
-            rows = worklists.rows_of(register, name, values)
+            rows = worklists.rows_of(register, name, values, flags.present())
             wrong = list_choice.wrong(choice, rows, register)
         except Refused as error:
             wrong["list"] = sentence(str(error))

@@ -87,8 +87,9 @@ def choose_page(kind: str, said: str = "", status: int = 200) -> Answer:
         status = 400
     kept = rows().kept(kind)
     return flask.render_template(
-        "notices_choose.html", kind=kind, title=TITLES[kind], typed=typed, wrong=wrong, said=said,
-        is_bad=status != 200, day=wording.weekday(day) if day else "",
+        "notices_choose.html", kind=kind, list=notices.LISTS[kind], title=TITLES[kind],
+        typed=typed, wrong=wrong, said=said, is_bad=status != 200,
+        day=wording.weekday(day) if day else "",
         rows=[(it, is_ticked(tick, it, marks) if picked is None else str(it.child) in picked,
                kept.get(it.child, ""), marks.of(it.child) if marks else ())
               for it in found]), status
