@@ -4,7 +4,9 @@ from pathlib import Path
 from typing import Any, NamedTuple
 
 TABLE = Path("tools/claims.txt")
-README, LIMIT = "README.md", "limit"
+README, LIMIT, RULE = "README.md", "limit", "rule"
+# the heading of README below which it says what is left out
+LEFT_OUT = "What it does not do"
 # (a sentence ends where the next one begins)
 ENDS = re.compile(r"(?:(?<=\.)|(?<=\.\)))\s+(?=[(A-Z`])")
 CLAUSE = re.compile(r"(\w+)::([\w:]*\w)(?:: (\w+))?")
@@ -99,6 +101,23 @@ class Claims:
             out.append(Sentence(text, [Carrier(it, self.definitions(it, by)) for name, by in names
                                        for it in self.clauses(name, of_row)]))
         return out
+
+    def left_out(self, points: list[str]) -> list[dict[str, Any]]:
+        """What README leaves out, by the points of its list, and whether the Code has rules on
+        it."""
+        self.used.add((README, LEFT_OUT))
+        out: dict[tuple[str, str], list[str]] = {}
+        for words, lines in self.entries.get((README, LEFT_OUT), {}).items():
+            found = [it for it in points if words in it]
+            kinds = [name for name, _ in lines]
+            if len(found) != 1 or kinds not in ([LIMIT], [RULE]):
+                raise Unclear(f"{TABLE}: {README}: {LEFT_OUT}: {len(found)} points have these words,"
+                              f" or they are neither a limit nor a rule: {words}")
+            out.setdefault((kinds[0], found[0]), []).append(words)
+        unnamed = [it for it in points if it not in [said for _, said in out]]
+        if unnamed:
+            raise Unclear(f"{TABLE}: {README}: {LEFT_OUT}: nothing is named of: {unnamed[0]}")
+        return [{"is": kind, "said": said, "what": what} for (kind, said), what in out.items()]
 
     def definitions(self, clause: Any, by: list[str]) -> list[Any]:
         """The definitions of these names that a clause reaches."""

@@ -5,13 +5,16 @@ from collections.abc import Callable
 from pathlib import Path
 from typing import Any
 
-from claims import LIMIT, TABLE, Claims, Sentence, Unclear, named, sentences
+from claims import LEFT_OUT, LIMIT, TABLE, Claims, Sentence, Unclear, named, sentences
 from page_text import Refused, plain, section, table
 from premises import Premise, Premises
 
 README, CODE = Path("README.md"), "The rules of the Code"
 CLAIM = re.compile(r"\*\*(.+?)\.\*\* (.*)")
 LEFT = "Of the rule on the .."
+# where the source gives a paragraph of the Code, or a section
+PARAGRAPHS = re.compile(r"\(paragraphs? ([\d.]+(?:(?:, | and )[\d.]+)*)\)")
+SECTIONS = re.compile(r"School Admissions Code 2021, (sections? \d(?: and \d)*)")
 # what a row of a table of tests names, and the command that runs it
 PYTEST = "/usr/bin/python3 -m pytest -q -p no:cacheprovider"
 COMMANDS: list[tuple[str, Callable[[str], str]]] = [
@@ -44,10 +47,17 @@ class Promised:
         try:
             self.rows = [(row, self.of_row(row)) for row in project.rows]
             self.of_readme = list(self.of_claims())
+            self.left_out = self.list.left_out(self.points())
         except Unclear as error:
             raise Refused(str(error)) from error
         if unused := self.list.unused():
             raise Refused("\n".join(f"{TABLE}: no promise begins so: {it}" for it in unused))
+
+    @staticmethod
+    def points() -> list[str]:
+        """The points of README's list of what it leaves out."""
+        found = re.findall(r"(?ms)^- (.*?)(?=^- |^\n|\Z)", section(README, LEFT_OUT))
+        return [plain(" ".join(it.split())) for it in found]
 
     def said(self, row: Any) -> list[str]:
         """What a row promises: of a rule of the Code, what holds here."""
@@ -130,14 +140,27 @@ class Promised:
             names = re.findall(r"`([^`]+)`", tested)
             if not names or not neither:
                 raise Refused(f"{row.where}: no test is named for this rule, or nothing remains")
+            given = PARAGRAPHS.findall(" ".join((*row.cells, tested, neither)))
             out.append({
                 "rule": plain(row.cells[0]), "promise": row.number,
+                "paragraphs": given[0] if given else "", "sections": self.sections(row),
                 "proved": [self.sentence(it) for it in found if it.clauses],
                 "limits": [it.text for it in found if not it.clauses],
                 "only_tested": plain(tested), "neither": plain(neither),
                 "commands": [self.command(name) for name in names],
             })
         return out
+
+    @staticmethod
+    def sections(row: Any) -> list[dict[str, str]]:
+        """Which sections of the Code the files name whose definitions a rule names."""
+        used = [it for part in row.parts for _, it in part
+                if getattr(it, "sources", None) is not None]
+        files = dict.fromkeys(f"crates/{it.crate}/{it.file}" for it in used)
+        heads = {file: " ".join(re.findall(r"(?m)\A(?:--.*\n)+", Path(file).read_text("utf-8")))
+                 for file in files}
+        return [{"file": file, "sections": found[1]} for file, head in heads.items()
+                if (found := SECTIONS.search(head))]
 
     def only_tested(self) -> list[dict[str, Any]]:
         """What no clause says, with the tests that are named for it and their commands."""
@@ -151,7 +174,7 @@ class Promised:
         return out
 
     def is_function(self, name: str) -> bool:
-        """Whether a name is that of a function, of which a test is told."""
+        """Whether a name is that of a function, and so of no test."""
         return any(it.name == name for it in self.project.functions)
 
     def command(self, name: str) -> str:
