@@ -111,8 +111,8 @@ class Claims:
             found = [it for it in points if words in it]
             kinds = [name for name, _ in lines]
             if len(found) != 1 or kinds not in ([LIMIT], [RULE]):
-                raise Unclear(f"{TABLE}: {README}: {LEFT_OUT}: {len(found)} points have these words,"
-                              f" or they are neither a limit nor a rule: {words}")
+                raise Unclear(f"{TABLE}: {README}: {LEFT_OUT}: {len(found)} points have these"
+                              f" words, or they are neither a limit nor a rule: {words}")
             out.setdefault((kinds[0], found[0]), []).append(words)
         unnamed = [it for it in points if it not in [said for _, said in out]]
         if unnamed:

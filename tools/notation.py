@@ -1,5 +1,6 @@
-"""The notation of clauses in words, for tools/evidence: the example that is read aloud and the table
-of docs/ARCHITECTURE.md, and what else the clauses that are shown have (tools/notation_words.json)."""
+"""The notation of clauses in words, for tools/evidence: the example that is read aloud and the
+table of docs/ARCHITECTURE.md, and what else the clauses that are shown have
+(tools/notation_words.json)."""
 import json
 import re
 from collections.abc import Iterable

@@ -1,5 +1,5 @@
-"""What logs say, for tools/evidence: of crates and mutants, with what a verdict rests on and by what
-a mutant was refused; of tests; and how long it took.
+"""What logs say, for tools/evidence: of crates and mutants, with what a verdict rests on and by
+what a mutant was refused; of tests; and how long it took.
 
 A log is one of `make test` or `make mutants`, or an auditor's own of `rt verdict` in crates: a line
 `source SUM` (tools/proved_source.py) says of which source it is, and above what was printed of a
@@ -70,7 +70,8 @@ class Logs:
         for path in paths:
             lines = Path(path).read_text(encoding="utf-8", errors="replace").splitlines()
             sources = [line for line in lines if line.startswith("source ")]
-            if sources != [wanted]:
+            # (the gate prints it before its mutants, and again before the twins)
+            if {*sources} != {wanted}:
                 raise Refused(f"{path} is no log of this source: it has no line '{wanted}', or"
                               " one of another source")
             self.read(Path(path).name, lines)
@@ -81,11 +82,13 @@ class Logs:
         """Takes what a log has of crates, mutants, tests and times."""
         last = next(it for it in reversed(lines) if not TIMES.fullmatch(it))
         self.verdicts.append({"log": name, "last_line": last})
+        tried: dict[str, str] = {}
         for line, after in zip(lines, (*lines[1:], "")):
             if found := re.fullmatch(r"rt: (\w+) (proved|is kept: .*)", line):
                 self.proved[found[1]] = f"{found[2]} ({name})"
             elif found := OUTCOME.fullmatch(line):
-                self.mutants[found[1]] = found[2]
+                # (the first: a twin may have an outcome of the same name)
+                tried.setdefault(found[1], found[2])
             elif found := RAN.fullmatch(line):
                 self.runs.setdefault(found[1], []).append(f"{found[2] or found[3]} ({name})")
             elif found := NOT_PASSED.fullmatch(line):
@@ -94,6 +97,7 @@ class Logs:
                 cpu = int(after) if line.endswith("of CPU time:") and after.isdigit() else None
                 self.times.append({"log": name, "what": found[1], "seconds": int(found[2]),
                                    "cpu_seconds": cpu})
+        self.mutants.update(tried)
 
     def read_crates(self, name: str, lines: list[str]) -> None:
         """Takes the verdicts of `rt verdict` from an auditor's own log: below `crate NAME`, the

@@ -1,5 +1,5 @@
-"""The planted bugs (mutants) of a project, for tools/evidence: the lines that each changes, and what
-it attacks: a function with its clauses, another item of the code, or a definition."""
+"""The planted bugs (mutants) of a project, for tools/evidence: the lines that each changes, and
+what it attacks: a function with its clauses, another item of the code, or a definition."""
 import re
 from collections.abc import Iterator
 from functools import cache
@@ -115,13 +115,14 @@ class Planted:
                 line += 1
             around = [it for it in parts if it.first == line]
         functions = [it for it in around if it.kind == "function"]
-        return (functions or around or [None])[-1]
+        found = functions or around
+        return found[-1] if found else None
 
     def definition_at(self, crate: str, file: str, line: int) -> Any:
         """The definition in which a line of specs/ is."""
         above = [it for it in self.project.definitions.values()
                  if (it.crate, it.file) == (crate, file) and it.line <= line]
-        return max(above, key=lambda it: it.line, default=None)
+        return max(above, key=lambda it: int(it.line), default=None)
 
     def clauses_of(self, crate: str, file: str, part: Part) -> list[Any]:
         """The clauses of a function, also of one that is not public; of a method without any,
@@ -193,5 +194,6 @@ class Planted:
         before = [it for it in self.clauses_of(crate, file, part) if part.first < it.line <= line]
         # (the body begins below the clauses, with a bracket alone on its line)
         if before and not any(it.strip() == "{" for it in lines[before[-1].line - 1:line]):
-            return f"{part.full_name}: {before[-1].kind} {before[-1].name}".rstrip()
-        return f"{part.full_name}: its body"
+            name = f"{before[-1].kind} {before[-1].name}".rstrip()
+            return f"the clause `{name}` of `{part.full_name}`"
+        return f"the body of `{part.full_name}`"

@@ -55,9 +55,9 @@ class Promised:
 
     @staticmethod
     def points() -> list[str]:
-        """The points of README's list of what it leaves out."""
+        """The points of README's list of what it leaves out, with their links."""
         found = re.findall(r"(?ms)^- (.*?)(?=^- |^\n|\Z)", section(README, LEFT_OUT))
-        return [plain(" ".join(it.split())) for it in found]
+        return [" ".join(it.split()) for it in found]
 
     def said(self, row: Any) -> list[str]:
         """What a row promises: of a rule of the Code, what holds here."""

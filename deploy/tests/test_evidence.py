@@ -1,6 +1,7 @@
 """What an auditor takes away (tools/evidence): made from a copy of the repository as it is, and
 with something that is missing or that nobody saw; from each sentence to its clauses, from each
-clause to what it assumes, and by what mutants are refused."""
+clause to what it assumes, what mutants attack and by what they are refused, and how to repeat
+it."""
 import hashlib
 import json
 import os
@@ -11,8 +12,10 @@ import subprocess
 import typing
 
 import claims
+import notation
 import outcomes
 import page_text
+import planted
 import premises
 import promised
 import proved_source
@@ -239,6 +242,177 @@ def test_a_log_counts_for_the_source_that_it_is_of(copy: pathlib.Path) -> None:
     assert "is no log of this source" in refusal(copy, log)
 
 
+GATE = """tools/lint: 2 passed, 0 failed
+{source}rt: adm_rank proved
+rt: must-fail adm_types/closes_a_day_early.edit: refused, as it must be
+rt: match_runs ran, and wrote what its file stdout has
+rt: adm_tests: its tests passed
+tools/proofs: 109 passed, 0 failed
+rt ci took 4000 seconds
+case lots: NOT as expected (lines with + are of this run)
+tools/cases: 51 passed, 1 failed
+tools/python-tests: 700 passed, 0 failed
+{source}rt: twin adm_types/closes_a_day_early.edit: NOT REFUSED: it is proved
+rt: must-fail adm_types/closes_a_day_early.edit: NOT REFUSED: as older tools named a twin
+tools/mutants: 1 passed, 0 failed
+All of it took 4500 seconds of wall-clock time; of CPU time:
+15000
+860 passed, 1 failed
+"""
+
+
+def test_a_log_of_the_gate_says_what_came_out_of_tests_and_how_long_it_took(
+    copy: pathlib.Path,
+) -> None:
+    log = copy.parent / "gate.log"
+    log.write_text(GATE.format(source=run(copy, "tools/proved_source.py").stdout))
+    found = made(copy, log)
+    parts = [(it["part"].split()[:2], it["passed"], it["failed"]) for it in found["parts"]]
+    # (the tests of office come after the cases, and those of deploy before)
+    assert parts == [
+        (["tools/lint"], 2, 0), (["tools/proofs"], 109, 0), (["tools/cases", '"$program"'], 51, 1),
+        (["tools/python-tests", "office"], 700, 0), (["tools/mutants", "--twins"], 1, 0)]
+    assert {it["outcome"] for it in found["mutants"]} == {"refused, as it must be",
+                                                          "not tried here"}
+    cases = {it["case"]: it["outcome"] for it in found["cases"]}
+    assert cases.pop("lots").startswith("NOT as expected")
+    assert set(cases.values()) == {"passed (gate.log)"}
+    ran = {it["crate"]: it["outcome"] for it in found["tests_of_crates"]}
+    assert ran["match_runs"] == "ran, and wrote what its file stdout has (gate.log)"
+    assert ran["adm_tests"] == "its tests passed (gate.log)"
+    assert ran["word_runs"] == "not tried here"
+    searches = {it["search"]: it["outcome"] for it in found["searches"]}
+    assert searches["match_runs"].startswith("ran, ")
+    times = {it["what"]: (it["seconds"], it["cpu_seconds"]) for it in found["times"]["logs"]}
+    assert times == {"rt ci": (4000, None), "All of it": (4500, 15000)}
+    assert found["logs"] == [{"log": "gate.log", "last_line": "860 passed, 1 failed"}]
+    page = (copy / "out/evidence/tests.html").read_text()
+    assert "NOT as expected" in page and "700" in page and "No log was given" not in page
+
+
+def test_a_log_of_ones_own_has_the_source_and_the_crate_of_each_verdict(
+    copy: pathlib.Path,
+) -> None:
+    """As the page says that it is made, by a toolchain that prints this."""
+    made(copy)
+    page = (copy / "out/evidence/repeat.html").read_text()
+    command = re.findall(r"(?m)^(\{ tools/proved_source.py.*) &gt; \.\./adm_rank\.log|"
+                         r"^(\{ tools/proved_source.py.*) > \.\./adm_rank\.log", page)
+    assert len(command) == 1
+    room, log = copy.parent / "toolchain", copy.parent / "own.log"
+    room.mkdir()
+    (room / "rt").write_text(f"#!/bin/sh\necho 'fn rank: proved'\necho '{SOUND}'\n")
+    (room / "rt").chmod(0o755)
+    text = (command[0][0] or command[0][1]).replace("&amp;", "&")
+    done = run(copy, "bash", "-c", text, PATH=f"{room}:{os.environ['PATH']}")
+    assert done.returncode == 0 and done.stdout.splitlines()[1] == "crate adm_rank"
+    log.write_text(done.stdout)
+    found = made(copy, log)
+    seen = {it["crate"]: it for it in found["crates"] if it["verdict"] != UNSEEN}
+    assert list(seen) == ["adm_rank"]
+    assert seen["adm_rank"]["verdict"] == f"{SOUND} (own.log)"
+    assert seen["adm_rank"]["made"] == "from nothing"
+    # a verdict after which something comes is none; a second crate has its own
+    log.write_text(f"{done.stdout}rt: this fails the verdict\ncrate adm_types\n{SOUND}\n\n")
+    assert {it for it, line in verdicts(made(copy, log)).items() if line != UNSEEN} == {"adm_types"}
+    log.write_text("\n".join(done.stdout.splitlines()[1:]))
+    assert "is no log of this source" in refusal(copy, log)
+
+
+def test_times_are_those_of_a_build_from_nothing_in_units_of_the_machine(
+    copy: pathlib.Path,
+) -> None:
+    program = ("import sys; sys.path.insert(0, 'tools'); import proved_source as it, pathlib;"
+               "[it.leave(name, it.sum_of(pathlib.Path(), below), line, is_anew=is_anew)"
+               " for name, below, is_anew in (('adm_lists', ['adm_lists'], True),"
+               " ('adm_types', ['adm_types', 'adm_lists'], True),"
+               " ('adm_rank', ['adm_rank', 'adm_types', 'adm_lists'], False))"
+               f" for line in ['{PROVED}']]")
+    assert run(copy, "/usr/bin/python3", "-c", program).returncode == 0
+    (copy / "out/costs").mkdir()
+    for name, seconds in (("adm_lists", 20), ("adm_types", 100), ("adm_rank", 60)):
+        (copy / "out/costs" / name).write_text(f"{seconds}\n")
+
+    def rows() -> dict[str, tuple[str, str]]:
+        return {it["crate"]: (it["alone"], it["with_those_below"])
+                for it in made(copy)["times"]["crates"]}
+
+    assert rows()["adm_types"] == ("100 s", "120 s")
+    (copy / "out/unit").write_text("40\n")
+    found = rows()
+    assert found["adm_types"] == ("100 s, 2.50 units", "120 s, 3.00 units")
+    # that of adm_rank was over what had been kept, or of another crate above
+    assert found["adm_rank"] == found["adm_match"] == ("", "")
+    page = (copy / "out/evidence/repeat.html").read_text()
+    assert "a unit is 40 CPU seconds" in page and "All times below are of one machine" in page
+    (copy / "out/unit").write_text("no toolchain\n")
+    assert "out/unit is not what tools/unit prints" in refusal(copy)
+
+
+def test_the_fingerprints_of_a_release_of_this_commit_are_there(copy: pathlib.Path) -> None:
+    assert made(copy)["release"] == {"is": "none"}
+    assert "there is no <code>out/release</code>" in (copy / "out/evidence/trust.html").read_text()
+    home, room = copy.parent / "gpg", copy / "out/release"
+    home.mkdir(mode=0o700)
+    room.mkdir()
+    gpg = ("gpg", "--batch", "--quiet", "--homedir", home)
+    try:
+        done = run(copy, *gpg, "--passphrase", "", "--quick-generate-key", "A test", "ed25519",
+                   "sign", "never")
+        assert done.returncode == 0, done.stderr
+        listed = run(copy, *gpg, "--list-keys", "--with-colons").stdout
+        (room / "admissions-archive.asc").write_text(run(copy, *gpg, "--armor", "--export").stdout)
+    finally:
+        run(copy, "gpgconf", "--homedir", home, "--kill", "all")
+    commit = run(copy, "git", "rev-parse", "HEAD").stdout.strip()
+    manifest = {"commit": commit, "package": "admissions 1.2", "verdict_of_the_gate": None,
+                "program": {"sha256": "ab" * 32}}
+    (room / "manifest.json").write_text(json.dumps(manifest))
+    assert "is not the file that out/release/SHA256SUMS names" in refusal(copy)
+    digest = hashlib.sha256((room / "manifest.json").read_bytes()).hexdigest()
+    (room / "SHA256SUMS").write_text(f"{digest}  manifest.json\n")
+    found, page = made(copy)["release"], (copy / "out/evidence/trust.html").read_text()
+    assert found["keys"] == re.findall(r"(?m)^fpr:+([0-9A-F]{40}):", listed)
+    assert found["manifest"] == digest and digest in page and found["keys"][0] in page
+    assert "null: no gate has judged this program" in page
+    (room / "manifest.json").write_text(json.dumps({**manifest, "commit": "0" * 40}))
+    assert made(copy)["release"] == {"is": "of another commit", "commit": "0" * 40}
+
+
+WORD_OF_A_PATH = re.compile(r"(?<![\w/.$<-])(?:crates|mutants|cases|office|deploy|docs|tools|bench"
+                            r"|debian|examples)/[\w./*-]*\w")
+
+
+def texts_of(page: str) -> list[str]:
+    """The texts of a page, without its links and marks."""
+    return re.sub(r"(?s)<(a|style)\b.*?</\1>", "", page).replace("<", "\n<").split("\n")
+
+
+def test_what_a_page_names_is_in_the_folder_or_in_the_repository(copy: pathlib.Path) -> None:
+    made(copy)
+    out, guides = copy / "out/evidence", pathlib.Path(shutil.which("rt") or "").resolve().parents[1]
+    for page in out.glob("*.html"):
+        text = page.read_text()
+        for line in texts_of(text):
+            words = re.sub(r"<[^>]*>", " ", line)
+            for name in WORD_OF_A_PATH.findall(words):
+                is_there = "NAME" in name or list(copy.glob(name)) or name in ("tools/cases",)
+                assert is_there, f"{page.name}: {name}"
+            for name in re.findall(r"\b(?:docs/)?[A-Z][A-Z_-]+\.md\b", words):
+                # (a page of the repository is a link)
+                assert not (copy / name).exists(), f"{page.name}: {name}"
+                assert (guides / "rattle" / name).exists() or (
+                    guides / "rattle/docs" / name).exists(), f"{page.name}: {name}"
+                assert 'href="verdicts.html#guides"' in text or 'id="guides"' in text
+    anchors = {it.name: set(re.findall(r'id="([^"]*)"', it.read_text()))
+               for it in out.glob("pages/*.html")}
+    for page in (*out.glob("*.html"), *out.glob("*/*.html")):
+        for target, anchor in re.findall(r'href="([^"#]*)(?:#([^"]*))?"', page.read_text()):
+            path = (page.parent / (target or page.name)).resolve()
+            assert path.is_file(), f"{page}: {target}"
+            assert not anchor or path.name not in anchors or anchor in anchors[path.name]
+
+
 @pytest.fixture(name="project", scope="module")
 def project_fixture() -> typing.Any:
     """The repository, as tools/reference reads it."""
@@ -299,6 +473,149 @@ def test_premises_are_read_from_the_source(
     assert not any("→" in premises.bare(text) and text.startswith("λ") for _, text in rows)
 
 
+def test_a_mutant_is_listed_by_what_it_attacks_with_its_edit_and_its_command(
+    copy: pathlib.Path,
+) -> None:
+    found = made(copy)
+    pages = {name: (copy / f"out/evidence/{name}.html").read_text()
+             for name in ("mutants", "definitions")}
+    attacked = {it["id"]: it for it in found["attacked"]}
+    for it in found["mutants"]:
+        assert it["attacks"] and it["command"] == f"tools/mutants {it['mutant']}"
+        kinds = {attacked[key]["kind"] for key in it["attacks"]}
+        is_of_definition = kinds == {"definition"}
+        assert is_of_definition or "definition" not in kinds
+        name = "definitions" if is_of_definition else "mutants"
+        assert f'id="{it["mutant"]}"' in pages[name]
+        assert f'id="{it["mutant"]}"' not in pages["mutants" if is_of_definition else "definitions"]
+        for edit in it["edits"]:
+            path, _, line = edit["place"].rpartition(":")
+            assert "/specs/" in path if is_of_definition else "/src/" in path
+            lines = (copy / path).read_text().splitlines()
+            # (a line that two edits change is shown as the first one has left it)
+            places = [one["place"] for one in it["edits"]]
+            assert places.count(edit["place"]) > 1 or (
+                lines[int(line) - 1].strip() == edit["before"])
+        same = all(edit["before"] == edit["after"] for edit in it["edits"])
+        assert it["changes_nothing"] == same
+    assert pages["mutants"].count("This edit changes nothing") == len(
+        [it for it in found["mutants"] if it["changes_nothing"]])
+    no_clause = {it["name"] for it in found["attacked"]
+                 if it["kind"] == "function" and not it["clauses"]}
+    assert no_clause == {"Criterion::fmt", "RowsFault::from", "Fault::from"}
+    # one of a function that carries a promise, one of a definition that a promise reaches
+    clause = next(it for it in found["clauses"]
+                  if it["id"] == "adm_types.child_no.ChildNo::new:valid")
+    assert clause["mutants"] == ["adm_types/highest_child_number_refused"]
+    law = next(it for it in found["clauses"] if it["name"] == "adm_fairness::plan_is_kept")
+    assert "adm_fairness/a_second_plan" in law["mutants_of_definitions"]
+    assert "adm_fairness/a_second_plan" not in law["mutants"]
+
+
+SOURCE = """use std::cmp::Ord;
+
+/// A limit.
+pub(crate) const MOST: u64 = 3;
+
+impl<T: Copy> Ranks<T> for (T, Others)
+where
+    T: Ord,
+{
+    fn rank(&self, list: [u8; 4]) -> u8
+        requires { list ≡ [] }
+        ensures first { result ≡ 1 }
+        ensures second { (x : ℕ) × (x ≡ result) }
+    {
+        self.of(|it| {
+            it + 1
+        })
+    }
+
+    fn other() -> u8 {
+        2
+    }
+}
+"""
+
+
+def test_what_an_edit_attacks_is_read_from_the_source(
+    project: typing.Any, tmp_path: pathlib.Path, monkeypatch: pytest.MonkeyPatch
+) -> None:
+    reference = loaded(ROOT / "tools/reference")
+    crate = tmp_path / "crates/adm_x"
+    (crate / "src").mkdir(parents=True)
+    (crate / "src/it.rt").write_text(SOURCE)
+    monkeypatch.chdir(tmp_path)
+    it = planted.Planted(reference, project)
+    edit = tmp_path / "a.edit"
+    edit.write_text("file: src/it.rt\nold: it + 1\nnew: it + 2\nold: it + 2\nnew: it + 3\n"
+                    "old: Ord;\nnew: Eq;\n")
+    edits = planted.edits_of(pathlib.Path("crates/adm_x"), edit)
+    assert [(one.line, one.before.strip(), one.after.strip()) for one in edits] == [
+        (16, "it + 1", "it + 2"), (16, "it + 2", "it + 3"),
+        (1, "use std::cmp::Ord;", "use std::cmp::Eq;")]
+    [found] = it.attacked("adm_x", edits)
+    assert (found["name"], found["trait"]) == ("(T, Others)::rank", "Ranks")
+    assert [(one.kind, one.name, one.text) for one in found["clauses"]] == [
+        ("requires", "", "list ≡ []"), ("ensures", "first", "result ≡ 1"),
+        ("ensures", "second", "(x : ℕ) × (x ≡ result)")]
+    rank, other = "`(T, Others)::rank`", "`(T, Others)::other`"
+    for line, place in ((13, f"the clause `ensures second` of {rank}"),
+                        (12, f"the clause `ensures first` of {rank}"),
+                        (11, f"the clause `requires` of {rank}"), (16, f"the body of {rank}"),
+                        (20, f"the body of {other}"), (1, "")):
+        outcome = f"refused, as it must be: note: src/it.rt:{line}:5: no"
+        assert it.refused_at("adm_x", outcome) == place
+    for line in (3, 4):
+        part = it.part_at("adm_x", "src/it.rt", line)
+        assert part and (part.kind, part.name) == ("item", "MOST")
+
+
+def test_one_mutant_is_tried_whether_the_gate_tries_it_or_not(copy: pathlib.Path) -> None:
+    """By a toolchain that prints which edits it was given."""
+    room = copy.parent / "toolchain"
+    room.mkdir()
+    (room / "rt").write_text('#!/bin/sh\necho "rt $*"\nls crates/*/must-fail/*\nexit 1\n')
+    (room / "rt").chmod(0o755)
+    path = f"{room}:{os.environ['PATH']}"
+    gate, other = "adm_types/closes_a_day_early", "adm_rank/class_from_zero"
+    done = run(copy, "tools/mutants", gate, other, PATH=path)
+    source, *lines, time = done.stdout.splitlines()
+    assert done.returncode == 1 and source.startswith("source ")
+    assert lines == ["rt must-fail adm_types adm_rank"] + [
+        f"crates/{it.replace('/', '/must-fail/')}.edit" for it in (other, gate)]
+    assert re.fullmatch(rf"tools/mutants {gate} {other}: mutants tried: 2, in \d+ seconds of"
+                        " wall-clock time", time) and outcomes.TIMES.fullmatch(time)
+    # a twin has no outcome by the name of its mutant
+    (room / "rt").write_text("#!/bin/sh\necho 'rt: must-fail adm_fields/"
+                             "preferences_of_an_application_reversed.edit: NOT REFUSED: so'\n")
+    source, *lines = run(copy, "tools/mutants", "--twins", PATH=path).stdout.splitlines()
+    assert lines[-1] == "1 passed, 0 failed" and lines[0].startswith("rt: twin adm_fields/")
+    done = run(copy, "tools/mutants", "adm_rank/class_from_one", PATH=path)
+    assert done.returncode == 2 and "has no edit/class_from_one" in done.stderr
+
+
+def test_each_sign_of_a_clause_has_words(
+    copy: pathlib.Path, tmp_path: pathlib.Path, monkeypatch: pytest.MonkeyPatch
+) -> None:
+    found = made(copy)
+    for name in ("claims", "promises", "clauses", "mutants", "definitions"):
+        page = (copy / f"out/evidence/{name}.html").read_text().partition("<h1>")[2]
+        assert 'href="notation.html"' in page
+    page = (copy / "out/evidence/notation.html").read_text()
+    for sign in set().union(*(notation.signs_in(it["text"]) for it in found["clauses"])):
+        assert sign.replace("&", "&amp;").replace("<", "&lt;").replace(">", "&gt;") in page
+    assert {it["name"] for it in found["notation"]["names"] if not it["words"]} == set()
+    assert notation.signs_in("a ≢ b -- ⊥\n × \"⊤\"") == {"≢", "×"}
+    monkeypatch.chdir(ROOT)
+    words = json.loads((ROOT / "tools/notation_words.json").read_text())
+    words["signs"] = [it for it in words["signs"] if "⊥" not in it[0]]
+    (tmp_path / "words.json").write_text(json.dumps(words))
+    monkeypatch.setattr(notation, "WORDS", tmp_path / "words.json")
+    with pytest.raises(page_text.Refused, match="has no words for the sign ⊥"):
+        notation.Notation().see_signs(["a → ⊥"])
+
+
 @pytest.mark.parametrize(("text", "parts"), [
     ("(a b : State) → P a → (Q → R) → S", ["(a b : State)", "P a", "(Q → R)", "S"]),
     ("IfOk result (λ x. P x → Q)", ["IfOk result (λ x. P x → Q)"]),
@@ -326,6 +643,26 @@ def test_of_each_rule_of_the_code_it_is_said_what_is_not_proved(promises: typing
     assert "a criterion is fair" in fair["neither"] and "fair" in " ".join(fair["limits"])
 
 
+def test_a_paragraph_is_given_where_the_source_gives_it(promises: typing.Any) -> None:
+    it = promises()
+    rules = it.code()
+    given = {rule["rule"]: rule["paragraphs"] for rule in rules if rule["paragraphs"]}
+    assert given == {"Random allocation is supervised by an independent person.": "1.34 and 1.35"}
+    first = next(rule for rule in rules if rule["rule"].startswith("Unless the Code"))
+    assert first["sections"] == [{"file": "crates/adm_rank/specs/Class.antt",
+                                  "sections": "section 1"}]
+    for one in (one for rule in rules for one in rule["sections"]):
+        assert f"Code 2021, {one['sections']}" in (ROOT / one["file"]).read_text()
+    named = [what for point in it.left_out if point["is"] == "rule" for what in point["what"]]
+    assert {"appeals", "in-year admissions", "Infant class size limits"} <= set(named)
+    readme = " ".join((ROOT / "README.md").read_text().split())
+    assert all(what in readme for what in named)
+
+
+APPEALS = "  appeals\n    rule\n"
+FINDING = "  Finding a school that no family listed\n    rule\n"
+
+
 EXTENDS = "    adm_commands::propose: extends\n    adm_commands::propose: schools\n"
 
 
@@ -345,6 +682,9 @@ EXTENDS = "    adm_commands::propose: extends\n    adm_commands::propose: school
     (EXTENDS, "    adm_commands::propose: extends\n", "no sentence has adm_commands::propose: sch"),
     (EXTENDS, EXTENDS + "    adm_commands::propose: kept\n", "propose: kept of the row"),
     ("      by Round.quota\n", "      by Round.quotas\n", "reaches 0 definitions Round.quotas"),
+    (APPEALS, APPEALS.replace("appeals", "lotteries"), "0 points have these words"),
+    (APPEALS, APPEALS.replace("rule", "rules"), "they are neither a limit nor a rule: appeals"),
+    (FINDING, "", "nothing is named of: Finding a school"),
 ])
 def test_a_sentence_without_its_clause_is_an_error(
     old: str, new: str, wanted: str, promises: typing.Any, tmp_path: pathlib.Path,
