@@ -406,6 +406,9 @@ def test_what_a_page_names_is_in_the_folder_or_in_the_repository(copy: pathlib.P
                 assert 'href="verdicts.html#guides"' in text or 'id="guides"' in text
     anchors = {it.name: set(re.findall(r'id="([^"]*)"', it.read_text()))
                for it in out.glob("pages/*.html")}
+    for page in out.glob("*.html"):
+        found = re.findall(r'\bid="([^"]*)"', page.read_text())
+        assert len(found) == len(set(found)), page.name
     for page in (*out.glob("*.html"), *out.glob("*/*.html")):
         for target, anchor in re.findall(r'href="([^"#]*)(?:#([^"]*))?"', page.read_text()):
             path = (page.parent / (target or page.name)).resolve()
