@@ -2,6 +2,7 @@
 them wherever a page names one."""
 import os
 import re
+from collections.abc import Callable
 from html import escape
 from pathlib import Path
 
@@ -23,12 +24,6 @@ def names() -> list[str]:
 def page_of(name: str) -> str:
     """The page of a file, below pages/."""
     return f"{name.replace('/', '-')}.html"
-
-
-def anchor_of(heading: str) -> str:
-    """The anchor of a heading, as sites that show Markdown make it."""
-    bare = re.sub(r"\]\([^)]*\)", "", heading).strip("# ").lower()
-    return re.sub(r"[^\w -]", "", bare).replace(" ", "-")
 
 
 def linked(html: str, root: str) -> str:
@@ -57,7 +52,7 @@ def with_links(text: str, name: str, root: str = "") -> str:
     return LINK.sub(link, escape(text, quote=False))
 
 
-def text_of(name: str) -> str:
+def text_of(name: str, anchor_of: Callable[[str], str]) -> str:
     """The text of a file as HTML: headings have their anchors, and links lead to what is copied."""
     text = Path(name).read_text(encoding="utf-8")
     if not name.endswith(".md"):
