@@ -20,6 +20,7 @@ import premises
 import promised
 import proved_source
 import pytest
+import repeats
 from by_path import loaded
 
 ROOT = pathlib.Path(__file__).resolve().parents[2]
@@ -37,10 +38,9 @@ def run(
                           env={**os.environ, **environment})
 
 
-@pytest.fixture
-def copy(tmp_path: pathlib.Path) -> pathlib.Path:
+def copy_in(room: pathlib.Path) -> pathlib.Path:
     """The repository as it is, committed, without what builds left."""
-    root = tmp_path / "copy"
+    root = room / "copy"
     left = shutil.ignore_patterns(".git", "out", "bin", "__pycache__")
     shutil.copytree(ROOT, root, ignore=left)
     who = ("-c", "user.name=Tests", "-c", "user.email=tests@admissions.example")
@@ -49,12 +49,28 @@ def copy(tmp_path: pathlib.Path) -> pathlib.Path:
     return root
 
 
+@pytest.fixture
+def copy(tmp_path: pathlib.Path) -> pathlib.Path:
+    """A copy of the repository, to be changed."""
+    return copy_in(tmp_path)
+
+
 def made(root: pathlib.Path, *logs: object) -> dict[str, typing.Any]:
     """The evidence of the copy, for programs."""
     done = run(root, "tools/evidence", *logs)
     assert done.returncode == 0, done.stderr
     found: dict[str, typing.Any] = json.loads((root / "out/evidence/evidence.json").read_text())
     return found
+
+
+Pack = tuple[pathlib.Path, dict[str, typing.Any]]
+
+
+@pytest.fixture(name="pack", scope="module")
+def pack_fixture(tmp_path_factory: pytest.TempPathFactory) -> Pack:
+    """A copy where nobody checked anything, with its evidence; not to be changed."""
+    root = copy_in(tmp_path_factory.mktemp("pack"))
+    return root, made(root)
 
 
 def refusal(root: pathlib.Path, *logs: object) -> str:
@@ -83,8 +99,8 @@ def verdicts(found: dict[str, typing.Any]) -> dict[str, str]:
     return {it["crate"]: it["verdict"] for it in found["crates"]}
 
 
-def test_each_sentence_leads_to_its_clauses_where_they_are(copy: pathlib.Path) -> None:
-    found = made(copy)
+def test_each_sentence_leads_to_its_clauses_where_they_are(pack: Pack) -> None:
+    copy, found = pack
     assert found["changes_that_are_not_committed"] == []
     assert found["commit"] == run(copy, "git", "rev-parse", "HEAD").stdout.strip()
     rows = re.findall(r"(?m)^\| \*\*(.+?)\.\*\*", (copy / "README.md").read_text())
@@ -291,11 +307,10 @@ def test_a_log_of_the_gate_says_what_came_out_of_tests_and_how_long_it_took(
 
 
 def test_a_log_of_ones_own_has_the_source_and_the_crate_of_each_verdict(
-    copy: pathlib.Path,
+    copy: pathlib.Path, pack: Pack,
 ) -> None:
     """As the page says that it is made, by a toolchain that prints this."""
-    made(copy)
-    page = (copy / "out/evidence/repeat.html").read_text()
+    page = (pack[0] / "out/evidence/repeat.html").read_text()
     command = re.findall(r"(?m)^(\{ tools/proved_source.py.*) &gt; \.\./adm_rank\.log|"
                          r"^(\{ tools/proved_source.py.*) > \.\./adm_rank\.log", page)
     assert len(command) == 1
@@ -337,7 +352,7 @@ def test_times_are_those_of_a_build_from_nothing_in_units_of_the_machine(
         return {it["crate"]: (it["alone"], it["with_those_below"])
                 for it in made(copy)["times"]["crates"]}
 
-    assert rows()["adm_types"] == ("100 s", "120 s")
+    assert repeats.in_units(100, None) == "100 s" and repeats.in_units(None, 40) == ""
     (copy / "out/unit").write_text("40\n")
     found = rows()
     assert found["adm_types"] == ("100 s, 2.50 units", "120 s, 3.00 units")
@@ -349,12 +364,15 @@ def test_times_are_those_of_a_build_from_nothing_in_units_of_the_machine(
     assert "out/unit is not what tools/unit prints" in refusal(copy)
 
 
-def test_the_fingerprints_of_a_release_of_this_commit_are_there(copy: pathlib.Path) -> None:
-    assert made(copy)["release"] == {"is": "none"}
-    assert "there is no <code>out/release</code>" in (copy / "out/evidence/trust.html").read_text()
+def test_the_fingerprints_of_a_release_of_this_commit_are_there(
+    copy: pathlib.Path, pack: Pack, monkeypatch: pytest.MonkeyPatch
+) -> None:
+    assert pack[1]["release"] == {"is": "none"}
+    page = (pack[0] / "out/evidence/trust.html").read_text()
+    assert "there is no <code>out/release</code>" in page
     home, room = copy.parent / "gpg", copy / "out/release"
     home.mkdir(mode=0o700)
-    room.mkdir()
+    room.mkdir(parents=True)
     gpg = ("gpg", "--batch", "--quiet", "--homedir", home)
     try:
         done = run(copy, *gpg, "--passphrase", "", "--quick-generate-key", "A test", "ed25519",
@@ -368,15 +386,16 @@ def test_the_fingerprints_of_a_release_of_this_commit_are_there(copy: pathlib.Pa
     manifest = {"commit": commit, "package": "admissions 1.2", "verdict_of_the_gate": None,
                 "program": {"sha256": "ab" * 32}}
     (room / "manifest.json").write_text(json.dumps(manifest))
-    assert "is not the file that out/release/SHA256SUMS names" in refusal(copy)
+    monkeypatch.chdir(copy)
+    with pytest.raises(page_text.Refused, match="is not the file that out/release/SHA256SUMS"):
+        repeats.release(commit)
     digest = hashlib.sha256((room / "manifest.json").read_bytes()).hexdigest()
     (room / "SHA256SUMS").write_text(f"{digest}  manifest.json\n")
     found, page = made(copy)["release"], (copy / "out/evidence/trust.html").read_text()
     assert found["keys"] == re.findall(r"(?m)^fpr:+([0-9A-F]{40}):", listed)
     assert found["manifest"] == digest and digest in page and found["keys"][0] in page
     assert "null: no gate has judged this program" in page
-    (room / "manifest.json").write_text(json.dumps({**manifest, "commit": "0" * 40}))
-    assert made(copy)["release"] == {"is": "of another commit", "commit": "0" * 40}
+    assert repeats.release("0" * 40) == {"is": "of another commit", "commit": commit}
 
 
 WORD_OF_A_PATH = re.compile(r"(?<![\w/.$<-])(?:crates|mutants|cases|office|deploy|docs|tools|bench"
@@ -388,8 +407,8 @@ def texts_of(page: str) -> list[str]:
     return re.sub(r"(?s)<(a|style)\b.*?</\1>", "", page).replace("<", "\n<").split("\n")
 
 
-def test_what_a_page_names_is_in_the_folder_or_in_the_repository(copy: pathlib.Path) -> None:
-    made(copy)
+def test_what_a_page_names_is_in_the_folder_or_in_the_repository(pack: Pack) -> None:
+    copy, _ = pack
     out, guides = copy / "out/evidence", pathlib.Path(shutil.which("rt") or "").resolve().parents[1]
     for page in out.glob("*.html"):
         text = page.read_text()
@@ -476,10 +495,8 @@ def test_premises_are_read_from_the_source(
     assert not any("→" in premises.bare(text) and text.startswith("λ") for _, text in rows)
 
 
-def test_a_mutant_is_listed_by_what_it_attacks_with_its_edit_and_its_command(
-    copy: pathlib.Path,
-) -> None:
-    found = made(copy)
+def test_a_mutant_is_listed_by_what_it_attacks_with_its_edit_and_its_command(pack: Pack) -> None:
+    copy, found = pack
     pages = {name: (copy / f"out/evidence/{name}.html").read_text()
              for name in ("mutants", "definitions")}
     attacked = {it["id"]: it for it in found["attacked"]}
@@ -599,9 +616,9 @@ def test_one_mutant_is_tried_whether_the_gate_tries_it_or_not(copy: pathlib.Path
 
 
 def test_each_sign_of_a_clause_has_words(
-    copy: pathlib.Path, tmp_path: pathlib.Path, monkeypatch: pytest.MonkeyPatch
+    pack: Pack, tmp_path: pathlib.Path, monkeypatch: pytest.MonkeyPatch
 ) -> None:
-    found = made(copy)
+    copy, found = pack
     for name in ("claims", "promises", "clauses", "mutants", "definitions"):
         page = (copy / f"out/evidence/{name}.html").read_text().partition("<h1>")[2]
         assert 'href="notation.html"' in page
