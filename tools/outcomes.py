@@ -80,7 +80,7 @@ class Logs:
 
     def read(self, name: str, lines: list[str]) -> None:
         """Takes what a log has of crates, mutants, tests and times."""
-        last = next(it for it in reversed(lines) if not TIMES.fullmatch(it))
+        last = next(it for it in reversed(lines) if it.strip() and not TIMES.fullmatch(it))
         self.verdicts.append({"log": name, "last_line": last})
         tried: dict[str, str] = {}
         for line, after in zip(lines, (*lines[1:], "")):
