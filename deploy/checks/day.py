@@ -2,7 +2,7 @@
 
 A is at 0, B at 2,000, E at 50,000 metres north; child i lives at 100 i. By the round of 3 March A
 admits 1 to 10, the nearest, and B 11 to 14. 11 accepts B, 1 declines A. By the round of 10 March
-A's vacancy goes to 11, and B's to 1. 2, 3 and 4 are reminded on 19 March, and due on 2 April. 15
+A's vacancy goes to 11, and B's to 1. 2, 3 and 4 are reminded on 18 March, and due from 2 April. 15
 and 16 want A alone, from far away.
 """
 
@@ -41,6 +41,6 @@ def register(world: World, name: str) -> pathlib.Path:
     world.do(file, {"cmd": "accept", "child": 11, "school": "B"},
              {"cmd": "decline", "child": 1, "school": "A"})
     world.draw(file, 2, "2025-03-10")
-    world.do(file, *({"cmd": "remind", "child": number, "school": "A", "day": "2025-03-19"}
+    world.do(file, *({"cmd": "remind", "child": number, "school": "A", "day": "2025-03-18"}
                      for number in (2, 3, 4)))
     return file

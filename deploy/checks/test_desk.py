@@ -372,7 +372,7 @@ def test_without_room_for_the_history_nothing_is_sent_and_afterwards_all_goes_on
         world.run("prlimit", "--pid", worker, "--fsize=unlimited:unlimited")
     said = json.loads(answer.body)
     assert (answer.status, said["outcome"]) == (503, "unsent")
-    assert said["reason"].startswith("Nothing was sent: the history cannot be written")
+    assert said["reason"].startswith("Nothing was recorded: the history cannot be written")
     assert (history.read_bytes(), world.letter(6)) == (before, letter)
     assert world.ask("/command", "robot", named("with room again")).status == 200
     assert "Fay Ford with room again" in world.letter(6)

@@ -189,7 +189,7 @@ def test_all_that_match_are_a_view(page: Browser) -> None:
 @pytest.mark.parametrize("number, part", [
     (2, "Child 2, Ben Bell"),
     (2, "The child was offered a place at B Beta on 3 March 2025. There is no answer yet."),
-    (2, "A reminder is due from 17 March 2025."),
+    (2, "A reminder is due from 18 March 2025."),
     (3, "The child has no place."),
     (5, "The child has a place at A Alpha by a plan."),
     (11, f"The child was offered a place at D {DELTA} on 3 March 2025."),
@@ -348,7 +348,7 @@ def test_a_reminder_is_recorded_and_shown_with_its_deadline(page: Browser) -> No
     assert len(page.posted) == 1
     shown = page.value(RESULT)
     assert "reminded on 20 March 2025" in shown
-    assert "The offer may be withdrawn from 3 April 2025 if it is not answered." in shown
+    assert "The offer may be withdrawn from 4 April 2025 if it is not answered." in shown
     assert dates(page) == []
     button = page.value("document.querySelector('#day-form button').innerText")
     assert button == "Withdraw the offer"

@@ -202,7 +202,7 @@ def test_a_printed_child(world: World, page: Browser) -> None:
     assert " ".join(lines).split(" ") == " ".join([
         "Child 6, Flo Ford", "Place",
         "The child was offered a place at B Beta on 3 March 2025. There is no answer yet.",
-        "A reminder is due from 17 March 2025.", "Waiting",
+        "A reminder is due from 18 March 2025.", "Waiting",
         "Where the child waits, in order of preference", "School Name Position Priority Metres",
         f"A Alpha 5 of 86 {NONE} 1,001",
         "A school ranks children by its criteria in their order, then by distance. Children who"

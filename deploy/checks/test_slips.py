@@ -13,7 +13,7 @@ from checks.page import (
     rows, text, visit, whom, write)
 from checks.world import World
 
-# On 2 April 2 to 10 have an open offer of A, of which 2, 3 and 4 were reminded on 19 March; 11 has
+# On 2 April 2 to 10 have an open offer of A, of which 2, 3 and 4 were reminded on 18 March; 11 has
 # one of A and 1 one of B, both of 10 March; 12, 13 and 14 have one of B. 15 and 16 have no place,
 # and wait at A
 FIRST = [5, 6, 7, 8, 9, 10, 12, 13, 14]
@@ -30,13 +30,13 @@ def page_fixture(world: World) -> Iterator[Browser]:
         yield page
 
 
-# 14 days after 3 March is 17 March: on that day the offers of the first round are due for a
-# reminder, and on the day before none is. 14 days after the reminders of 19 March is 2 April
+# 14 days after 3 March is 17 March, the last day of the answers: from 18 March on the offers of the
+# first round are due for a reminder. The same after the reminders of 18 March is 2 April
 @pytest.mark.usefixtures("page")
 @pytest.mark.parametrize("today, name, due", [
-    ("2025-03-16", "remind-due", []),
-    ("2025-03-17", "remind-due", FIRST),
-    ("2025-03-24", "remind-due", sorted([1, 11, *FIRST])),
+    ("2025-03-17", "remind-due", []),
+    ("2025-03-18", "remind-due", FIRST),
+    ("2025-03-25", "remind-due", sorted([1, 11, *FIRST])),
     ("2025-04-01", "lapse-due", []),
     ("2025-04-02", "lapse-due", [2, 3, 4]),
 ])

@@ -57,9 +57,9 @@ def test_the_first_view_counts_the_worklists_that_were_worked_out_by_hand(page: 
                               ["16", "Child of 16", "26 October 2024", "A", "A"]],
                  id="who has no place, and where they wait"),
     pytest.param("lapse-due", [["Child", "Name", "School", "Reminded", "Due"],
-                               ["2", "Ann Abel", "A", "19 March 2025", "2 April 2025"],
-                               ["3", MARKUP_OF_CHILD, "A", "19 March 2025", "2 April 2025"],
-                               ["4", "=1+1", "A", "19 March 2025", "2 April 2025"]],
+                               ["2", "Ann Abel", "A", "18 March 2025", "2 April 2025"],
+                               ["3", MARKUP_OF_CHILD, "A", "18 March 2025", "2 April 2025"],
+                               ["4", "=1+1", "A", "18 March 2025", "2 April 2025"]],
                  id="whose offer may be withdrawn"),
 ])
 def test_a_worklist_has_the_rows_that_were_worked_out_by_hand(
@@ -78,9 +78,9 @@ def test_a_worklist_is_downloaded_as_csv_with_a_text_that_is_no_formula(
     visit(page, "#list/lapse-due")
     page.value("document.querySelector('.csv').click()")
     assert downloaded(world, "lapse-due.csv") == (
-        "\ufeffChild,Name,School,Reminded,Due\r\n2,Ann Abel,A,2025-03-19,2025-04-02\r\n"
-        f"3,{MARKUP_OF_CHILD},A,2025-03-19,2025-04-02\r\n"
-        "4,'=1+1,A,2025-03-19,2025-04-02\r\n")
+        "\ufeffChild,Name,School,Reminded,Due\r\n2,Ann Abel,A,2025-03-18,2025-04-02\r\n"
+        f"3,{MARKUP_OF_CHILD},A,2025-03-18,2025-04-02\r\n"
+        "4,'=1+1,A,2025-03-18,2025-04-02\r\n")
 
 
 def test_a_waiting_list_has_its_criteria_in_words(page: Browser) -> None:

@@ -1,7 +1,7 @@
 // @ts-check
 // The rows of each list that the page shows, from the register as it was read.
 import { movedBy } from "./view.js";
-import { NOTICE, daysAfter } from "./words.js";
+import { dueFrom } from "./words.js";
 
 /** @typedef {import("./view.js").Register} Register */
 
@@ -12,11 +12,11 @@ const childrenOf = ({ children }) => [...children.values()];
 const offered = (register) => childrenOf(register).filter((it) => it.place?.kind === "offered");
 
 /**
- * Whether the days of notice have passed since a day.
+ * Whether the days for an answer have passed since a day.
  * @param {string | null} from
  * @param {string} today
  */
-const isDue = (from, today) => from !== null && daysAfter(from, NOTICE) <= today;
+const isDue = (from, today) => from !== null && dueFrom(from) <= today;
 
 /** @type {Record<string, (register: Register, today: string) => any[]>} */
 export const ROWS = {

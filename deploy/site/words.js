@@ -9,8 +9,10 @@ const DAYS = new Intl.DateTimeFormat("en-GB", FORM);
 const WEEKDAYS = new Intl.DateTimeFormat("en-GB", { ...FORM, weekday: "long" });
 const NUMBERS = new Intl.NumberFormat("en-GB");
 export const DAY_LENGTH = 86400000;
-// After so many days without an answer a reminder is due, and after so many more a withdrawal
-export const NOTICE = rules.limits.notice.least;
+// So many days a family has to answer an offer, and as many again to answer the reminder of it
+const NOTICE = rules.limits.notice.least;
+// The day after them, from which the reminder or the withdrawal is due. The register accepts it a day sooner
+export const dueFrom = (since) => daysAfter(since, NOTICE + 1);
 
 // A day of the register, 2025-03-03, as people read it: 3 March 2025. One that is none, as 12025-03-03, as it is
 export const day = (text) => formatted(DAYS, text);
@@ -110,9 +112,9 @@ export function fateInWords({ state, position, of }, place) {
   return state === "before" ? "before the first round" : "declined, left or withdrawn";
 }
 
-// Until when a family should answer: the rules of the register
+// From which day on a reminder or the withdrawal of an offer is due
 export function deadline(place) {
   if (!place || place.kind !== "offered") return "";
-  if (place.reminded) return `The offer may be withdrawn from ${day(daysAfter(place.reminded, NOTICE))} if it is not answered.`;
-  return `A reminder is due from ${day(daysAfter(place.offered, NOTICE))}.`;
+  if (place.reminded) return `The offer may be withdrawn from ${day(dueFrom(place.reminded))} if it is not answered.`;
+  return `A reminder is due from ${day(dueFrom(place.offered))}.`;
 }

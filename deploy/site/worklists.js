@@ -6,7 +6,7 @@ import { go } from "./router.js";
 import { ROWS } from "./rows.js";
 import { isDaySure, isFree, isSure, sendAll, settle } from "./sending.js";
 import { column, table } from "./tables.js";
-import { IS_FINAL, NOTICE, count, day, daysAfter, isolated, plural, readDay, time, today } from "./words.js";
+import { IS_FINAL, count, day, dueFrom, isolated, plural, readDay, time, today } from "./words.js";
 
 const dayCell = (value) => (value ? day(value) : "");
 const bdi = (text) => element("bdi", {}, text);
@@ -16,7 +16,7 @@ const NAME = column("Name", (it) => it.name, { cell: (it) => bdi(it.name) });
 const SCHOOL = column("School", (it) => it.place.school, { cell: (it) => schoolLink(it.place.school) });
 const OFFERED = column("Offered", (it) => it.place.offered, { cell: (it) => dayCell(it.place.offered) });
 const REMINDED = column("Reminded", (it) => it.place.reminded, { cell: (it) => dayCell(it.place.reminded) });
-const due = (from) => column("Due", (it) => daysAfter(from(it), NOTICE), { cell: (it) => day(daysAfter(from(it), NOTICE)) });
+const due = (from) => column("Due", (it) => dueFrom(from(it)), { cell: (it) => day(dueFrom(from(it))) });
 const codes = (some) => some.map((it) => it.school).join(" ");
 
 // Each list: its title, its columns, and the commands that its rows can be sent. Its rows are in rows.js

@@ -207,11 +207,11 @@ class Season:
         return csv_lines(("child", "school", "offered", "reminded", "name"), *rows)
 
     def remind_due(self, today):
-        rows = [(child, it["school"], day, later(day, 14), self.children[child]["name"]) for day, child, it in self.offers_open() if not it["reminded"] and later(day, 14) <= today]
+        rows = [(child, it["school"], day, later(day, 15), self.children[child]["name"]) for day, child, it in self.offers_open() if not it["reminded"] and later(day, 15) <= today]
         return csv_lines(("child", "school", "offered", "due", "name"), *rows)
 
     def lapse_due(self, today):
-        rows = [(child, it["school"], it["reminded"], later(it["reminded"], 14), self.children[child]["name"]) for _, child, it in self.offers_open() if it["reminded"] and later(it["reminded"], 14) <= today]
+        rows = [(child, it["school"], it["reminded"], later(it["reminded"], 15), self.children[child]["name"]) for _, child, it in self.offers_open() if it["reminded"] and later(it["reminded"], 15) <= today]
         return csv_lines(("child", "school", "reminded", "due", "name"), *rows)
 
     def unplaced(self):
@@ -347,11 +347,11 @@ def main():
     do("answers.jsonl", answers, [done] * len(answers))
     show(f"letter reg.db {silent}", season.letter(silent))
     show("admissions-query reg.db no-answer", season.no_answer())
-    for day in ("2025-03-30", "2025-03-31"):
+    for day in ("2025-03-31", "2025-04-01"):
         show(f"admissions-query reg.db lapse-due --day {day}", season.lapse_due(day))
 
     # the silent child's offer lapses; some leave a list; two vacancies are filled
-    summer, replies = [{"cmd": "lapse", "child": silent, "school": season.places[silent]["school"], "day": "2025-03-31"}], [done]
+    summer, replies = [{"cmd": "lapse", "child": silent, "school": season.places[silent]["school"], "day": "2025-04-01"}], [done]
     season.give_up(silent)
     for child in [it for it in sorted(season.lists) if len(season.wanted(it)) > 1][:3]:
         school = season.wanted(child)[0]

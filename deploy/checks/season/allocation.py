@@ -16,7 +16,7 @@ from collections.abc import Iterable, Mapping
 Pair = tuple[str, int]
 Lots = Mapping[Pair, int]
 PLAN = "plan"
-# an offer is reminded of so long after it, and ends so long after the reminder
+# so long a family has to answer an offer, and as long again to answer the reminder of it
 NOTICE = datetime.timedelta(days=14)
 # class, distance and lot
 Rank = tuple[int, int, int]
@@ -133,13 +133,13 @@ class Season:
             self.reminded.pop(child, None)
 
     def to_remind(self, day: datetime.date) -> list[int]:
-        """Who is reminded on a day at the latest."""
+        """Who is due for a reminder on a day: the last day of the answer is before it."""
         return sorted(it for it, offered in self.offers.items()
-                      if it not in self.reminded and offered + NOTICE <= day)
+                      if it not in self.reminded and offered + NOTICE < day)
 
     def to_end(self, day: datetime.date) -> list[int]:
         """Whose offer may be withdrawn on a day."""
-        return sorted(it for it, reminded in self.reminded.items() if reminded + NOTICE <= day)
+        return sorted(it for it, reminded in self.reminded.items() if reminded + NOTICE < day)
 
     def wanted(self, child: int) -> list[str]:
         """The schools of a child's list above its place, without those that it left."""

@@ -102,8 +102,8 @@ def question(office: Office) -> None:
     last, own = last_of(before, first), season.rank((first, child), before.lots)
     said = [f"Child {child} {it.name}", f"{NAMES[first]} ({first}), first preference: no place.",
             f"The school has {season.schools[first].pan} places.",
-            f"The last child admitted: class {last[0]} (", f"), {last[1]:,} metres",
-            f"This child: class {own[0]} (", f"), {own[1]:,} metres"]
+            "The last child admitted: ", f", {last[1]:,} metres",
+            "This child: ", f", {own[1]:,} metres"]
     for text in said[1:]:
         rita.see(text)
     rita.press("PDF, for the family", is_new=False)

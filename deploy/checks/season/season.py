@@ -19,7 +19,7 @@ AIM, TICKS = 60, 4
 # the fills and the second round
 SCHOOL, FILLS, AFTER_FILLS, AFTER_SECOND = "A", 3, 21, 56
 # and so many days are the reminders and the withdrawals, of which some are not recorded
-AFTER_REMINDERS, AFTER_WITHDRAWALS, NOT_WITHDRAWN = 14, 35, 3
+AFTER_REMINDERS, AFTER_WITHDRAWALS, NOT_WITHDRAWN = 15, 35, 3
 
 
 def hold(site: Site, first: tuple[str, str], folder: pathlib.Path,

@@ -11,12 +11,12 @@ test("who has not answered", () => {
   assert.deepEqual(on("no-answer", "2025-04-02"), [1, 8, 9]);
 });
 
-test("a reminder is due from 14 days after the offer, and only once", () => {
-  assert.deepEqual([on("remind-due", "2025-04-06"), on("remind-due", "2025-04-07"), on("remind-due", "2025-04-14")], [[], [1], [1, 8]]);
+test("a reminder is due from 15 days after the offer, and only once", () => {
+  assert.deepEqual([on("remind-due", "2025-04-07"), on("remind-due", "2025-04-08"), on("remind-due", "2025-04-15")], [[], [1], [1, 8]]);
 });
 
-test("a withdrawal is due from 14 days after the reminder", () => {
-  assert.deepEqual([on("lapse-due", "2025-03-30"), on("lapse-due", "2025-03-31"), on("lapse-due", "2025-12-31")], [[], [9], [9]]);
+test("a withdrawal is due from 15 days after the reminder", () => {
+  assert.deepEqual([on("lapse-due", "2025-03-31"), on("lapse-due", "2025-04-01"), on("lapse-due", "2025-12-31")], [[], [9], [9]]);
 });
 
 test("an accepted place is on none of these lists", () => {

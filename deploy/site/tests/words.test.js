@@ -57,9 +57,9 @@ test("a place in words", () => {
     "The child has a place at B Bo \"Peep\" School, which was accepted.", "The child has a place at E Élan by a plan.", "The child has no place."]);
 });
 
-test("until when a family answers", () => {
+test("from which day a reminder or a withdrawal is due", () => {
   assert.deepEqual([1, 9, 3, 5].map((number) => deadline(child(number).place)),
-    ["A reminder is due from 7 April 2025.", "The offer may be withdrawn from 31 March 2025 if it is not answered.", "", ""]);
+    ["A reminder is due from 8 April 2025.", "The offer may be withdrawn from 1 April 2025 if it is not answered.", "", ""]);
 });
 
 test("what became of each school of a list", () => {
