@@ -3,7 +3,9 @@ the kit's crates, and what it depends on."""
 import argparse
 import hashlib
 import json
+import os
 import pathlib
+import re
 import subprocess
 import types
 
@@ -222,6 +224,103 @@ def test_the_office_package_depends_on_the_large_ones() -> None:
     found = dependencies("admissions-office")
     assert found == {"admissions", "fonts-dejavu-core", "python3-matplotlib", "python3-pikepdf",
                      "python3-pyproj", "weasyprint"}
+
+
+NAMES = ("admissions", "admissions-office")
+
+
+def relation_of(name: str, version: str) -> str:
+    """What debian/control has a package depend on of this source, in a version of it."""
+    text = (ROOT / "debian/control").read_text(encoding="utf-8")
+    [line] = re.findall(rf"(?m)^Package: {name}\n(?:.+\n)*?Depends: (.*)$", text)
+    own = [it for it in line.split(", ") if it.split()[0] in NAMES]
+    return ", ".join(own).replace("${binary:Version}", version)
+
+
+@pytest.fixture(name="archive", scope="module")
+def archive_fixture(tmp_path_factory: pytest.TempPathFactory) -> pathlib.Path:
+    """A folder from which apt installs, with two versions of both packages. That of PDF and charts
+    needs another library in each; and apt has folders of its own beside it."""
+    room = tmp_path_factory.mktemp("archive")
+    for it in ("packages", "lists/partial", "cache/archives/partial", "etc"):
+        (room / it).mkdir(parents=True)
+    found = [(f"library-{it}", it, "") for it in "12"]
+    for it in "12":
+        found.append((NAMES[0], it, relation_of(NAMES[0], it)))
+        found.append((NAMES[1], it, f"{relation_of(NAMES[1], it)}, library-{it}"))
+    for name, version, depends in found:
+        root = room / f"packages/{name}_{version}"
+        (root / "DEBIAN").mkdir(parents=True)
+        (root / "DEBIAN/control").write_text(
+            f"Package: {name}\nVersion: {version}\nArchitecture: all\nDescription: x\n"
+            "Maintainer: x <x@x.example>\n" + (f"Depends: {depends}\n" if depends else ""))
+        subprocess.run(["dpkg-deb", "--build", root, f"{root}.deb"], check=True,
+                       stdout=subprocess.DEVNULL)
+    listed = subprocess.run(["apt-ftparchive", "packages", "."], cwd=room / "packages", check=True,
+                            capture_output=True, text=True).stdout
+    (room / "packages/Packages").write_text(listed)
+    (room / "etc/sources.list").write_text(f"deb [trusted=yes] file:{room}/packages ./\n")
+    (room / "status").touch()
+    (room / "etc/apt.conf").write_text(
+        f'Dir "/";\nDir::Etc "{room}/etc";\nDir::Etc::parts "-";\nDir::Etc::sourceparts "-";\n'
+        f'Dir::State "{room}";\nDir::State::lists "{room}/lists";\nDir::Cache "{room}/cache";\n'
+        f'Dir::State::status "{room}/status";\nDir::Cache::pkgcache "";\n'
+        'Dir::Cache::srcpkgcache "";\nAPT::Architecture "amd64";\nAPT::Sandbox::User "";\n'
+        'APT::Architectures { "amd64"; };\nAcquire::Languages "none";\nDebug::NoLocking "1";\n')
+    apt_get(room, "update")
+    return room
+
+
+def apt_get(room: pathlib.Path, *words: str) -> dict[str, str]:
+    """What apt-get would install, with the versions; and what it would remove, with none."""
+    done = subprocess.run(
+        ["apt-get", "-q", *words], capture_output=True, text=True, check=False,
+        env=os.environ | {"APT_CONFIG": str(room / "etc/apt.conf"), "LC_ALL": "C.UTF-8"})
+    found = dict(re.findall(r"(?m)^Inst (\S+) (?:\[\S+\] )?\((\S+) ", done.stdout))
+    return found | dict.fromkeys(re.findall(r"(?m)^Remv (\S+) ", done.stdout), "")
+
+
+BOTH = dict.fromkeys(NAMES, "2")
+
+
+@pytest.mark.parametrize("held, command, wanted", [
+    # the line of docs/DEPLOYMENT.md
+    ("", "install --no-install-recommends admissions", BOTH | {"library-2": "2"}),
+    ("", "install admissions-office", BOTH | {"library-2": "2"}),
+    ("", "dist-upgrade", BOTH | {"library-2": "2"}),
+    # its library is not there, and this command installs none
+    ("", "upgrade", {}),
+    # whichever is held holds the other one
+    ("admissions", "dist-upgrade", {}),
+    ("admissions", "install admissions-office", {}),
+    ("admissions-office", "dist-upgrade", {}),
+    ("admissions-office", "install --no-install-recommends admissions", {}),
+])
+def test_one_of_the_two_packages_is_not_upgraded_alone(
+    held: str, command: str, wanted: dict[str, str], archive: pathlib.Path
+) -> None:
+    """It would lack a library that its tools need, or the other would lose one."""
+    installed(archive, "1", held)
+    assert apt_get(archive, "--simulate", *command.split()) == wanted
+
+
+def test_back_to_an_earlier_version_both_are_named(archive: pathlib.Path) -> None:
+    """With one of them alone the other one would be removed."""
+    installed(archive, "2")
+    go_back = ("--simulate", "--allow-downgrades", "install")
+    assert apt_get(archive, *go_back, *(f"{it}=1" for it in NAMES)) == {
+        **dict.fromkeys(NAMES, "1"), "library-1": "1"}
+    assert apt_get(archive, *go_back, f"{NAMES[0]}=1") == {NAMES[0]: "1", NAMES[1]: ""}
+
+
+def installed(archive: pathlib.Path, version: str, held: str = "") -> None:
+    """Has apt find both packages installed in this version, one of them held."""
+    text = ""
+    for name in (*NAMES, f"library-{version}"):
+        control = archive / f"packages/{name}_{version}/DEBIAN/control"
+        state = "hold" if name == held else "install"
+        text += f"{control.read_text()}Status: {state} ok installed\n\n"
+    (archive / "status").write_text(text)
 
 
 def test_a_module_whose_package_is_not_known_is_an_error(tmp_path: pathlib.Path) -> None:
