@@ -106,6 +106,18 @@ class Record:
         there = lineage.of(self.restores, len(self.entries))
         return {number for number in self.requests if number not in there}
 
+    def is_on_the_way(self, since: datetime.datetime) -> bool:
+        """Whether the register of now is that of this moment with all that was sent later: no
+        restore has since undone what was done before, or brought back what was undone then."""
+        if not self.restores:
+            return True
+        numbers = (
+            it.number for it in self.entries if datetime.datetime.fromisoformat(it.at) < since)
+        then = lineage.of(self.restores, max(numbers, default=0))
+        now = lineage.of(self.restores, len(self.entries))
+        return all((number in then) == (number in now) for number, it in self.requests.items()
+                   if it.moment < since and it.is_done is not False)
+
     def open_requests(self) -> list[Request]:
         """The requests of which no answer is known."""
         return [it for it in self.requests.values() if it.is_done is None]

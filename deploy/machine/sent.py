@@ -21,7 +21,9 @@ after which nothing is read. What is before that line is printed; where the
 change may be in the answer just before it, that is taken for unknown. The rows
 of an import are no command: its line says after how many of the printed
 commands it was done, and with --rows they are written to the new FOLDER, each
-import to a CSV file of that number.
+import to a CSV file of that number. The line of a restore by the office says
+that a copy of TIME has what the restore has undone, or lacks what it brought
+back: take an earlier copy, and its TIME.
 
 example:
   admissions-sent secondary-2025 2025-03-03T02:30 > again.jsonl
@@ -84,6 +86,10 @@ def listed(found: histories.Record, since: datetime.datetime, rows: str | None) 
         else:
             sys.stdout.buffer.write(f"{it.command}\n".encode())
             printed += 1
+    if not found.is_on_the_way(since):
+        count += report(f"{found.name}: since {since:%Y-%m-%d %H:%M:%S} the office has restored a"
+                        " copy, so that a copy of that moment has what was undone, or lacks what"
+                        " was brought back: take an earlier copy, and its time")
     if found.problem:
         count += report(found.problem)
     return 1 if count else 0

@@ -4,7 +4,7 @@ its timers.
   admissions-setup [NAME] [--phase PHASE --year YEAR] [--holiday DAY]..
     [--site HOST] [--authority TEXT] [--user USER --role ROLE]
   admissions-setup [NAME] --copy FILE
-  admissions-setup NAME --standby [PLACE]
+  admissions-setup NAME --standby [PLACE] [--copy COPY]
   admissions-setup NAME --user USER [--role ROLE] [--new-password]
   admissions-setup NAME --remove USER | --users
   admissions-setup NAME --accounts FILE
@@ -23,20 +23,22 @@ settings and history from what the nightly backup left beside it. With
 PLACE has, or the second place that /etc/admissions/second-copy names, is
 fetched, the register is made from the copy that was made last, and the
 commands that were sent since, as far as the history there has them, are
-printed, to be sent again. Typed again after it was killed, it goes on and
-prints them. The fourth form adds a person, changes the role of one, draws
-another password, removes a person, or lists them. A password is drawn, printed
-once, and changed by whoever signs in with it. The people of a register are
-otherwise the office's own task, on the screen People of the site: what is done
-here is in the history too. The fifth form signs people in by the accounts of
-the authority over OpenID Connect: FILE has title, issuer, client, secret and
-claim as JSON, and the word none in place of FILE ends that. The sixth form
-replaces the holidays of a register that is still empty. The last form makes
-all sites again, after a change of /etc/nginx/sites-available/admissions. A
-certificate of another site is refused; a key and certificate that are replaced
-are kept beside the new ones. A change of what is there is shown, and is done
-after a yes on the terminal, or with --yes. --new-password alone ends the old
-password without a question.
+printed, to be sent again, and what else people did since is counted. COPY is
+the name of an older copy there, such as nightly-000012-2025-03-03T023000.db,
+from which it is made in place of the last one. Typed again after it was
+killed, it goes on and prints them. The fourth form adds a person, changes the
+role of one, draws another password, removes a person, or lists them. A
+password is drawn, printed once, and changed by whoever signs in with it. The
+people of a register are otherwise the office's own task, on the screen People
+of the site: what is done here is in the history too. The fifth form signs
+people in by the accounts of the authority over OpenID Connect: FILE has title,
+issuer, client, secret and claim as JSON, and the word none in place of FILE
+ends that. The sixth form replaces the holidays of a register that is still
+empty. The last form makes all sites again, after a change of /etc/nginx/sites-
+available/admissions. A certificate of another site is refused; a key and
+certificate that are replaced are kept beside the new ones. A change of what is
+there is shown, and is done after a yes on the terminal, or with --yes. --new-
+password alone ends the old password without a question.
 
 example:
   admissions-setup secondary-2025 --phase secondary --year 2025 \\
@@ -103,7 +105,8 @@ def arguments(reader: argparse.ArgumentParser) -> None:
         "--copy",
         metavar="FILE",
         help="begin with this copy of a register, and with what is beside it,"
-        " in place of a new one",
+        " in place of a new one; with --standby the name of a copy of the second place, in place"
+        " of the last one",
     )
     add(
         "--standby",

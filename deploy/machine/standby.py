@@ -2,6 +2,7 @@
 and prints what was sent since the copy from which the register goes on. One that was killed goes on
 when it is typed again."""
 import argparse
+import collections
 import datetime
 import json
 import os
@@ -11,6 +12,7 @@ import shutil
 import sys
 import typing
 
+from office.web import history
 from register_files import Refused
 
 from . import copies, files, histories, history_copies, sealed, second_copy, sent
@@ -22,6 +24,11 @@ WANTED = (*copies.PATTERNS, *(f"{it}{sealed.END}" for it in copies.PATTERNS),
           f"/{history_copies.FOLDER}/", f"/{history_copies.FOLDER}/*")
 # in the settings of a register while it is taken over
 BEGUN = "standby"
+# how many copies are named where the one that was asked for is not there
+NAMED = 5
+# the entries of a history that are requests to the register, and what became of them
+REQUESTS = (history.SENDS, history.ANSWER, history.SETTLED)
+WITHOUT = ", without what shall not come back"
 
 
 class Begun(typing.NamedTuple):
@@ -58,9 +65,9 @@ def begin(register: Register, copy: pathlib.Path) -> Begun:
     return found
 
 
-def fetch(name: str, place: str) -> pathlib.Path:
-    """Fetches what the second place has of a register that is not here, and returns the copy that
-    was made last."""
+def fetch(name: str, place: str, wanted: str = "") -> pathlib.Path:
+    """Fetches what the second place has of a register that is not here, and returns the copy from
+    which it goes on: the one that is wanted, or the last one."""
     register = named(name)
     if register.is_made:
         raise Refused(f"{register.file} is there already, so this machine does not take over."
@@ -85,7 +92,29 @@ def fetch(name: str, place: str) -> pathlib.Path:
     if not made:
         raise Refused(f"{place}/{name} has no copy of a register")
     print(f"fetched {len(made)} copies from {place}/{name}, the last of them {made[-1].name}")
-    return made[-1]
+    return chosen(made, wanted) if wanted else last_on_the_way(made)
+
+
+def chosen(made: list[pathlib.Path], wanted: str) -> pathlib.Path:
+    """The copy of this name."""
+    found = next((it for it in made if it.name == wanted), None)
+    if found is None:
+        last = ", ".join(it.name for it in made[-NAMED:])
+        raise Refused(f"the second place has no copy {wanted}; of its {len(made)} copies the last"
+                      f" are {last}")
+    return found
+
+
+def last_on_the_way(made: list[pathlib.Path]) -> pathlib.Path:
+    """The last copy that lacks just what was sent since it was made. One of before a restore may
+    have what the restore has undone."""
+    data = history_copies.last_whole(made[-1].parent / history_copies.FOLDER)
+    record = histories.Record("the history", data)
+    found = next((it for it in reversed(made) if record.is_on_the_way(moment_of(it))), made[-1])
+    if found != made[-1]:
+        print(f"goes on from {found.name}: since {made[-1].name} the office has restored a copy,"
+              " so that one has what was undone, or lacks what was brought back")
+    return found
 
 
 def see_place(name: str, place: str) -> None:
@@ -125,9 +154,12 @@ def moment_of(copy: pathlib.Path) -> datetime.datetime:
     return min(written, named_at).astimezone()
 
 
-def report(register: Register, copy: pathlib.Path, entries: int | None = None) -> None:
+def report(
+    register: Register, copy: pathlib.Path, entries: int | None = None, is_chosen: bool = False
+) -> None:
     """Prints what was sent since the copy, to be sent again, and from when on nobody knows it. Only
-    so many entries of the history are of the other machine."""
+    so many entries of the history are of the other machine. Where the copy was chosen, what was
+    sent may have what it was chosen for."""
     since = moment_of(copy)
     try:
         record = record_of(register, entries)
@@ -136,15 +168,27 @@ def report(register: Register, copy: pathlib.Path, entries: int | None = None) -
         return
     is_any = any(it.moment >= since for it in record.requests.values())
     print(f"{register.name} is as at {since:%Y-%m-%d %H:%M:%S}, when {copy.name} was made."
-          + (" Send again what follows, line by line:" if is_any
+          + (f" Send again what follows, line by line{WITHOUT if is_chosen else ''}:" if is_any
              else " The history has nothing that was sent later, so nothing is to be sent again."),
           flush=True)
     sent.listed(record, since, None)
+    if others := others_since(record, since):
+        print("Since then people also did this in the application, whose own file is as at that"
+              f" moment: {others}. The screen Activity has each of them: what of it is still"
+              " wanted is entered again there")
     again = f"admissions-sent {register.name} {since:%Y-%m-%dT%H:%M:%S}"
     if record.entries:
         last = datetime.datetime.fromisoformat(record.entries[-1].at).astimezone()
         print(f"These are all until {last:%Y-%m-%d %H:%M:%S}, and `{again}` prints them again."
               " What was sent later is in no copy: ask who worked then.")
+
+
+def others_since(record: histories.Record, since: datetime.datetime) -> str:
+    """What people did since a moment beside requests to the register, each with how often."""
+    counts = collections.Counter(
+        it.what for it in record.entries
+        if it.what not in REQUESTS and datetime.datetime.fromisoformat(it.at) >= since)
+    return ", ".join(f"{what} ({count})" for what, count in sorted(counts.items()))
 
 
 def record_of(register: Register, entries: int | None) -> histories.Record:
@@ -159,28 +203,38 @@ def see_arguments(given: argparse.Namespace) -> None:
     """Refuses what a register that is taken over has of its own."""
     if given.name is None:
         raise Refused("NAME is missing: which register is taken over?", 2)
-    if given.copy or given.phase or given.year or given.holiday or given.user:
+    if given.phase or given.year or given.holiday or given.user:
         raise Refused("--standby takes phase, year, holidays and people from the copies: give none"
-                      " of them, and no --copy", 2)
+                      " of them", 2)
+    if given.copy and not copies.NAME.fullmatch(given.copy.removesuffix(sealed.END)):
+        raise Refused(f"{given.copy!r} is no name of a copy at the second place: with --standby"
+                      " --copy takes one as nightly-000012-2025-03-03T023000.db", 2)
     if not re.fullmatch(r"[^-].*|", given.standby):
         raise Refused(f"{given.standby!r} is no place", 2)
 
 
 def take_over(given: argparse.Namespace, set_up: typing.Callable[[], int]) -> int:
-    """Fetches the copies, has the register set up from the last one, and prints what it lacks.
-    Until that is printed the takeover is not over, and goes on when it is typed again."""
+    """Fetches the copies, has the register set up from the last one, or from the one that is
+    named, and prints what it lacks. Until that is printed the takeover is not over, and goes on
+    when it is typed again."""
     see_arguments(given)
     register = named(given.name)
+    wanted = (given.copy or "").removesuffix(sealed.END)
     found = begun(register)
     if found:
         copy = register.copies / found.copy
+        if wanted not in ("", found.copy):
+            raise Refused(f"the takeover of {register.name} from {copy} has begun, and goes on with"
+                          " that copy alone. To begin again with another one, end this one without"
+                          f" --copy, and delete the register (admissions-retire {register.name}"
+                          " --early REASON, without --second-place)")
         print(f"goes on with the takeover of {register.name} from {copy}", flush=True)
     else:
-        copy = fetch(given.name, given.standby)
+        copy = fetch(given.name, given.standby, wanted)
         found = begin(register, copy)
     given.copy = str(copy)
     status = set_up()
-    report(register, copy, found.entries)
+    report(register, copy, found.entries, is_chosen=bool(wanted))
     sys.stdout.flush()
     begun_place(register).unlink()
     remind()

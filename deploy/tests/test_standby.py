@@ -9,8 +9,8 @@ import pathlib
 import subprocess
 
 import pytest
-from machine import registers, setup, standby, status
-from office.web.history import ANSWER, SENDS, History
+from machine import copies, registers, sent, setup, standby, status
+from office.web.history import ANSWER, RESTORED, SENDS, History
 from register_files import Refused
 
 NAME = "secondary-2025"
@@ -89,6 +89,18 @@ def test_what_is_encrypted_is_opened_with_the_identity_of_this_machine(
     assert found == dict.fromkeys((*names, COPIES[0]), 0o600)
 
 
+def test_an_older_copy_is_chosen_by_its_name(
+    place: pathlib.Path, machine: pathlib.Path, write_as_me: None,
+) -> None:
+    """All copies are fetched, so the next one still has the greatest number. One that is not there
+    is refused, with names of those that are."""
+    copy = standby.fetch(NAME, str(place), COPIES[1])
+    assert copy.read_text(encoding="ascii") == COPIES[1]
+    assert copies.next_name(copy.parent).startswith("nightly-000011-")
+    with pytest.raises(Refused, match=f"has no copy nightly-.*; of its 3 copies .*{COPIES[2]}$"):
+        standby.fetch(NAME, str(place), "nightly-000003-2025-03-02T023000.db")
+
+
 def test_the_place_of_the_settings(
     place: pathlib.Path, machine: pathlib.Path, write_as_me: None
 ) -> None:
@@ -131,7 +143,9 @@ def test_a_place_without_the_register(
 
 @pytest.mark.parametrize(
     "given",
-    [["--standby"], [NAME, "--standby", "--copy", "x"], [NAME, "--standby", "--year", "2025"],
+    [["--standby"], [NAME, "--standby", "--copy", "x"],
+     [NAME, "--standby", "--copy", f"/mnt/copies/{COPIES[1]}"],
+     [NAME, "--standby", "--year", "2025"],
      [NAME, "--standby", "--user", "jane"], [NAME, "--standby", "/x", "--holiday", "2025-01-01"],
      [NAME, "--standby=-x"], [NAME, "--standby", "--sites"]],
 )
@@ -202,10 +216,10 @@ def sent_at(register: registers.Register, child: int, moment: str) -> None:
     record.close()
 
 
-def given_to(place: pathlib.Path) -> argparse.Namespace:
+def given_to(place: pathlib.Path, *more: str) -> argparse.Namespace:
     reader = argparse.ArgumentParser()
     setup.arguments(reader)
-    return reader.parse_args([NAME, "--standby", str(place)])
+    return reader.parse_args([NAME, "--standby", str(place), *more])
 
 
 def test_a_takeover_that_was_killed_goes_on_and_prints_the_same(
@@ -255,6 +269,127 @@ def test_a_takeover_that_was_killed_goes_on_and_prints_the_same(
     assert [it for it in lines if it.startswith("{")] == ['{"child":1,"cmd":"accept"}']
     with pytest.raises(Refused, match="is there already, so this machine does not take over"):
         standby.take_over(given_to(place), set_up)
+
+
+def test_a_takeover_by_an_older_copy(
+    place: pathlib.Path, machine: pathlib.Path, write_as_me: None,
+    capfd: pytest.CaptureFixture[str],
+) -> None:
+    """It prints the commands since that copy, of which somebody must leave out what it was chosen
+    for. One that has begun takes no other copy."""
+    other = registers.Register("other")
+    other.office.mkdir()
+    for child, moment in enumerate(("02-02:31", "02-09:00", "03-09:00"), 1):
+        sent_at(other, child, f"2025-03-{moment.replace('-', 'T')}:00")
+    folder = place / NAME / "history"
+    (folder / "history-1-a.gz").unlink()
+    (folder / "history-000001-0123456789abcdef.gz").write_bytes(
+        gzip.compress(other.history.read_bytes()))
+    register = registers.Register(NAME)
+
+    def killed() -> int:
+        raise KeyboardInterrupt
+
+    def set_up() -> int:
+        register.office.mkdir()
+        register.history.write_bytes(other.history.read_bytes())
+        return 0
+
+    with pytest.raises(KeyboardInterrupt):
+        standby.take_over(given_to(place, "--copy", f"{COPIES[1]}.age"), killed)
+    with pytest.raises(Refused, match=f"from .*{COPIES[1]} has begun, and goes on with that copy"):
+        standby.take_over(given_to(place, "--copy", COPIES[2]), set_up)
+    assert not register.history.exists()
+    capfd.readouterr()
+    given = given_to(place, "--copy", COPIES[1])
+    assert standby.take_over(given, set_up) == 0
+    lines = capfd.readouterr().out.splitlines()
+    assert given.copy == str(register.copies / COPIES[1])
+    assert lines[1] == (
+        f"{NAME} is as at 2025-03-02 02:30:00, when {COPIES[1]} was made. Send again what follows,"
+        " line by line, without what shall not come back:")
+    assert [it for it in lines if it.startswith("{")] == [
+        f'{{"child":{it},"cmd":"accept"}}' for it in (1, 2, 3)]
+
+
+def restored_at(register: registers.Register, position: int, moment: str) -> None:
+    """Records in a history that the office restored a copy, made after this entry, at this local
+    time."""
+    at = datetime.datetime.fromisoformat(moment).astimezone(datetime.timezone.utc).isoformat()
+    record = written_at(register, at)
+    record.add("hal", RESTORED, {"copy": 1, "position": position})
+    record.close()
+
+
+@pytest.mark.parametrize("name, is_sent, wanted", [
+    # of the two commands before the restore the last copy has the one that it has undone
+    ("2025-03-03T02:00:00", True, COPIES[1]),
+    # it was undone, but was never done
+    ("2025-03-03T02:00:00", False, COPIES[2]),
+    # it was sent since the last copy
+    ("2025-03-03T03:00:00", True, COPIES[2]),
+])
+def test_a_copy_that_has_what_a_restore_has_undone_is_not_taken(
+    name: str, is_sent: bool, wanted: str, place: pathlib.Path, machine: pathlib.Path,
+    write_as_me: None, capsys: pytest.CaptureFixture[str],
+) -> None:
+    other = registers.Register("other")
+    other.office.mkdir()
+    sent_at(other, 1, "2025-03-01T09:00:00")
+    if is_sent:
+        sent_at(other, 2, name)
+    restored_at(other, 2, "2025-03-03T09:00:00")
+    sent_at(other, 3, "2025-03-03T09:30:00")
+    folder = place / NAME / "history"
+    (folder / "history-1-a.gz").unlink()
+    (folder / "history-000001-0123456789abcdef.gz").write_bytes(
+        gzip.compress(other.history.read_bytes()))
+    assert standby.fetch(NAME, str(place)).name == wanted
+    said = f"goes on from {wanted}: since {COPIES[2]} the office has restored a copy"
+    assert (said in capsys.readouterr().out) == (wanted != COPIES[2])
+
+
+def test_a_copy_of_before_a_restore_is_named(
+    register: registers.Register, write_as_me: None, tmp_path: pathlib.Path,
+    capfd: pytest.CaptureFixture[str],
+) -> None:
+    """Where it was chosen all the same, and by admissions-sent with its time."""
+    sent_at(register, 1, "2025-03-03T02:00:00")
+    restored_at(register, 0, "2025-03-03T09:00:00")
+    sent_at(register, 2, "2025-03-03T09:30:00")
+    copy = tmp_path / COPIES[2]
+    copy.touch()
+    standby.report(register, copy)
+    found = capfd.readouterr()
+    assert '{"child":2,"cmd":"accept"}' in found.out.splitlines()
+    said = "since 2025-03-03 02:30:00 the office has restored a copy, so that a copy of that moment"
+    assert said in found.err
+    reader = argparse.ArgumentParser()
+    sent.arguments(reader)
+    for time, status_of_it in (("2025-03-03T02:30", 1), ("2025-03-03T01:30", 0),
+                               ("2025-03-03T09:15", 0)):
+        assert sent.main(reader.parse_args([NAME, time])) == status_of_it
+        assert (said in capfd.readouterr().err) == (status_of_it == 1)
+
+
+def test_what_else_was_done_since_is_counted(
+    register: registers.Register, write_as_me: None, tmp_path: pathlib.Path,
+    capfd: pytest.CaptureFixture[str],
+) -> None:
+    """Without a child: the copy of the application's own file lacks it."""
+    for what, moment in (("added a note", "02:00:00"), ("added a note", "03:00:00"),
+                         ("gave a role", "03:01:00"), ("added a note", "03:02:00")):
+        at = datetime.datetime.fromisoformat(f"2025-03-03T{moment}").astimezone(
+            datetime.timezone.utc).isoformat()
+        record = written_at(register, at)
+        record.add("jane", what, {"child": 7})
+        record.close()
+    sent_at(register, 1, "2025-03-03T03:03:00")
+    copy = tmp_path / COPIES[2]
+    copy.touch()
+    standby.report(register, copy)
+    assert ("whose own file is as at that moment: added a note (2), gave a role (1). The screen"
+            " Activity has each of them") in capfd.readouterr().out
 
 
 def test_nothing_to_be_sent_again_is_said(
