@@ -1,0 +1,312 @@
+"""The lines of docs/DEPLOYMENT.md: that bash reads them, that each command has the options that are
+named, and those that need neither root nor systemd, run in a folder in place of the machine."""
+import gzip
+import os
+import pathlib
+import re
+import shlex
+import subprocess
+
+import pytest
+from conftest import ROOT
+from office.web.history import ANSWER, SENDS, History
+
+PAGE = (ROOT / "docs/DEPLOYMENT.md").read_text(encoding="utf-8")
+NAME = "secondary-2025"
+COMMAND = ROOT / "office/command"
+# what the lines name of a machine
+FOLDERS = ("etc", "home", "mnt", "root", "run", "usr", "var")
+BACKUPS = f"var/backups/admissions/{NAME}"
+COPY = "nightly-000012-2025-03-03T023000.db"
+# in place of commands that need root, systemd or the program: a register is a file of lines here,
+# to which `do` adds, and which `show` prints as JSON
+STANDS_IN = {
+    "systemctl": 'echo "$*" >> "$CALLS"',
+    "journalctl": 'echo "journal: $*"',
+    "mountpoint": 'test -d "$1"',
+    "admissions-restore": 'cp "$1" "$2"',
+    # (without the owner and the group)
+    "install": """
+given=()
+while (($#)); do case $1 in -o | -g) shift 2 ;; *) given+=("$1"); shift ;; esac; done
+exec /usr/bin/install "${given[@]}"
+""",
+    "admissions-setup": """
+if [ "$2" = --users ]; then printf 'jane head\nrobot officer (a program)\n'; exit; fi
+if read -r || [ "$4" != --new-password ]; then exit 1; fi
+echo "$3 signs in at https://x/ with the password of-$3"
+""",
+    "admissions": """
+case $1 in
+    do) while read -r it; do echo "$it" >> "$2"; echo '{"done":true}'; done ;;
+    show) sed '1s/^/[/; $!s/$/,/; $s/$/]/' "$2" ;;
+esac
+""",
+}
+
+
+def parts() -> list[tuple[str, str, str]]:
+    """The blocks of the page: the heading above, the word behind the first fence, and the lines."""
+    found, heading, label, lines = [], "", "", list[str]()
+    is_code = False
+    for line in PAGE.splitlines():
+        if line.startswith("```"):
+            if is_code:
+                found.append((heading, label, "".join(f"{it}\n" for it in lines)))
+            is_code, label, lines = not is_code, line[3:], []
+        elif is_code:
+            lines.append(line)
+        elif line.startswith("#"):
+            heading = line.lstrip("# ")
+    return found
+
+
+def blocks_of(heading: str) -> list[str]:
+    """The blocks below a heading, in their order."""
+    return [lines for it, _, lines in parts() if it == heading]
+
+
+def spans() -> list[str]:
+    """All that the page has as code: lines of blocks, and what is between backticks."""
+    prose = re.sub(r"(?ms)^```.*?^```$", "", PAGE)
+    blocks = "".join(lines for _, _, lines in parts()).replace("\\\n", " ")
+    return blocks.splitlines() + [" ".join(it.split()) for it in re.findall(r"`([^`]+)`", prose)]
+
+
+def test_bash_reads_each_block_of_lines() -> None:
+    """Those of commands, which are those without a word behind the fence, and others that end at
+    the first command that fails."""
+    found = [lines for _, label, lines in parts() if not label or "set -e" in lines]
+    assert len(found) > 30
+    for it in found:
+        done = subprocess.run(["bash", "-n"], input=it, text=True, capture_output=True, check=False)
+        assert (done.returncode, done.stderr) == (0, ""), it
+
+
+@pytest.fixture(name="helps", scope="module")
+def helps_fixture(tmp_path_factory: pytest.TempPathFactory) -> dict[str, str]:
+    """What each command of an installation prints of itself."""
+    room, found = tmp_path_factory.mktemp("commands"), {}
+    text = COMMAND.read_text(encoding="utf-8")
+    names = re.findall(r'"([a-z-]+)"', text.partition("OFFICE = (")[2].partition("\n\n")[0])
+    assert "setup" in names and "audit" in names
+    for name in (*names, "backup", "restore"):
+        path = room / f"admissions-{name}"
+        path.symlink_to(ROOT / "tools" / name if name in ("backup", "restore") else COMMAND)
+        # (those of two names print their usage as an error)
+        done = subprocess.run([path, "--help"], capture_output=True, text=True, check=False)
+        found[path.name] = done.stdout + done.stderr
+        assert "usage" in found[path.name], path.name
+    return found
+
+
+def test_each_command_has_the_options_that_the_page_names(helps: dict[str, str]) -> None:
+    """Beside the program's own, of which FORMATS has the subcommands."""
+    formats = (ROOT / "docs/FORMATS.md").read_text(encoding="utf-8")
+    seen = set()
+    for part in (it for line in spans() for it in re.split(r"[|;]|&&", line)):
+        words = part.replace("/usr/lib/admissions/", "admissions-").split()
+        for at, word in enumerate(words):
+            if word == "as_desk" and words[at + 1:] != ["{"] and words[at + 1:]:
+                assert f"admissions {words[at + 1]} " in formats, part
+            if re.fullmatch(r"admissions-[a-z-]+", word) and word in helps:
+                options = [it.partition("=")[0] for it in words[at:] if it.startswith("--")]
+                assert not [it for it in options if it not in helps[word]], part
+                seen |= {(word, it) for it in options}
+    assert {("admissions-setup", "--standby"), ("admissions-setup", "--copy"),
+            ("admissions-setup", "--new-password"), ("admissions-sent", "--history"),
+            ("admissions-sent", "--rows"), ("admissions-retire", "--early"),
+            ("admissions-audit", "--later"), ("admissions-drill", "--identity")} <= seen
+
+
+def test_each_command_of_the_page_is_one(helps: dict[str, str]) -> None:
+    """What begins a line, or what is between backticks, by its name."""
+    pattern = re.compile(r"(?:^|[|(] *)(admissions-[a-z-]+)(?= |$)")
+    named = {word for line in spans() for word in pattern.findall(line)}
+    assert "admissions-retire" in named
+    assert named - helps.keys() <= {"admissions-office"}
+
+
+def test_each_unit_of_the_page_is_there() -> None:
+    units = {it.name.partition("@")[0] for it in (ROOT / "deploy/systemd").iterdir()}
+    found = set(re.findall(r"(admissions[a-z-]*)@", "\n".join(spans())))
+    # (an account of another machine has the name of one, too)
+    assert len(found) > 5 and found <= units
+
+
+class Machine:
+    """A folder in place of a machine, in which lines of the page are run."""
+
+    def __init__(self, room: pathlib.Path) -> None:
+        self.room, self.calls = room, room / "calls"
+        for it in (*FOLDERS, "bin", "run", f"var/lib/admissions/{NAME}", f"{BACKUPS}/history",
+                   f"var/lib/admissions-office/{NAME}", "var/log", "usr/bin", "usr/sbin",
+                   "usr/lib/admissions", "usr/share/admissions", "mnt/evidence"):
+            (room / it).mkdir(parents=True, exist_ok=True)
+        self.calls.touch()
+        for name, text in STANDS_IN.items():
+            self.write(f"bin/{name}", f"#!/bin/bash\n{text}\n").chmod(0o755)
+        (room / "bin/admissions-sent").symlink_to(COMMAND)
+
+    def write(self, name: str, text: str) -> pathlib.Path:
+        """A file with this text."""
+        path = self.room / name
+        path.parent.mkdir(parents=True, exist_ok=True)
+        path.write_text(text, encoding="utf-8")
+        return path
+
+    def run(self, lines: str, **settings: str) -> tuple[int, str]:
+        """Runs lines of the page, with other values of what they set: status and output."""
+        for name, value in settings.items():
+            lines, count = re.subn(rf"(?m)^{name}=.*$", f"{name}={shlex.quote(value)}", lines)
+            assert count == 1, name
+        # (paths that begin at the root: behind a blank, a quote, = or > )
+        lines = re.sub(rf"(?<=[ \"'=>])/(?=({'|'.join(FOLDERS)})\b|\$it)", f"{self.room}/", lines)
+        lines = re.sub(r"(?m)^cd /$", f"cd {self.room}", lines)
+        path = f"{self.room}/bin:{os.environ['PATH']}"
+        done = subprocess.run(
+            ["bash"], input=lines, text=True, stdout=subprocess.PIPE, stderr=subprocess.STDOUT,
+            check=False, cwd=self.room, env=os.environ | {"PATH": path, "CALLS": str(self.calls)})
+        return done.returncode, done.stdout
+
+    def history(self, name: str, *children: int) -> pathlib.Path:
+        """A history of commands that were done, in this file."""
+        path = self.room / name
+        path.parent.mkdir(parents=True, exist_ok=True)
+        record = History(str(path), lambda: "2025-03-03T09:00:00.000+00:00")
+        for it in children:
+            of = record.add("jane", SENDS, {"command": {"cmd": "accept", "child": it}}).number
+            record.add("jane", ANSWER, {"of": of, "answer": {"done": True}})
+        record.close()
+        return path
+
+
+@pytest.fixture(name="at")
+def at_fixture(tmp_path: pathlib.Path) -> Machine:
+    return Machine(tmp_path)
+
+
+def test_the_room_at_the_second_place(at: Machine) -> None:
+    """By the last night: a register and what is beside it, and the history twice."""
+    at.write(f"{BACKUPS}/nightly-000011-2025-03-02T023000.db", "x" * 9_000_000)
+    at.write(f"{BACKUPS}/{COPY}", "x" * 1_000_000)
+    at.write(f"{BACKUPS}/{COPY.replace('.db', '.tar')}", "x" * 400_000)
+    at.write(f"{BACKUPS}/history/history-000001-0123456789abcdef.gz", "x" * 250_000)
+    _, lines = blocks_of("Room at the second place")
+    assert at.run(lines) == (0, "512 MB\n")
+    assert at.run(lines, NIGHTS="30") == (0, "43 MB\n")
+
+
+def test_a_copy_is_kept_under_a_name_that_is_free(at: Machine) -> None:
+    at.write(f"{BACKUPS}/nightly-000011-2025-03-02T023000.db", "older")
+    at.write(f"{BACKUPS}/{COPY}", "the register")
+    at.write(f"{BACKUPS}/{COPY.replace('.db', '.tar')}", "people")
+    [lines] = blocks_of("Keep a copy")
+    assert at.run(lines) == (0, "")
+    kept = [at.room / BACKUPS / f"before-round-1.{it}" for it in ("db", "tar")]
+    assert [it.read_text(encoding="utf-8") for it in kept] == ["the register", "people"]
+    assert at.calls.read_text(encoding="utf-8").splitlines() == [
+        f"start admissions-backup@{NAME}", f"start admissions-second-copy@{NAME}"]
+    at.write(f"{BACKUPS}/{COPY}", "later")
+    assert at.run(lines)[0] == 1
+    assert kept[0].read_text(encoding="utf-8") == "the register"
+
+
+def test_a_history_that_was_changed_is_replaced_by_a_whole_copy(at: Machine) -> None:
+    path = at.history(f"var/lib/admissions-office/{NAME}/history.jsonl", 1, 2)
+    whole = path.read_bytes()
+    names = [f"history-00000{it}-0123456789abcdef.gz" for it in (1, 2)]
+    changed = whole.replace(b'"child":2', b'"child":3')
+    for name, data in zip(names, (whole, changed)):
+        (at.room / BACKUPS / "history" / name).write_bytes(gzip.compress(data))
+    path.write_bytes(changed)
+    look, put = blocks_of("A line of the history was changed")
+    found = [it.rpartition("/")[2] for it in at.run(look)[1].splitlines()]
+    assert found[:2] == names and "the history was changed there" in found[2]
+    assert at.run(put, COPY=names[0]) == (0, "")
+    assert path.read_bytes() == whole and path.stat().st_mode & 0o777 == 0o600
+    assert path.with_name("history.changed").read_bytes() == changed
+    assert not (at.room / "run/history.jsonl").exists()
+    assert at.run(put, COPY=names[0])[0] == 1
+    assert path.with_name("history.changed").read_bytes() == changed
+
+
+def test_each_person_gets_a_new_password(at: Machine) -> None:
+    """Also behind one whose line reads what is typed."""
+    lines = blocks_of("Somebody has broken in")[1]
+    assert at.run(lines)[0] == 0
+    path = at.room / "run/passwords"
+    assert path.read_text(encoding="utf-8").splitlines() == [
+        f"{it} signs in at https://x/ with the password of-{it}" for it in ("jane", "robot")]
+    assert path.stat().st_mode & 0o777 == 0o600 and not (at.room / "run/people").exists()
+
+
+LATER = "nightly-000013-2025-03-04T023000.db"
+PROGRAM = "usr/share/admissions/office.py"
+
+
+@pytest.fixture(name="broken_into")
+def broken_into_fixture(at: Machine) -> Machine:
+    """A machine with two nights of copies, a register with two commands since, and a program, of
+    which the evidence is kept. The new machine is the same folder."""
+    for name in (it.replace(".db", end) for it in (COPY, LATER) for end in (".db", ".tar")):
+        at.write(f"{BACKUPS}/{name}", '{"child":0}\n')
+        at.write(f"mnt/copies/{NAME}/{name}", '{"child":0}\n')
+    at.write(f"{BACKUPS}/{LATER}", "changed")
+    at.history(f"var/lib/admissions-office/{NAME}/history.jsonl", 1, 2)
+    commands = "".join(f'{{"child":{it},"cmd":"accept"}}\n' for it in (1, 2))
+    at.write(f"var/lib/admissions/{NAME}/reg.db", f'{{"child":0}}\n{commands}')
+    for name in ("usr/bin/admissions", "usr/sbin/admissions-setup", "usr/lib/admissions/drill"):
+        at.write(name, "of the release")
+    at.write(PROGRAM, "of another")
+    close, keep = blocks_of("Somebody has broken in")[2:4]
+    assert at.run(close)[0] == 0
+    status, text = at.run(keep)
+    assert (status, text.split()[1:]) == (0, ["SHA256SUMS"])
+    at.write(PROGRAM, "of the release")
+    return at
+
+
+def test_a_site_is_taken_down_and_its_evidence_kept(broken_into: Machine) -> None:
+    assert broken_into.calls.read_text(encoding="utf-8").splitlines() == [
+        "mask --now nginx",
+        "stop admissions-*@*.timer admissions-office@* admissions@*.service admissions-door@*"]
+    kept = broken_into.room / "mnt/evidence"
+    assert sorted(it.name for it in kept.iterdir()) == [
+        "SHA256SUMS", "journal.gz", "machine.tar.gz", "people.txt"]
+    assert {it.stat().st_mode & 0o077 for it in kept.iterdir()} == {0}
+    people = (kept / "people.txt").read_text(encoding="utf-8")
+    assert people.count("SYSLOG_IDENTIFIER=admissions-") == 2
+    (kept / "people.txt").write_text(f"{NAME}: a sign-in failed from 192.0.2.7 (password)\n")
+    assert "192.0.2.7" in broken_into.run(blocks_of("Somebody has broken in")[9])[1]
+
+
+def test_programs_and_copies_that_were_changed_are_printed(broken_into: Machine) -> None:
+    """Those alone; and evidence that was changed is not unpacked."""
+    unpack, _, compare = blocks_of("Somebody has broken in")[5:8]
+    status, text = broken_into.run(unpack)
+    assert (status, text.count("differ"), PROGRAM in text) == (0, 1, True)
+    _, text = broken_into.run(compare)
+    assert (text.count("differ"), LATER in text) == (1, True)
+    (broken_into.room / "mnt/copies" / NAME / COPY).unlink()
+    assert f"{NAME}/{COPY}: No such file" in broken_into.run(compare)[1]
+    subprocess.run(["rm", "-r", broken_into.room / "root/seized"], check=True)
+    with (broken_into.room / "mnt/evidence/machine.tar.gz").open("ab") as file:
+        file.write(b"X")
+    assert broken_into.run(unpack)[0] == 1
+    assert not (broken_into.room / "root/seized").exists()
+
+
+def test_a_register_is_its_copy_with_the_commands_of_the_history(broken_into: Machine) -> None:
+    """Or it was changed past the history, which is printed."""
+    blocks = blocks_of("Somebody has broken in")
+    assert broken_into.run(blocks[5])[0] == 0
+    copy = f"{broken_into.room}/mnt/copies/{NAME}/{COPY}"
+    assert broken_into.run(blocks[8], COPY=copy) == (
+        0, "the register is that copy with the commands of the history\n")
+    subprocess.run(["rm", "-r", broken_into.room / "root/check"], check=True)
+    register = broken_into.room / f"root/seized/var/lib/admissions/{NAME}/reg.db"
+    with register.open("a", encoding="utf-8") as file:
+        file.write('{"child":7}\n')
+    status, text = broken_into.run(blocks[8], COPY=copy)
+    assert (status, '>         "child": 7' in text) == (1, True)
