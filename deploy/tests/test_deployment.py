@@ -22,9 +22,19 @@ COPY = "nightly-000012-2025-03-03T023000.db"
 # to which `do` adds, and which `show` prints as JSON
 STANDS_IN = {
     "systemctl": 'echo "$*" >> "$CALLS"',
+    "chown": 'echo "chown $*" >> "$CALLS"',
+    "setpriv": 'while [[ $1 == --* ]]; do shift; done; exec "$@"',
     "journalctl": 'echo "journal: $*"',
     "mountpoint": 'test -d "$1"',
     "admissions-restore": 'cp "$1" "$2"',
+    # (of a register, whose history is in this folder)
+    "admissions-sent": f"""
+if [ "$1" = {NAME} ]; then
+    shift
+    set -- --history "$ROOM/var/lib/admissions-office/{NAME}/history.jsonl" "$@"
+fi
+exec "$ROOM/bin/tools/admissions-sent" "$@"
+""",
     # (without the owner and the group)
     "install": """
 given=()
@@ -33,7 +43,8 @@ exec /usr/bin/install "${given[@]}"
 """,
     "admissions-setup": """
 if [ "$2" = --users ]; then printf 'jane head\nrobot officer (a program)\n'; exit; fi
-if read -r || [ "$4" != --new-password ]; then exit 1; fi
+if [ "$4" != --new-password ]; then echo "admissions-setup $*" >> "$CALLS"; exit; fi
+if read -r; then exit 1; fi
 echo "$3 signs in at https://x/ with the password of-$3"
 """,
     "admissions": """
@@ -146,7 +157,8 @@ class Machine:
         self.calls.touch()
         for name, text in STANDS_IN.items():
             self.write(f"bin/{name}", f"#!/bin/bash\n{text}\n").chmod(0o755)
-        (room / "bin/admissions-sent").symlink_to(COMMAND)
+        (room / "bin/tools").mkdir()
+        (room / "bin/tools/admissions-sent").symlink_to(COMMAND)
 
     def write(self, name: str, text: str) -> pathlib.Path:
         """A file with this text."""
@@ -165,9 +177,22 @@ class Machine:
         lines = re.sub(r"(?m)^cd /$", f"cd {self.room}", lines)
         path = f"{self.room}/bin:{os.environ['PATH']}"
         done = subprocess.run(
-            ["bash"], input=lines, text=True, stdout=subprocess.PIPE, stderr=subprocess.STDOUT,
-            check=False, cwd=self.room, env=os.environ | {"PATH": path, "CALLS": str(self.calls)})
+            ["bash", "-c", lines], stdin=subprocess.DEVNULL, stdout=subprocess.PIPE, text=True,
+            stderr=subprocess.STDOUT, check=False, cwd=self.room,
+            env=os.environ | {"PATH": path, "CALLS": str(self.calls), "ROOM": str(self.room)})
         return done.returncode, done.stdout
+
+    def called(self) -> list[str]:
+        """What was called of those that are no part of this folder, since this was asked last."""
+        found = self.calls.read_text(encoding="utf-8").replace(f"{self.room}/", "/").splitlines()
+        self.calls.write_text("", encoding="utf-8")
+        return found
+
+    def content(self, name: str) -> dict[str, bytes]:
+        """The files below a folder, with what each has."""
+        folder = self.room / name
+        return {str(it.relative_to(folder)): it.read_bytes()
+                for it in folder.rglob("*") if it.is_file()}
 
     def history(self, name: str, *children: int) -> pathlib.Path:
         """A history of commands that were done, in this file."""
@@ -205,11 +230,77 @@ def test_a_copy_is_kept_under_a_name_that_is_free(at: Machine) -> None:
     assert at.run(lines) == (0, "")
     kept = [at.room / BACKUPS / f"before-round-1.{it}" for it in ("db", "tar")]
     assert [it.read_text(encoding="utf-8") for it in kept] == ["the register", "people"]
-    assert at.calls.read_text(encoding="utf-8").splitlines() == [
+    assert at.called() == [
         f"start admissions-backup@{NAME}", f"start admissions-second-copy@{NAME}"]
     at.write(f"{BACKUPS}/{COPY}", "later")
     assert at.run(lines)[0] == 1
     assert kept[0].read_text(encoding="utf-8") == "the register"
+
+
+def test_a_disk_is_the_second_place(at: Machine) -> None:
+    """If it is mounted, and not otherwise."""
+    lines = blocks_of("The second place")[0]
+    at.write("etc/admissions/second-copy", "none\n")
+    assert at.run(lines)[0] == 1 and at.called() == []
+    (at.room / "mnt/copies").mkdir()
+    assert at.run(lines)[0] == 0
+    assert at.called() == ["chown admissions: /mnt/copies"]
+    place = (at.room / "etc/admissions/second-copy").read_text(encoding="utf-8")
+    assert place == f"{at.room}/mnt/copies\n"
+
+
+OFFICE_ENDS = f"stop admissions-office@{NAME}.socket admissions-office@{NAME}.service"
+
+
+def test_a_register_is_restored_and_what_it_lacks_sent_again(at: Machine) -> None:
+    """A nightly copy on the machine itself; the commands since it, by those of the history."""
+    register = at.write(f"var/lib/admissions/{NAME}/reg.db", "damaged")
+    at.write(f"{BACKUPS}/{COPY}", '{"child":0}\n')
+    at.history(f"var/lib/admissions-office/{NAME}/history.jsonl", 1, 2)
+    restore, people = blocks_of("Restore on this machine")
+    assert at.run(restore, COPY="nightly-x.db")[0] == 1 and at.called() == []
+    assert at.run(restore) == (0, "")
+    assert at.called() == [f"{OFFICE_ENDS} admissions@{NAME}"]
+    printed, send, _ = blocks_of("Send again what a copy lacks")
+    status, text = at.run(printed + send)
+    assert (status, text.split()[0], text.splitlines()[-1]) == (0, "2", "all are done")
+    assert register.read_text(encoding="utf-8") == '{"child":0}\n' + "".join(
+        f'{{"child":{it},"cmd":"accept"}}\n' for it in (1, 2))
+    assert at.called()[1:] == [
+        f"{OFFICE_ENDS} admissions@{NAME}",
+        f"start admissions@{NAME} {OFFICE_ENDS.removeprefix('stop ')}"]
+    office = f"var/lib/admissions-office/{NAME}"
+    at.write(f"{office}/office.db", "people of now")
+    at.write(f"{office}/office.db-wal", "log of now")
+    assert at.run(people)[0] == 1 and at.called() == []
+    at.write(f"{BACKUPS}/{COPY.replace('.db', '.tar')}", "people of then")
+    assert at.run(people) == (0, "")
+    assert at.called() == [
+        OFFICE_ENDS, f"admissions-setup {NAME} --copy /{BACKUPS}/{COPY}"]
+    assert at.content(f"{office}/aside") == {
+        "office.db": b"people of now", "office.db-wal": b"log of now"}
+    assert not (at.room / office / "office.db").exists()
+
+
+def test_a_register_is_moved_away_and_brought_back(at: Machine) -> None:
+    """With all its files, also where it was begun and interrupted."""
+    names = [f"{it}/{NAME}" for it in ("var/lib/admissions", "var/lib/admissions-office",
+                                       "var/backups/admissions", "etc/admissions")]
+    for it in names:
+        at.write(f"{it}/of", it)
+    site = at.write(f"etc/nginx/sites-available/admissions-{NAME}", "site")
+    before = [at.content(it) for it in names]
+    away, back = blocks_of("Move a register away")
+    assert at.run(away)[0] == 1 and [at.content(it) for it in names] == before
+    (at.room / "mnt/kept").mkdir()
+    at.write(f"{names[2]}.moved/of", "what an interrupted run has left")
+    assert at.run(away)[0] == 0
+    assert not [it for it in names if list(at.room.glob(f"{it}*"))] and not site.exists()
+    assert at.called()[-1] == "admissions-setup --sites"
+    assert at.run(back)[0] == 0
+    assert [at.content(it) for it in names] == before
+    assert at.called() == [f"admissions-setup {NAME}"]
+    assert at.run(back)[0] == 1 and [at.content(it) for it in names] == before
 
 
 def test_a_history_that_was_changed_is_replaced_by_a_whole_copy(at: Machine) -> None:
@@ -268,7 +359,7 @@ def broken_into_fixture(at: Machine) -> Machine:
 
 
 def test_a_site_is_taken_down_and_its_evidence_kept(broken_into: Machine) -> None:
-    assert broken_into.calls.read_text(encoding="utf-8").splitlines() == [
+    assert broken_into.called() == [
         "mask --now nginx",
         "stop admissions-*@*.timer admissions-office@* admissions@*.service admissions-door@*"]
     kept = broken_into.room / "mnt/evidence"
@@ -295,6 +386,20 @@ def test_programs_and_copies_that_were_changed_are_printed(broken_into: Machine)
         file.write(b"X")
     assert broken_into.run(unpack)[0] == 1
     assert not (broken_into.room / "root/seized").exists()
+
+
+def test_encrypted_copies_are_decrypted_aside(at: Machine) -> None:
+    """With the identity file in memory, and all of them: also the history."""
+    key = at.room / "run/vault.key"
+    subprocess.run(["age-keygen", "-o", key], check=True, capture_output=True)
+    public = subprocess.run(["age-keygen", "-y", key], check=True, capture_output=True, text=True)
+    wanted = {COPY: b"a register", COPY.replace(".db", ".tar"): b"people",
+              "history/history-000001-0123456789abcdef.gz": b"who did what"}
+    for name, data in wanted.items():
+        path = at.write(f"mnt/copies/{NAME}/{name}.age", "")
+        subprocess.run(["age", "-r", public.stdout.strip(), "-o", path], input=data, check=True)
+    assert at.run(blocks_of("Somebody has broken in")[6]) == (0, "")
+    assert at.content(f"root/copies/{NAME}") == wanted
 
 
 def test_a_register_is_its_copy_with_the_commands_of_the_history(broken_into: Machine) -> None:
