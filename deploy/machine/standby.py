@@ -221,13 +221,16 @@ def take_over(given: argparse.Namespace, set_up: typing.Callable[[], int]) -> in
     register = named(given.name)
     wanted = (given.copy or "").removesuffix(sealed.END)
     found = begun(register)
+    if found and wanted not in ("", found.copy):
+        if register.is_made:
+            raise Refused(f"{register.file} is made from {found.copy} already. To begin again with"
+                          " another copy, end this takeover without --copy, and delete the register"
+                          f" (admissions-retire {register.name} --early REASON, without"
+                          " --second-place)")
+        # (people and settings are taken after the register is made)
+        found = None
     if found:
         copy = register.copies / found.copy
-        if wanted not in ("", found.copy):
-            raise Refused(f"the takeover of {register.name} from {copy} has begun, and goes on with"
-                          " that copy alone. To begin again with another one, end this one without"
-                          f" --copy, and delete the register (admissions-retire {register.name}"
-                          " --early REASON, without --second-place)")
         print(f"goes on with the takeover of {register.name} from {copy}", flush=True)
     else:
         copy = fetch(given.name, given.standby, wanted)

@@ -273,10 +273,11 @@ def test_a_takeover_that_was_killed_goes_on_and_prints_the_same(
 
 def test_a_takeover_by_an_older_copy(
     place: pathlib.Path, machine: pathlib.Path, write_as_me: None,
-    capfd: pytest.CaptureFixture[str],
+    monkeypatch: pytest.MonkeyPatch, capfd: pytest.CaptureFixture[str],
 ) -> None:
     """It prints the commands since that copy, of which somebody must leave out what it was chosen
-    for. One that has begun takes no other copy."""
+    for. Once the register is made from one, no other is taken."""
+    monkeypatch.setattr(registers, "is_blank", lambda _: False)
     other = registers.Register("other")
     other.office.mkdir()
     for child, moment in enumerate(("02-02:31", "02-09:00", "03-09:00"), 1):
@@ -290,14 +291,20 @@ def test_a_takeover_by_an_older_copy(
     def killed() -> int:
         raise KeyboardInterrupt
 
+    def made_and_killed() -> int:
+        register.folder.mkdir()
+        register.file.write_text("made", encoding="ascii")
+        raise KeyboardInterrupt
+
     def set_up() -> int:
         register.office.mkdir()
         register.history.write_bytes(other.history.read_bytes())
         return 0
 
-    with pytest.raises(KeyboardInterrupt):
-        standby.take_over(given_to(place, "--copy", f"{COPIES[1]}.age"), killed)
-    with pytest.raises(Refused, match=f"from .*{COPIES[1]} has begun, and goes on with that copy"):
+    for step, name in ((killed, COPIES[0]), (made_and_killed, f"{COPIES[1]}.age")):
+        with pytest.raises(KeyboardInterrupt):
+            standby.take_over(given_to(place, "--copy", name), step)
+    with pytest.raises(Refused, match=f"reg.db is made from {COPIES[1]} already"):
         standby.take_over(given_to(place, "--copy", COPIES[2]), set_up)
     assert not register.history.exists()
     capfd.readouterr()
