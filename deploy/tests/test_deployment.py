@@ -15,7 +15,7 @@ PAGE = (ROOT / "docs/DEPLOYMENT.md").read_text(encoding="utf-8")
 NAME = "secondary-2025"
 COMMAND = ROOT / "office/command"
 # what the lines name of a machine
-FOLDERS = ("etc", "home", "mnt", "root", "run", "usr", "var")
+FOLDERS = ("etc", "home", "media", "mnt", "root", "run", "usr", "var")
 BACKUPS = f"var/backups/admissions/{NAME}"
 COPY = "nightly-000012-2025-03-03T023000.db"
 # in place of commands that need root, systemd or the program: a register is a file of lines here,
@@ -25,6 +25,8 @@ STANDS_IN = {
     "chown": 'echo "chown $*" >> "$CALLS"',
     "setpriv": 'while [[ $1 == --* ]]; do shift; done; exec "$@"',
     "journalctl": 'echo "journal: $*"',
+    "apt": 'echo "apt $*" >> "$CALLS"',
+    "admissions-status": "true",
     "mountpoint": 'test -d "$1"',
     "admissions-restore": 'cp "$1" "$2"',
     # (of a register, whose history is in this folder)
@@ -50,6 +52,7 @@ echo "$3 signs in at https://x/ with the password of-$3"
     "admissions": """
 case $1 in
     do) while read -r it; do echo "$it" >> "$2"; echo '{"done":true}'; done ;;
+    import) cat "$3" >> "$2" ;;
     show) sed '1s/^/[/; $!s/$/,/; $s/$/]/' "$2" ;;
 esac
 """,
@@ -280,6 +283,49 @@ def test_a_register_is_restored_and_what_it_lacks_sent_again(at: Machine) -> Non
     assert at.content(f"{office}/aside") == {
         "office.db": b"people of now", "office.db-wal": b"log of now"}
     assert not (at.room / office / "office.db").exists()
+
+
+def test_an_import_is_sent_again_between_the_commands(at: Machine) -> None:
+    """By the lines that replace one of the block, with the number that admissions-sent names."""
+    register = at.write(f"var/lib/admissions/{NAME}/reg.db", "")
+    path = at.history(f"var/lib/admissions-office/{NAME}/history.jsonl", 1)
+    record = History(str(path), lambda: "2025-03-03T10:00:00.000+00:00")
+    of = record.add("jane", SENDS, {"import": "rows\n"}).number
+    record.add("jane", ANSWER, {"of": of, "answer": {"done": True}})
+    record.close()
+    at.history(path.relative_to(at.room).as_posix(), 2, 3)
+    printed, send, between = blocks_of("Send again what a copy lacks")
+    assert "after 1 of the printed commands" in at.run(printed)[1]
+    # (the page's example is after 57 of them)
+    lines, count = re.subn(r"(?m)^as_desk do .*\n", between.replace("57", "1").replace("58", "2"),
+                           send)
+    assert count == 1
+    status, text = at.run(f"NAME={NAME}\n{lines}")
+    assert (status, text) == (0, "all are done\n")
+    assert register.read_text(encoding="utf-8").splitlines() == [
+        '{"child":1,"cmd":"accept"}', "rows", '{"child":2,"cmd":"accept"}',
+        '{"child":3,"cmd":"accept"}']
+
+
+def test_a_recipient_is_named_and_no_other_text(at: Machine) -> None:
+    _, lines, _, _ = blocks_of("Encrypt the second place")
+    path = at.write("etc/admissions/second-copy-recipient", "")
+    assert at.run(lines)[0] == 1 and at.run(lines, RECIPIENT="AGE-SECRET-KEY-1")[0] == 1
+    assert path.read_text(encoding="utf-8") == "" and at.called() == []
+    assert at.run(lines, RECIPIENT="age1x") == (0, "")
+    assert path.read_text(encoding="utf-8") == "age1x\n"
+    assert at.called()[-1] == f"start admissions-second-copy@{NAME}"
+
+
+@pytest.mark.parametrize("status", [0, 1])
+def test_a_drill_leaves_no_identity_file(status: int, at: Machine) -> None:
+    """Whether it succeeds or fails; meanwhile its user alone may read the file."""
+    key = at.write("media/usb/vault.key", "secret")
+    at.write("usr/lib/admissions/drill", f"""#!/bin/bash
+stat -c '%a' "$3"; cat "$3"; exit {status}
+""").chmod(0o755)
+    assert at.run(blocks_of("Encrypt the second place")[2]) == (status, "400\nsecret")
+    assert not (at.room / "run/vault.key").exists() and key.exists()
 
 
 def test_a_register_is_moved_away_and_brought_back(at: Machine) -> None:
