@@ -2,11 +2,11 @@
 use Rattle.std.proofs.Common.{◌≡◌, ◌⊎◌, ℕ, zero, suc, ◌+◌, ◌||◌, Bool, true, false, List, [], ◌∷◌, ◌++◌, take, Option, None, Some, Result, Ok, Err, inl, inr, refl, sym, ap, ◌∙◌, subst, append_assoc, append-nil, add-zero, add-suc}
 use Rattle.std.specs.Prelude.{codes, is_err, MatchResult}
 use Rattle.std.specs.Io.KnownBytes.{Appends, Keeps}
-use Rattle.std.proofs.KnownBytes.{Appends-trans}
+use Rattle.std.proofs.KnownBytes.{Appends-nil, Appends-trans}
 use Rattle.adm_http.specs.declared.body_answer.BodyAnswer.{BodyAnswer}
-use Rattle.adm_http.specs.Reading.{Request, HasRead, Served, IsUnanswered}
+use Rattle.adm_http.specs.Reading.{Request, HasRead, Served, IsUnanswered, is_connection_fault, is_read_fault}
 use Rattle.adm_http.specs.Responses.{Responds}
-use Rattle.adm_http.specs.Connections.{Traffic, IsIdle, Takes, Ends, Exchanges, ServesOpen, Errors, Prints, PrintsAccepts, accept_lines, Moment, ServesTurn, ServesEach, AnswersOne, AnswersUpTo}
+use Rattle.adm_http.specs.Connections.{EndedConnection, Traffic, IsIdle, Takes, TakesNext, Ends, Exchanges, ServesOpen, Errors, PrintsExactly, PrintsAccepts, accept_lines, connection_fault_line, outcome_line, Moment, ServesTurn, ServesEach, AnswersOne, AnswersUpTo}
 use Rattle.adm_http.specs.declared.routes.Purpose.{Purpose}
 use Rattle.adm_http.specs.declared.routes.Resource.{Resource}
 use Rattle.adm_http.specs.declared.request_handler.ShowResult.{ShowResult}
@@ -15,7 +15,7 @@ use Rattle.adm_http.specs.declared.serve.ServeFault.TheVariants.{Read, Write, Me
 
 -- ---- what is printed
 
-pub prints_more : (a b c : Errors) (x y : List ℕ) → Prints a b x → Prints b c y → Prints a c (x ++ y)
+pub prints_more : (a b c : Errors) (x y : List ℕ) → PrintsExactly a b x → PrintsExactly b c y → PrintsExactly a c (x ++ y)
 prints_more a b c x y first second unfailed =
     let last = second unfailed in
     let before = first last.0 in
@@ -31,7 +31,7 @@ failed_now false b now unfailed = cc
 
 pub put_prints : {A B : Type 0} (a b : Errors) (text : List ℕ) (result : Result A B)
     → MatchResult result (λ _. Appends a.printed b.printed text) (λ _. (n : ℕ) × Appends a.printed b.printed (take n text))
-    → b.has_failed ≡ (a.has_failed || is_err result) → Prints a b text
+    → b.has_failed ≡ (a.has_failed || is_err result) → PrintsExactly a b text
 put_prints a b text (Ok x) written fails unfailed = (unfailed_before a.has_failed b.has_failed fails unfailed, written)
 put_prints a b text (Err e) written fails unfailed = absurd (failed_now a.has_failed b.has_failed fails unfailed)
 
@@ -45,30 +45,40 @@ accept_lines_sum n (suc m) =
 
 pub accepts_more : (a b c : Errors) → PrintsAccepts a b → PrintsAccepts b c → PrintsAccepts a c
 accepts_more a b c first second =
-    (first.0 + second.0, subst (Prints a c) (accept_lines_sum first.0 second.0) (prints_more a b c _ _ first.1 second.1))
+    (first.0 + second.0, subst (PrintsExactly a c) (accept_lines_sum first.0 second.0) (prints_more a b c _ _ first.1 second.1))
 
-pub accept_printed : (a b c : Errors) → PrintsAccepts a b → Prints b c (codes "fault: Accept\n") → PrintsAccepts a c
+pub accept_printed : (a b c : Errors) → PrintsAccepts a b → PrintsExactly b c (codes "fault: Accept\n") → PrintsAccepts a c
 accept_printed a b c first second = accepts_more a b c first (1, second)
 
 -- ---- connections
 
-pub ends_idle : (old new : Option Traffic) (written : List ℕ) → Ends old new written → IsIdle new
-ends_idle None new written ends = subst IsIdle (sym ends) tt
-ends_idle (Some t) None written ends = absurd ends
-ends_idle (Some t) (Some new) written ends = ends.2
+pub ends_idle : (old new : Option Traffic) (ended : EndedConnection) → Ends old new ended → IsIdle new
+ends_idle None new ended ends = subst IsIdle (sym ends) tt
+ends_idle (Some t) None ended ends = absurd ends
+ends_idle (Some t) (Some new) ended ends = ends.3
 
-exchanges : (old mid new : Option Traffic) (unread : Option (List ℕ)) (written : List ℕ) → Takes old mid (Some unread) → Ends mid new written
-    → Exchanges old new unread written
-exchanges None mid new unread written takes ends = subst (λ (m : Option Traffic). Ends m new written) takes ends
-exchanges (Some t) None new unread written takes ends = absurd takes
-exchanges (Some t) (Some m) None unread written takes ends = absurd ends
-exchanges (Some t) (Some m) (Some new) unread written takes ends = (
+exchanges : (old mid new : Option Traffic) (failed : ℕ) (unread : Option (List ℕ)) (ended : EndedConnection) → Takes old mid failed (Some unread) → Ends mid new ended
+    → Exchanges old new failed unread ended
+exchanges None mid new failed unread ended takes ends = subst (λ (m : Option Traffic). Ends m new ended) takes ends
+exchanges (Some t) None new failed unread ended takes ends = absurd takes
+exchanges (Some t) (Some m) None failed unread ended takes ends = absurd ends
+exchanges (Some t) (Some m) (Some new) failed unread ended takes ends = (
   takes.0,
   takes.1,
   takes.2 ∙ ap (λ l. takes.0 ∷ l) (sym ends.0),
-  ends.1 ∙ ap (λ l. l ++ (written ∷ [])) takes.3,
-  ends.2,
+  ends.1 ∙ ap (λ l. l ++ (ended ∷ [])) takes.3,
+  ends.2 ∙ takes.4,
+  ends.3,
 )
+
+-- a write that failed is a failure, whatever was before
+pub write_failed : (was : Bool) → true ≡ (was || true)
+write_failed true = refl
+write_failed false = refl
+
+-- a connection ended so, where whether it failed is known otherwise
+pub ended_so : (old new : Option Traffic) (written : List ℕ) (a b : Bool) → a ≡ b → Ends old new (record { written = written; has_failed = a }) → Ends old new (record { written = written; has_failed = b })
+ended_so old new written a b same ends = subst (λ (failed : Bool). Ends old new (record { written = written; has_failed = failed })) same ends
 
 -- ---- a request
 
@@ -79,20 +89,41 @@ module _ {S : Type 0} (runs : Purpose → S → List ℕ → BodyAnswer → S �
   unanswered r was written Write none kept = absurd none
   unanswered r was written Memory none kept = (none.0, none.1, kept, none.2)
 
-  -- a connection that was answered
-  pub answered_turn : (old new : Moment S) (mid : Option Traffic) (unread : Option (List ℕ)) (n : ℕ) → Takes old.traffic mid (Some unread) → PrintsAccepts old.errors new.errors
-      → ServesOpen runs shows (record { desk = old.desk; traffic = mid }) (record { desk = new.desk; traffic = new.traffic }) unread (Ok n) → ServesTurn runs shows old new
-  answered_turn old new mid unread n takes accepts served = inr
+  -- of a connection that no response was made to, a read has failed exactly at the error Read
+  pub failed_unanswered : (r : Request S) (was now : Bool) (fault : ServeFault) → IsUnanswered runs shows r fault → now ≡ (was || is_read_fault {A = ℕ} (Err fault))
+      → now ≡ (was || is_connection_fault {A = ℕ} (Err fault))
+  failed_unanswered r was now Read none fails = fails
+  failed_unanswered r was now Write none fails = absurd none
+  failed_unanswered r was now Memory none fails = fails
+
+  -- the turn of a connection that had not failed, from the writer of errors before its own error was printed
+  served_turn : (old new : Moment S) (mid : Option Traffic) (between : Errors) (unread : Option (List ℕ)) (had_failed : Bool) (result : Result ℕ ServeFault) → TakesNext old.traffic mid (Some unread) old.errors between
+      → had_failed ≡ false → ServesOpen runs shows (record { desk = old.desk; traffic = mid }) (record { desk = new.desk; traffic = new.traffic }) unread had_failed result
+      → PrintsExactly between new.errors (outcome_line result) → ServesTurn runs shows old new
+  served_turn old new mid between unread had_failed result takes unfailed served printed = inr
       (record {
+        failed = takes.0;
         unread = unread;
         left = served.0;
         written = served.1;
-        result = Ok n;
-        exchanged = exchanges old.traffic mid new.traffic unread served.1 takes served.3;
+        result = result;
+        exchanged = exchanges old.traffic mid new.traffic takes.0 unread (record { written = served.1; has_failed = is_connection_fault result }) takes.1
+            (ended_so mid new.traffic served.1 (had_failed || is_connection_fault result) (is_connection_fault result) (ap (λ (b : Bool). b || is_connection_fault result) unfailed) served.3);
         served = served.2;
-        failed = accepts.0;
-        printed = subst (Prints old.errors new.errors) (sym (append-nil (accept_lines accepts.0))) accepts.1;
+        printed = prints_more old.errors between new.errors (accept_lines takes.0) (outcome_line result) takes.2 printed;
       })
+
+  -- a connection that was answered
+  pub answered_turn : (old new : Moment S) (mid : Option Traffic) (unread : Option (List ℕ)) (had_failed : Bool) (n : ℕ) → TakesNext old.traffic mid (Some unread) old.errors new.errors → had_failed ≡ false
+      → ServesOpen runs shows (record { desk = old.desk; traffic = mid }) (record { desk = new.desk; traffic = new.traffic }) unread had_failed (Ok n) → ServesTurn runs shows old new
+  answered_turn old new mid unread had_failed n takes unfailed served =
+      served_turn old new mid new.errors unread had_failed (Ok n) takes unfailed served (λ alive. (alive, Appends-nil new.errors.printed))
+
+  -- a connection whose error was printed
+  pub failed_turn : (old new : Moment S) (mid : Option Traffic) (between : Errors) (unread : Option (List ℕ)) (had_failed : Bool) (fault : ServeFault) → TakesNext old.traffic mid (Some unread) old.errors between
+      → had_failed ≡ false → ServesOpen runs shows (record { desk = old.desk; traffic = mid }) (record { desk = new.desk; traffic = new.traffic }) unread had_failed (Err fault)
+      → PrintsExactly between new.errors (connection_fault_line fault) → ServesTurn runs shows old new
+  failed_turn old new mid between unread had_failed fault takes unfailed served printed = served_turn old new mid between unread had_failed (Err fault) takes unfailed served printed
 
   of_served : (r : Request S) (was written : Option (List ℕ)) (result : Result ℕ ServeFault) → Served runs shows r was written result → AnswersOne runs shows r.before r.after
   of_served r was written (Ok n) served = inr (served.0, served.1, served.3)

@@ -1,5 +1,5 @@
 -- Where reading a request stops, and what serving one leaves.
-use Rattle.std.specs.Prelude.{◌≡◌, ℕ, ◌+◌, ◌<◌, ◌≤◌, ◌⊎◌, Bool, true, false, List, ◌++◌, length, take, drop, Option, Result, Ok, Err, ⊤}
+use Rattle.std.specs.Prelude.{◌≡◌, ℕ, ◌+◌, ◌<◌, ◌≤◌, ◌⊎◌, ◌||◌, Bool, true, false, List, ◌++◌, length, take, drop, Option, Result, Ok, Err, ⊤}
 use Rattle.std.specs.Io.KnownBytes.{Consumes, Appends, Keeps, IsAtEnd}
 use Rattle.adm_http.specs.Heads.{IsJudgement}
 use Rattle.adm_http.specs.Responses.{Responds}
@@ -93,6 +93,10 @@ is_write_fault (Ok a) = false
 is_write_fault (Err Read) = false
 is_write_fault (Err Write) = true
 is_write_fault (Err Memory) = false
+
+-- whether the error is the connection's: that of its reader or of its writer
+abbrev pub is_connection_fault : {A : Type 0} → Result A ServeFault → Bool
+is_connection_fault result = is_read_fault result || is_write_fault result
 
 -- ---- for a private clause
 

@@ -1,6 +1,6 @@
 // Connections, taken one after the other, and their port, through traits whose contracts see their bytes.
-ghost use Rattle.std.specs.Prelude.{◌≡◌, ℕ, [], Option, option_map, take, MatchResult, OnOk, OnErr};
-ghost use Rattle.adm_http.specs.Connections.{Traffic, Takes, Ends, IsIdle, IsOpen, PrintsAccepts, errors_of};
+ghost use Rattle.std.specs.Prelude.{◌≡◌, ℕ, [], false, true, Option, option_map, take, IfSome, MatchResult, OnOk, OnErr};
+ghost use Rattle.adm_http.specs.Connections.{Traffic, TakesNext, Ends, IsIdle, IsOpen, ended, errors_of};
 
 use adm_wire::{Input, Output, WriteFailed};
 
@@ -14,23 +14,26 @@ pub trait Connections {
     ghost traffic: { Self → Option Traffic };
 
     /// Takes the next connection: none only where none comes any more. At most `most` are accepted
-    /// before one is given out. An accept that fails is no connection: it is printed.
+    /// before one is given out. An accept that fails is no connection: it is printed. A connection that
+    /// is given out has not failed.
     fn next<E: Output>(&mut self, most: usize, errors: &mut E) -> Option<Self::Connection>
         requires { IsIdle (traffic self.old) }
-        ensures taken { Takes (traffic self.old) (traffic self.new) (option_map Self.Connection.remaining result) }
-        ensures printed { PrintsAccepts (errors_of E.Output errors.old) (errors_of E.Output errors.new) };
+        ensures taken { TakesNext (traffic self.old) (traffic self.new) (option_map Self.Connection.remaining result)
+            (errors_of E.Output errors.old) (errors_of E.Output errors.new) }
+        ensures unfailed { IfSome result (λ connection. Self.Connection.has_failed connection ≡ false) };
 
-    /// Writes the response to the connection, and ends it. At a failure a beginning was written.
+    /// Writes the response to the connection, and ends it. At the `Err` the connection has failed, and
+    /// a beginning was written.
     fn respond(&mut self, connection: Self::Connection, output: &[u8]) -> Result<(), WriteFailed>
         requires { IsOpen (traffic self.old) }
         ensures { MatchResult result
-            (λ _. Ends (traffic self.old) (traffic self.new) output.now)
-            (λ _. (n : ℕ) × Ends (traffic self.old) (traffic self.new) (take n output.now)) };
+            (λ _. Ends (traffic self.old) (traffic self.new) (ended output.now (Self.Connection.has_failed connection)))
+            (λ _. (n : ℕ) × Ends (traffic self.old) (traffic self.new) (ended (take n output.now) true)) };
 
     /// Ends the connection without a response.
     fn close(&mut self, connection: Self::Connection)
         requires { IsOpen (traffic self.old) }
-        ensures { Ends (traffic self.old) (traffic self.new) [] };
+        ensures { Ends (traffic self.old) (traffic self.new) (ended [] (Self.Connection.has_failed connection)) };
 }
 
 /// The port was not taken.

@@ -3,7 +3,7 @@ ghost use Rattle.std.specs.Prelude.{◌≡◌, if◌then◌else◌};
 ghost use Rattle.sqlite.specs.Held.{state};
 ghost use Rattle.adm_desk.specs.DeskState.{Handles};
 ghost use Rattle.adm_http.specs.Purposes.{RunsBody};
-ghost use Rattle.adm_http.specs.Connections.{AnswersUpTo, ServesEach, ServesTurn, ServesOpen, IsIdle, IsOpen, connection_fault_line, moment};
+ghost use Rattle.adm_http.specs.Connections.{AnswersUpTo, ServesEach, ServesTurn, ServesOpen, IsIdle, IsOpen, connection_fault_line, moment, service};
 ghost use Rattle.adm_http.specs.Shows.{Shows};
 
 use crate::connections::Connections;
@@ -95,9 +95,9 @@ fn serve_connection<A: RequestHandler, N: Connections>(
 ) -> Result<usize, ServeFault>
     requires { IsOpen (N.traffic connections.old) }
     ensures { ServesOpen A.runs A.shows
-        (record { desk = A.view desk.old; traffic = N.traffic connections.old })
-        (record { desk = A.view desk.new; traffic = N.traffic connections.new })
-        (N.Connection.remaining connection) result }
+        (service (A.view desk.old) (N.traffic connections.old))
+        (service (A.view desk.new) (N.traffic connections.new))
+        (N.Connection.remaining connection) (N.Connection.has_failed connection) result }
 {
     match answer_request(alloc, routes, desk, &mut connection) {
         Ok(output) => match connections.respond(connection, &output) {

@@ -6,7 +6,7 @@ use Rattle.std.proofs.KnownBytes.{Appends-trans}
 use Rattle.std.proofs.lemmas.Grind.{flat_map-append}
 use Rattle.std.proofs.lemmas.List.{append-nil}
 use Rattle.adm_desk.proofs.Known.{Appends-nothing}
-use Rattle.adm_http.specs.Connections.{Errors, Moment, Prints, ServesTurn, ServesEach, accept_lines, outcome_line}
+use Rattle.adm_http.specs.Connections.{Errors, Moment, PrintsExactly, ServesTurn, ServesEach, accept_lines, outcome_line}
 use Rattle.adm_http.specs.declared.body_answer.BodyAnswer.{BodyAnswer}
 use Rattle.adm_http.specs.declared.request_handler.ShowResult.{ShowResult}
 use Rattle.adm_http.specs.declared.routes.Purpose.{Purpose}
@@ -43,8 +43,8 @@ of_outcome : (result : Result ℕ ServeFault) → IsOfLines (outcome_line result
 of_outcome (Ok n) = ([], tt, refl)
 of_outcome (Err fault) = of_line _ (inr (fault, refl))
 
-prints : (old new : Errors) (text : List ℕ) → IsOfLines text → Prints old new text → PrintsConnections old new
-prints old new text it printed = (it.0, it.1, subst (λ (t : List ℕ). Prints old new t) it.2 printed)
+prints : (old new : Errors) (text : List ℕ) → IsOfLines text → PrintsExactly old new text → PrintsConnections old new
+prints old new text it printed = (it.0, it.1, subst (λ (t : List ℕ). PrintsExactly old new t) it.2 printed)
 
 pub prints_nothing : (old : Errors) → PrintsConnections old old
 prints_nothing old = ([], tt, λ alive. (alive, Appends-nothing old.printed))
@@ -61,7 +61,7 @@ prints_more old mid new first more = (
 
 module _ {S : Type 0} (runs : Purpose → S → List ℕ → BodyAnswer → S → Type 0) (shows : S → Resource → ShowResult → Type 0) where
   turn : (old new : Moment S) → ServesTurn runs shows old new → PrintsConnections old.errors new.errors
-  turn old new (inl none) = prints old.errors new.errors _ (of_accepts none.printed.0) none.printed.1
+  turn old new (inl none) = prints old.errors new.errors _ (of_accepts none.failed) none.printed
   turn old new (inr one) = prints old.errors new.errors _ (both _ _ (of_accepts one.failed) (of_outcome one.result)) one.printed
 
   pub each_turn : (n : ℕ) (old new : Moment S) → ServesEach runs shows n old new → PrintsConnections old.errors new.errors

@@ -5,12 +5,12 @@ use Rattle.sqlite_store.specs.declared.store.FileStore.{FileStore}
 use Rattle.sqlite.specs.Files.{file_state}
 use Rattle.sqlite.specs.Held.{Held}
 use Rattle.adm_desk.specs.DeskState.{DeskState}
-use Rattle.adm_http.specs.Connections.{Errors, ServesEach, Traffic}
+use Rattle.adm_http.specs.Connections.{ServesEach, Traffic}
 use Rattle.adm_http.specs.Purposes.{RunsBody}
 use Rattle.adm_http.specs.Shows.{Shows}
 use Rattle.adm_host.specs.Exits.{exit_of_status}
 use Rattle.adm_wire.specs.Streams.{Stream}
-use Rattle.adm_program.specs.Served.{AreUntaken, IsListenFault, ServesAs, TakesTurns, Visits, serving_text}
+use Rattle.adm_program.specs.Served.{AreUntaken, IsListenFault, IsUnlogged, ServesAs, TakesTurns, Visits, serving_text}
 use Rattle.adm_host.specs.Texts.{Puts}
 use Rattle.adm_host.specs.declared.exit.Exit.{Exit}
 use Rattle.adm_host.specs.declared.exit.Exit.TheVariants as exit
@@ -24,21 +24,21 @@ exit_served false status e is reported = subst (λ (n : ℕ). e ≡ exit_of_stat
 
 module _ {D : Type 0} {g : disk.Ghosts D} where
   -- turns over the connections that a port was taken for
-  pub takes_turns : (count : ℕ) (old new : DeskState (Held (FileStore D g))) (taken coming left : Option Traffic) (before after : Errors) → taken ≡ coming
-      → ServesEach (RunsBody file_state) Shows count (record { desk = old; traffic = taken; errors = before }) (record { desk = new; traffic = left; errors = after })
-      → TakesTurns count old coming new left
-  takes_turns count old new taken coming left before after is it =
-      (before, after, subst (λ (t : Option Traffic). ServesEach (RunsBody file_state) Shows count (record { desk = old; traffic = t; errors = before }) (record { desk = new; traffic = left; errors = after })) is it)
+  pub takes_turns : (count port : ℕ) (old new : DeskState (Held (FileStore D g))) (taken : Option Traffic) (visits : Visits) → taken ≡ visits.coming port
+      → ServesEach (RunsBody file_state) Shows count (record { desk = old; traffic = taken; errors = visits.log_before }) (record { desk = new; traffic = visits.new; errors = visits.log_after })
+      → TakesTurns count old new port visits
+  takes_turns count port old new taken visits is it =
+      subst (λ (t : Option Traffic). ServesEach (RunsBody file_state) Shows count (record { desk = old; traffic = t; errors = visits.log_before }) (record { desk = new; traffic = visits.new; errors = visits.log_after })) is it
 
   -- no connection could be waited for
-  pub not_ready : (desk : DeskState (Held (FileStore D g))) (port count : ℕ) (visits : Visits) (output : Stream) (f : Fault) → IsListenFault f → output.new ≡ output.old → AreUntaken visits
+  pub not_ready : (desk : DeskState (Held (FileStore D g))) (port count : ℕ) (visits : Visits) (output : Stream) (f : Fault) → IsListenFault f → output.new ≡ output.old → AreUntaken visits → IsUnlogged visits
       → ServesAs desk desk port count visits output (Err f)
-  not_ready desk port count visits output fault.Listen is same untaken = (refl, same, untaken)
-  not_ready desk port count visits output fault.Memory is same untaken = (refl, same, inl untaken)
-  not_ready desk port count visits output f is same untaken = absurd is
+  not_ready desk port count visits output fault.Listen is same untaken unlogged = (refl, same, untaken, unlogged)
+  not_ready desk port count visits output fault.Memory is same untaken unlogged = (refl, same, inl untaken, unlogged)
+  not_ready desk port count visits output f is same untaken unlogged = absurd is
 
   -- the line was not printed
-  pub not_printed : (A : Type 0) (desk : DeskState (Held (FileStore D g))) (port count : ℕ) (visits : Visits) (output : Stream) (f : Fault) → Puts {A = A} (serving_text port) output (Err f) → visits.new ≡ visits.coming port
+  pub not_printed : (A : Type 0) (desk : DeskState (Held (FileStore D g))) (port count : ℕ) (visits : Visits) (output : Stream) (f : Fault) → Puts {A = A} (serving_text port) output (Err f) → visits.new ≡ visits.coming port → IsUnlogged visits
       → ServesAs desk desk port count visits output (Err f)
-  not_printed A desk port count visits output fault.Listen puts untaken = absurd puts
-  not_printed A desk port count visits output f puts untaken = (refl, puts, inr untaken)
+  not_printed A desk port count visits output fault.Listen puts untaken unlogged = absurd puts
+  not_printed A desk port count visits output f puts untaken unlogged = (refl, puts, inr untaken, unlogged)

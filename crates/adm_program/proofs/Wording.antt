@@ -11,9 +11,9 @@ use Rattle.adm_host.specs.Exits.{has_many_holidays, IsCauseIn, line_outcome, exi
 use Rattle.adm_host.specs.Found.{LeavesAsFound}
 use Rattle.adm_host.specs.Reports.{ReportsOutcome}
 use Rattle.adm_program.specs.Does.{Does, TakesByServing}
-use Rattle.adm_program.specs.Arguments.{ActsOn, ActsOrFails, texts}
+use Rattle.adm_program.specs.Arguments.{ActsAround, ActsOrFails, texts}
 use Rattle.adm_program.specs.Given.{Around}
-use Rattle.adm_program.specs.Served.{AreUntaken}
+use Rattle.adm_program.specs.Served.{AreUntaken, IsUnlogged}
 use Rattle.adm_host.specs.declared.connecting.OpenError.{OpenError}
 use Rattle.adm_host.specs.declared.ended.LineEnd.{LineEnd}
 use Rattle.adm_host.specs.declared.ended.Remains.{Remains}
@@ -24,9 +24,9 @@ use Rattle.adm_host.specs.declared.fault.Fault.TheVariants.{TooManyHolidays}
 pub taken : {D S : Type 0} {g : disk.Ghosts D} (first : start.Ghosts S) (arguments : List (Bor (List ℕ))) (a : Action) (around : Around) (r : Result (LineEnd D g) (OpenError D g)) (end : RunEnd D g)
     → ReadsArguments (texts arguments) (Ok a) → IfOk r (λ ended. Does (image_at first) a around.given ended.exit ended.closed) → IfErr r (λ e. IsCauseIn a e.fault)
     → IfErr r (λ e. LeavesAsFound (image_at first) e.remains)
-    → (IsTrue (has_many_holidays a) → IsErrAnd r (λ e. e.fault ≡ TooManyHolidays)) → OnErr r ((around.given.input.new ≡ around.given.input.old) × (around.given.output.new ≡ around.given.output.old) × AreUntaken around.given.visits) → TakesByServing a around.given.visits
+    → (IsTrue (has_many_holidays a) → IsErrAnd r (λ e. e.fault ≡ TooManyHolidays)) → OnErr r ((around.given.input.new ≡ around.given.input.old) × (around.given.output.new ≡ around.given.output.old) × AreUntaken around.given.visits × IsUnlogged around.given.visits) → TakesByServing a around.given.visits
     → end.status ≡ exit_code (exit_of_result (line_outcome r)) → end.remains ≡ remains_at_end r → ReportsOutcome (line_outcome r) around.errors
-    → ActsOn g first arguments around end
+    → ActsAround g first arguments around end
 taken {D} {S} {g} first arguments a around (Ok ended) end reads does cause left many kept took exits rest reported =
     record {
       read = Ok a;
@@ -39,5 +39,5 @@ taken {D} {S} {g} first arguments a around (Err f) end reads does cause left man
       read = Ok a;
       reads = reads;
       follows = subst (λ (it : Remains D g). ActsOrFails g (image_at first) a around end.status it) (sym rest)
-          (record { cause = f.fault; is_cause = cause; many = λ (t : IsTrue (has_many_holidays a)). many t; unread = kept.0; unwritten = kept.1; untaken = kept.2; reported = reported; exits = exits; left = left });
+          (record { cause = f.fault; is_cause = cause; many = λ (t : IsTrue (has_many_holidays a)). many t; unread = kept.0; unwritten = kept.1; untaken = kept.2; unlogged = kept.3; reported = reported; exits = exits; left = left });
     }

@@ -8,6 +8,8 @@ use Rattle.sqlite_wal.specs.Recovery.{Image}
 use Rattle.sqlite_wal.specs.Files.{image_at}
 use Rattle.sqlite_store.specs.declared.store.FileStore.{FileStore}
 use Rattle.sqlite.specs.declared.error.Error.{Error}
+use Rattle.adm_wire.specs.declared.streams.Output as output
+use Rattle.adm_http.specs.Connections.{Errors, errors_of}
 use Rattle.adm_words.specs.Lines.{ReadsArguments}
 use Rattle.adm_words.specs.declared.actions.Action.{Action}
 use Rattle.adm_words.specs.declared.faults.WordsFault.{WordsFault}
@@ -16,7 +18,7 @@ use Rattle.adm_host.specs.Reports.{ReportsText, ReportsOutcome, ReportsArguments
 use Rattle.adm_host.specs.Found.{IsUntouched, LeavesAsFound}
 use Rattle.adm_program.specs.Does.{Does, TakesByServing}
 use Rattle.adm_program.specs.Given.{Around}
-use Rattle.adm_program.specs.Served.{AreUntaken}
+use Rattle.adm_program.specs.Served.{AreUntaken, IsUnlogged}
 use Rattle.adm_host.specs.declared.connecting.Remainder.{Remainder}
 use Rattle.adm_host.specs.declared.ended.Remains.{Remains}
 use Rattle.adm_host.specs.declared.ended.Remains.TheVariants.{Closed, Unopened}
@@ -25,20 +27,21 @@ use Rattle.adm_host.specs.declared.exit.Exit.{Exit}
 use Rattle.adm_host.specs.declared.fault.Fault.{Fault}
 use Rattle.adm_host.specs.declared.fault.Fault.TheVariants.{TooManyHolidays}
 
--- the arguments, as texts
+-- the arguments as texts: the bytes of each
 abbrev pub texts : List (Bor (List ℕ)) → List (List ℕ)
 texts arguments = map (λ w. w.now) arguments
 
--- the arguments are a usage error, or could not be read because memory ran out, which is reported; nothing was read or written, and no connection taken
+-- the arguments are a usage error, or could not be read because memory ran out, which is reported; nothing was read, written or logged, and no connection taken
 pub record IsUsageError (fault : WordsFault) (around : Around) (status : ℕ) : Type 0 where
   pub unread : around.given.input.new ≡ around.given.input.old
   pub unwritten : around.given.output.new ≡ around.given.output.old
   pub untaken : AreUntaken around.given.visits
+  pub unlogged : IsUnlogged around.given.visits
   pub reported : ReportsArguments fault around.errors
   pub exits : status ≡ exit_code (exit_of_arguments fault)
 
 module _ {D : Type 0} (g : disk.Ghosts D) where
-  -- the action failed before it began, for this cause, which is reported; nothing was read or written, no connection was taken, and this remains of files that held the image
+  -- the action failed before it began, for this cause, which is reported; nothing was read, written or logged, no connection was taken, and this remains of files that held the image
   pub record ActionFails (image : Image) (action : Action) (around : Around) (status : ℕ) (rest : Remainder D g) : Type 0 where
     pub cause : Fault
     pub is_cause : IsCauseIn action cause
@@ -46,6 +49,7 @@ module _ {D : Type 0} (g : disk.Ghosts D) where
     pub unread : around.given.input.new ≡ around.given.input.old
     pub unwritten : around.given.output.new ≡ around.given.output.old
     pub untaken : AreUntaken around.given.visits
+    pub unlogged : IsUnlogged around.given.visits
     pub reported : ReportsText (fault_line cause) around.errors
     pub exits : status ≡ 1
     pub left : LeavesAsFound image rest
@@ -64,7 +68,7 @@ module _ {D : Type 0} (g : disk.Ghosts D) where
   ActsOrFails image action around status (Closed closed) = Acts image action around status closed
   ActsOrFails image action around status (Unopened rest) = ActionFails image action around status rest
 
-  -- the files were not opened at all
+  -- nothing remains of a close, and the files were not opened at all
   abbrev pub AreUntouched : Remains D g → Type 0
   AreUntouched (Closed closed) = ⊥
   AreUntouched (Unopened rest) = IsUntouched rest
@@ -74,12 +78,17 @@ module _ {D : Type 0} (g : disk.Ghosts D) where
   FollowsFrom image (Ok action) around end = ActsOrFails image action around end.status end.remains
   FollowsFrom image (Err fault) around end = IsUsageError fault around end.status × AreUntouched end.remains
 
-  -- the arguments are read, and this follows from them, over files that held what the start says
-  pub record ActsOn {S : Type 0} (first : start.Ghosts S) (arguments : List (Bor (List ℕ))) (around : Around) (end : RunEnd D g) : Type 0 where
+  -- the arguments are read, and this follows from them, over files that held what the ghosts of their opener say
+  pub record ActsAround {S : Type 0} (opener : start.Ghosts S) (arguments : List (Bor (List ℕ))) (around : Around) (end : RunEnd D g) : Type 0 where
     pub read : Result Action WordsFault
     pub reads : ReadsArguments (texts arguments) read
-    pub follows : FollowsFrom (image_at first) read around end
+    pub follows : FollowsFrom (image_at opener) read around end
 
-  -- so they do with this status, whatever remains of the files
-  abbrev pub ActsWith : {S : Type 0} → start.Ghosts S → List (Bor (List ℕ)) → Around → ℕ → Type 0
-  ActsWith first arguments around status = (end : RunEnd D g) × (end.status ≡ status) × ActsOn first arguments around end
+  -- the arguments are read, and some end with this status follows from them, whatever was logged
+  abbrev pub ActsWith : {S : Type 0} → start.Ghosts S → List (Bor (List ℕ)) → (Errors → Errors → Around) → ℕ → Type 0
+  ActsWith opener arguments around status =
+      (before : Errors) × (after : Errors) × (end : RunEnd D g) × (end.status ≡ status) × ActsAround opener arguments (around before after) end
+
+-- the arguments are read, and this end follows from them, where the log was so before and is so now
+abbrev pub ActsOn : {S L D : Type 0} {g : disk.Ghosts D} → start.Ghosts S → List (Bor (List ℕ)) → (Errors → Errors → Around) → output.Ghosts L → L → L → RunEnd D g → Type 0
+ActsOn {g} opener arguments around l log log_new end = ActsAround g opener arguments (around (errors_of l log) (errors_of l log_new)) end

@@ -25,29 +25,37 @@ use Rattle.adm_host.specs.declared.fault.Fault.TheVariants as fault
 abbrev pub serving_text : ℕ → List ℕ
 serving_text port = codes "serving on 127.0.0.1:" ++ (decimal port ++ codes "\n")
 
--- what connections come before a port is taken, what comes to each port, and after the run what still comes and what was answered, where it is known
+-- The connections of a run, where they are known: what comes before a port is taken, what comes to each port, and after the run what still comes and those that were ended. And
+-- the log, to which the errors of connections are printed: what it holds before the run and after it, where that is known, and whether it has failed.
 pub record Visits : Type 0 where
   pub old : Option Traffic
   pub coming : ℕ → Option Traffic
   pub new : Option Traffic
+  pub log_before : Errors
+  pub log_after : Errors
 
 -- no connection was taken
 abbrev pub AreUntaken : Visits → Type 0
 AreUntaken visits = visits.new ≡ visits.old
 
+-- nothing was logged
+abbrev pub IsUnlogged : Visits → Type 0
+IsUnlogged visits = visits.log_after ≡ visits.log_before
+
 module _ {D : Type 0} {g : disk.Ghosts D} where
-  -- so many turns over connections, one after another, lead from a desk to a desk
-  abbrev pub TakesTurns : ℕ → DeskState (Held (FileStore D g)) → Option Traffic → DeskState (Held (FileStore D g)) → Option Traffic → Type 0
-  TakesTurns count old coming new left = (before : Errors) × (after : Errors)
-      × ServesEach (RunsBody file_state) Shows count (record { desk = old; traffic = coming; errors = before }) (record { desk = new; traffic = left; errors = after })
+  -- So many turns over the connections to a port, one after another, lead from a desk to a desk, and from the log before to the log after: what is logged is what these turns print.
+  abbrev pub TakesTurns : ℕ → DeskState (Held (FileStore D g)) → DeskState (Held (FileStore D g)) → ℕ → Visits → Type 0
+  TakesTurns count old new port visits =
+      ServesEach (RunsBody file_state) Shows count (record { desk = old; traffic = visits.coming port; errors = visits.log_before })
+      (record { desk = new; traffic = visits.new; errors = visits.log_after })
 
   -- How serving ended, from the desk as it was to the desk as it is: the line was printed and each turn served the next connection to the port or none, and a
-  -- store that failed makes the exit; or the port could not be taken, the line not printed or memory ran out, and no connection was taken.
+  -- store that failed makes the exit; or the port could not be taken, the line not printed or memory ran out, and no connection was taken and nothing logged.
   abbrev pub ServesAs : DeskState (Held (FileStore D g)) → DeskState (Held (FileStore D g)) → ℕ → ℕ → Visits → Stream → Result Exit Fault → Type 0
   ServesAs old new port count visits output (Ok e) = Appends output.old output.new (serving_text port)
-      × TakesTurns count old (visits.coming port) new visits.new × (e ≡ (if new.failed then exit.Failed else exit.Done))
-  ServesAs old new port count visits output (Err fault.Listen) = (new ≡ old) × (output.new ≡ output.old) × AreUntaken visits
-  ServesAs old new port count visits output (Err f) = (new ≡ old) × Puts {A = Exit} (serving_text port) output (Err f) × (AreUntaken visits ⊎ (visits.new ≡ visits.coming port))
+      × TakesTurns count old new port visits × (e ≡ (if new.failed then exit.Failed else exit.Done))
+  ServesAs old new port count visits output (Err fault.Listen) = (new ≡ old) × (output.new ≡ output.old) × AreUntaken visits × IsUnlogged visits
+  ServesAs old new port count visits output (Err f) = (new ≡ old) × Puts {A = Exit} (serving_text port) output (Err f) × (AreUntaken visits ⊎ (visits.new ≡ visits.coming port)) × IsUnlogged visits
 
   -- connections to the port are served over the desk, and then its own connection is closed
   pub record Serves (desk : DeskState (Held (FileStore D g))) (port count : ℕ) (visits : Visits) (output : Stream) (e : Result Exit Fault) (closed : Result (Files D) (Error × FileStore D g)) : Type 0 where
@@ -55,10 +63,10 @@ module _ {D : Type 0} {g : disk.Ghosts D} where
     pub ends : ServesAs desk after port count visits output e
     pub closes : Closes after.conn closed
 
-  -- the same over files that held this; where they are not opened, no connection is taken
+  -- Connections to the port are served over a desk that files which held this are opened as. Where they are not opened, no connection is taken and nothing logged.
   abbrev pub ServesOver : Image → ℕ → ℕ → Visits → Stream → Result Exit Fault → Result (Files D) (Error × FileStore D g) → Type 0
   ServesOver image port count visits output e closed =
-      Opens image ((output.new ≡ output.old) × AreUntaken visits) e closed (λ desk. Serves desk port count visits output e closed)
+      Opens image ((output.new ≡ output.old) × AreUntaken visits × IsUnlogged visits) e closed (λ desk. Serves desk port count visits output e closed)
 
 -- ---- for a private clause
 

@@ -52,10 +52,13 @@ pub fn run_words<S: Start, F: Rows, P: Ports, I: Input, O: Output, E: Output, L:
 }
 
 /// Does what the arguments say, with the program's name first, and gives what remains of the files and
-/// the exit status: 0 done; 1 an error, printed to `errors` as `fault: ` and its name; 2 a usage error;
-/// 3 an import or some line was refused, invalid or ran out of memory; 4 the store failed. What goes
-/// wrong with single connections while `serve` runs is printed to `log`, and nothing else is. `rows`
-/// opens the file that `import` reads, and `ports` takes the port of `serve`.
+/// the exit status: 0 done; 1 an error, printed to `errors` as `fault: ` and its name, before which the
+/// row is named where a row of an import is invalid, and after which a second line names a cause of
+/// Disk or Read that is known; 2 a usage error; 3 some line of `do` or `what-if` was refused, was no
+/// command or question or ran out of memory, or the command of an import was refused or ran out of
+/// memory; 4 the store failed. What goes wrong with single connections while `serve` runs is printed to
+/// `log`, and nothing else is. `rows` opens the file that `import` reads, and `ports` takes the port of
+/// `serve`.
 pub fn run_arguments<S: Start, F: Rows, P: Ports, I: Input, O: Output, E: Output, L: Output>(
     rt: &HostRuntime,
     arguments: &[&str],
@@ -67,9 +70,9 @@ pub fn run_arguments<S: Start, F: Rows, P: Ports, I: Input, O: Output, E: Output
     errors: &mut E,
     log: &mut L,
 ) -> RunEnd<FileFrom<S>>
-    ensures does { ActsOn ⟦<FileFrom<S> as Disk>⟧ S.Start arguments.entry.now
-        (around F.Rows rows.old rows.new P.Ports ports.old ports.new
-        I.Input input.old input.new O.Output output.old output.new E.Output errors.old errors.new) result }
+    ensures does { ActsOn S.Start arguments.entry.now
+        (around F.Rows rows.old rows.new P.Ports ports.old ports.new I.Input input.old input.new
+        O.Output output.old output.new E.Output errors.old errors.new) L.Output log.old log.new result }
     ensures status { RunsArguments (texts arguments.entry.now) result.status }
     ensures log { Logs (texts arguments.entry.now) (errors_of L.Output log.old) (errors_of L.Output log.new) }
 {
@@ -98,15 +101,16 @@ fn run_action<S: Start, F: Rows, P: Ports, I: Input, O: Output, L: Output>(
     output: &mut O,
     log: &mut L,
 ) -> Result<LineEnd<FileFrom<S>>, OpenError<FileFrom<S>>>
-    ensures ok { IfOk result (λ ended. Does (image_at S.Start) action.entry
-        (given F.Rows rows.old rows.new P.Ports ports.old ports.new I.Input input.old input.new O.Output output.old output.new)
-        ended.exit ended.closed) }
+    ensures ok { IfOk result (λ e. Does (image_at S.Start) action.entry
+        (given F.Rows rows.old rows.new P.Ports ports.old ports.new L.Output log.old log.new
+        I.Input input.old input.new O.Output output.old output.new)
+        e.exit e.closed) }
     ensures err { IfErr result (λ e. IsCauseIn action.entry e.fault) }
     ensures left { IfErr result (λ e. LeavesAsFound (image_at S.Start) e.remains) }
     ensures many { IsTrue (has_many_holidays action.entry) → IsErrAnd result (λ e. e.fault ≡ TooManyHolidays) }
     ensures untouched { OnErr result ((I.remaining input.new ≡ I.remaining input.old) × (O.contents output.new ≡ O.contents output.old)
-        × (P.traffic ports.new ≡ P.traffic ports.old)) }
-    ensures taken { TakesByServing action.entry (visits P.Ports ports.old ports.new) }
+        × (P.traffic ports.new ≡ P.traffic ports.old) × (errors_of L.Output log.new ≡ errors_of L.Output log.old)) }
+    ensures taken { TakesByServing action.entry (visits P.Ports ports.old ports.new L.Output log.old log.new) }
     ensures log { LogsBy (Ok action.entry) (errors_of L.Output log.old) (errors_of L.Output log.new) }
 {
     match action {
@@ -162,13 +166,14 @@ fn serve<S: Start, P: Ports, O: Output, L: Output>(
     log: &mut L,
 ) -> Result<LineEnd<FileFrom<S>>, OpenError<FileFrom<S>>>
     ensures ok { IfOk result (λ ended. ServesOver (image_at S.Start) port count
-        (visits P.Ports ports.old ports.new)
+        (visits P.Ports ports.old ports.new L.Output log.old log.new)
         (writer O.Output output.old output.new)
         ended.exit ended.closed) }
     ensures err { IfErr result (λ e. IsOpenFault e.fault) }
     ensures left { IfErr result (λ e. LeavesAsFound (image_at S.Start) e.remains) }
     ensures memory { file.now ≡ codes ":memory:" → IsErrAnd result (λ e. IsDisk e.fault) }
-    ensures untouched { OnErr result ((O.contents output.new ≡ O.contents output.old) × (P.traffic ports.new ≡ P.traffic ports.old)) }
+    ensures untouched { OnErr result ((O.contents output.new ≡ O.contents output.old) × (P.traffic ports.new ≡ P.traffic ports.old)
+        × (errors_of L.Output log.new ≡ errors_of L.Output log.old)) }
     ensures log { PrintsConnections (errors_of L.Output log.old) (errors_of L.Output log.new) }
 {
     match open_desk(rt, file, start)? {

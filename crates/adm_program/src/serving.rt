@@ -63,7 +63,7 @@ pub fn serve_connections<D: Disk + Drop, P: Ports, O: Output, L: Output>(
     log: &mut L,
 ) -> LineEnd<D>
     ensures serves { Serves desk port count
-        (visits P.Ports ports.old ports.new)
+        (visits P.Ports ports.old ports.new L.Output log.old log.new)
         (writer O.Output output.old output.new)
         result.exit result.closed }
     ensures log { PrintsConnections (errors_of L.Output log.old) (errors_of L.Output log.new) }

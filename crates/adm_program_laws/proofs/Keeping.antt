@@ -55,7 +55,7 @@ use Rattle.adm_program_laws.specs.Exchanges.{commands_of}
 use Rattle.adm_program_laws.specs.SuccessiveRuns.{AnswersInput, AnswersRows, AnswersConnections, AnswersNone, AnswersBy, AnswersFor, ProgramRun, TakesNone}
 use Rattle.adm_program_laws.proofs.AnsweredLemmas.{took}
 use Rattle.adm_program_laws.proofs.Remaining.{Leaves, not_opened, not_begun, desk_kept, not_created}
-use Rattle.adm_program_laws.proofs.ServingLemmas.{each_answered, each_turn}
+use Rattle.adm_program_laws.proofs.ServingLemmas.{are_recorded, each_answered, each_turn}
 
 -- ---- lines
 
@@ -194,9 +194,9 @@ module _ {D : Type 0} {g : disk.Ghosts D} where
     kept_served : (status port count : ℕ) (visits : Visits) (last : Desk g) (output : Stream) (e : Result Exit Fault) → ServesAs desk last port count visits output e → (IsErr e → status ≡ 1)
         → KeepsConnections status port count visits last
     kept_served status port count visits last output (Ok x) it ends =
-        let before : Moment (Desk g) = record { desk = desk; traffic = visits.coming port; errors = it.1.0 } in
-        let after : Moment (Desk g) = record { desk = last; traffic = visits.new; errors = it.1.1 } in
-        let so = each_turn file_state count before after it.1.2 in
+        let before : Moment (Desk g) = record { desk = desk; traffic = visits.coming port; errors = visits.log_before } in
+        let after : Moment (Desk g) = record { desk = last; traffic = visits.new; errors = visits.log_after } in
+        let so = each_turn file_state count before after it.1 in
         record {
           answered = commands_of so.served;
           run = so.run;
@@ -206,6 +206,7 @@ module _ {D : Type 0} {g : disk.Ghosts D} where
             exchanged = so.exchanged;
             each = each_answered file_state desk last so.served so.serves;
             commands = refl;
+            recorded = are_recorded so.served;
             effects = took file_state desk last so.served so.serves;
           });
         }

@@ -1,8 +1,9 @@
 -- What serving connections keeps, turn by turn.
-use Rattle.std.proofs.Common.{◌≡◌, ◌≤◌, ◌∙◌, inl, inr, refl, ap, sym, subst, arith, ℕ, zero, suc, Bool, true, false, MatchBool, nat_le, List, [], ◌∷◌, ◌++◌, map, length, length-append, take, drop, Option, Some, None, Result, Ok, Err, append_assoc}
+use Rattle.std.proofs.Common.{◌≡◌, ◌≤◌, ◌∙◌, inl, inr, refl, ap, sym, subst, arith, ℕ, zero, suc, Bool, true, false, MatchBool, nat_le, not, List, [], ◌∷◌, ◌++◌, filter, map, length, length-append, take, drop, Option, Some, None, Result, Ok, Err, append_assoc}
 use Rattle.std.specs.Io.KnownBytes.{Consumes}
 use Rattle.std.specs.List.{AllByRecursion, AllZip}
 use Rattle.std.proofs.Math.Seq.{take-length}
+use Rattle.std.proofs.lemmas.Bool.{false≢true}
 use Rattle.std.proofs.lemmas.List.{append-nil}
 use Rattle.std.proofs.lemmas.Option.{none-some, same_Some}
 use mathlib.Core.List.{map-append}
@@ -15,13 +16,15 @@ use Rattle.adm_desk.specs.Acknowledged.{KeepsAcknowledged, in_flight}
 use Rattle.adm_desk.specs.DeskState.{DeskState, Handles}
 use Rattle.adm_desk.specs.Lines.{AnswersLine}
 use Rattle.adm_desk.specs.declared.answer.Answer.{Answer}
+use Rattle.adm_desk.specs.declared.answer.Answer.TheVariants.{Done, Refused, Failed}
+use Rattle.adm_desk.specs.declared.answer.Answer.TheVariants as answer
 use Rattle.adm_desk.specs.declared.answer.LineAnswer.TheVariants.{Handled, Faulty, Queried}
 use Rattle.adm_desk.proofs.AcknowledgedLemmas.{RunsOver, keeps}
 use Rattle.adm_desk.proofs.CrashLemmas.{each_again}
-use Rattle.adm_http.specs.Connections.{Exchanges, Moment, ServesEach, Takes, Traffic}
+use Rattle.adm_http.specs.Connections.{EndedConnection, Exchanges, Moment, ServesEach, Takes, Traffic}
 use Rattle.adm_http.specs.Heads.{IsJudgement}
 use Rattle.adm_http.specs.Purposes.{RunsBody}
-use Rattle.adm_http.specs.Reading.{Served}
+use Rattle.adm_http.specs.Reading.{Served, is_connection_fault}
 use Rattle.adm_http.specs.Responses.{Carries, OnJudgement, Responds, of_answer}
 use Rattle.adm_http.specs.Shows.{Shows}
 use Rattle.adm_http.specs.Texts.{Response, bare, response_bytes}
@@ -35,7 +38,8 @@ use Rattle.adm_http.specs.declared.routes.Purpose.{Purpose}
 use Rattle.adm_http.specs.declared.routes.Purpose.TheVariants as purpose
 use Rattle.adm_http.specs.declared.serve.ServeFault.{ServeFault}
 use Rattle.adm_http.specs.declared.serve.ServeFault.TheVariants.{Read, Write, Memory}
-use Rattle.adm_program_laws.specs.Exchanges.{AnswersTo, AreExchanged, Exchange, HasNoCommand, IsAnswered, LeavesServed, Moves, SentFirst, ServedIsKept, ServesExchange, ServesExchanges, TookEffect, commands_of, with_answered}
+use Rattle.adm_program_laws.specs.Exchanges.{AnswersTo, AreExchanged, AreRecorded, Exchange, HasNoCommand, IsAnswered, IsUndisturbed, IsWrittenBy, LeavesServed, Moves, SentFirst, ServedIsKept, ServesExchange, ServesExchanges, TookEffect, acknowledged_in, commands_of, ended_of, is_whole, unanswered_in, with_answered}
+use Rattle.adm_program_laws.specs.Recorded.{IsMerged, recorded}
 use Rattle.adm_program_laws.specs.Effects.{IsEffect}
 use Rattle.adm_program_laws.proofs.AnsweredLemmas.{took}
 use Rattle.adm_program_laws.proofs.Remaining.{effect}
@@ -61,10 +65,56 @@ runs_more : {S : Type 0} (step : S → Command → Answer → S → Type 0) (old
 runs_more {S} step old mid new [] c a same by = (new, subst (λ (s : S). step s c a new) same by, refl)
 runs_more step old mid new ((first, b) ∷ answered) c a it by = (it.0, it.1, runs_more step it.0 mid new answered c a it.2 by)
 
+-- ---- recorded commands
+
+-- the recorded commands of one more answer, before others, are one of two lists
+merged_one : (answered : Option (Command × Answer)) (all : List (Command × Answer)) (xs ys : List (Command × Answer)) → IsMerged (recorded all) (recorded xs) (recorded ys)
+    → IsMerged (recorded (with_answered answered all)) (recorded (with_answered answered xs)) (recorded ys)
+merged_one None all xs ys it = it
+merged_one (Some (c, Done reply)) all xs ys it = inl (recorded xs, refl, it)
+merged_one (Some (c, Refused refusal row)) all xs ys it = it
+merged_one (Some (c, answer.Memory)) all xs ys it = it
+merged_one (Some (c, Failed)) all xs ys it = it
+
+merged_other : (answered : Option (Command × Answer)) (all : List (Command × Answer)) (xs ys : List (Command × Answer)) → IsMerged (recorded all) (recorded xs) (recorded ys)
+    → IsMerged (recorded (with_answered answered all)) (recorded xs) (recorded (with_answered answered ys))
+merged_other None all xs ys it = it
+merged_other (Some (c, Done reply)) all xs ys it = inr (recorded ys, refl, it)
+merged_other (Some (c, Refused refusal row)) all xs ys it = it
+merged_other (Some (c, answer.Memory)) all xs ys it = it
+merged_other (Some (c, Failed)) all xs ys it = it
+
+merged_by : (e : Exchange) (served : List Exchange) (ended : Result ℕ ServeFault) → e.ended ≡ ended → IsMerged (recorded (commands_of served)) (acknowledged_in served) (unanswered_in served)
+    → IsMerged (recorded (commands_of (e ∷ served))) (acknowledged_in (e ∷ served)) (unanswered_in (e ∷ served))
+merged_by e served (Ok n) is before =
+    rw is (merged_one e.answered (commands_of served) (commands_of (filter is_whole served)) (commands_of (filter (λ it. not (is_whole it)) served)) before)
+merged_by e served (Err f) is before =
+    rw is (merged_other e.answered (commands_of served) (commands_of (filter is_whole served)) (commands_of (filter (λ it. not (is_whole it)) served)) before)
+
+merged : (served : List Exchange) → IsMerged (recorded (commands_of served)) (acknowledged_in served) (unanswered_in served)
+merged [] = (refl, refl)
+merged (e ∷ served) = merged_by e served e.ended refl (merged served)
+
+failed_by : (ended : Result ℕ ServeFault) (of : Result ℕ ServeFault) → ended ≡ of → is_connection_fault ended ≡ false → is_connection_fault of ≡ false
+failed_by ended of is it = subst (λ (r : Result ℕ ServeFault). is_connection_fault r ≡ false) is it
+
+answered_by : (e : Exchange) (served : List Exchange) (ended : Result ℕ ServeFault) → e.ended ≡ ended → IsUndisturbed e → unanswered_in served ≡ [] → unanswered_in (e ∷ served) ≡ []
+answered_by e served (Ok n) is it before = rw is before
+answered_by e served (Err Memory) is it before = absurd (it.1 is)
+answered_by e served (Err Read) is it before = absurd (false≢true (sym (failed_by e.ended (Err Read) is it.0)))
+answered_by e served (Err Write) is it before = absurd (false≢true (sym (failed_by e.ended (Err Write) is it.0)))
+
+all_answered : (served : List Exchange) → AllByRecursion IsUndisturbed served → unanswered_in served ≡ []
+all_answered [] it = refl
+all_answered (e ∷ served) it = answered_by e served e.ended refl it.0 (all_answered served it.1)
+
+pub are_recorded : (served : List Exchange) → AreRecorded served
+are_recorded served = record { merged = merged served; undisturbed = all_answered served }
+
 -- no connection was taken
 pub no_exchange : (a b : Option Traffic) → b ≡ a → AreExchanged a b []
 no_exchange None b is = tt
-no_exchange (Some t) None is = tt
+no_exchange (Some t) None is = absurd (none-some t is)
 no_exchange (Some t) (Some u) is = subst (λ (w : Traffic). AreExchanged (Some t) (Some w) []) (sym (same_Some u t is)) ([], refl, sym (append-nil t.answered), tt)
 
 -- ---- one request
@@ -146,43 +196,44 @@ module _ {C : Type 0} (disk : C → Disk) where
   -- ---- one turn
 
   -- a connection of these bytes was served
-  pub record Turned (old new : DeskState C) (unread : Option (List ℕ)) (written : List ℕ) : Type 0 where
+  pub record Turned (old new : DeskState C) (unread : Option (List ℕ)) (written : List ℕ) (result : Result ℕ ServeFault) : Type 0 where
     pub request : List ℕ
     pub left : Option (List ℕ)
     pub consumed : Consumes unread left request
     pub answered : Option (Command × Answer)
-    pub serves : ServesExchange disk old (record { request = request; written = written; answered = answered }) new
+    pub serves : ServesExchange disk old (record { request = request; written = written; ended = result; answered = answered }) new
 
   turned : (old new : DeskState C) (unread left : Option (List ℕ)) (written got output : List ℕ) (n : ℕ) → Consumes unread left got → written ≡ take n output
-      → Responds (RunsBody disk) Shows old got output new → Turned old new unread written
-  turned old new unread left written got output n consumed is it =
+      → (result : Result ℕ ServeFault) → IsWrittenBy result output written → Responds (RunsBody disk) Shows old got output new → Turned old new unread written result
+  turned old new unread left written got output n consumed is result whole it =
       let did = responded old new got output it in
       record {
         request = got;
         left = left;
         consumed = consumed;
         answered = did.answered;
-        serves = record { is = record { response = output; size = n; written = is; command = did.is }; responds = inl it; moves = did.moves };
+        serves = record { is = record { response = output; size = n; written = is; whole = whole; command = did.is }; responds = inl it; moves = did.moves };
       }
 
   -- nothing was done for these bytes
-  idle : (old new : DeskState C) (unread left : Option (List ℕ)) (written got : List ℕ) → Consumes unread left got → new ≡ old → written ≡ [] → Turned old new unread written
-  idle old new unread left written got consumed same none = record {
+  idle : (old new : DeskState C) (unread left : Option (List ℕ)) (written got : List ℕ) → Consumes unread left got → new ≡ old → written ≡ [] → (result : Result ℕ ServeFault)
+      → IsWrittenBy result [] written → Turned old new unread written result
+  idle old new unread left written got consumed same none result whole = record {
     request = got;
     left = left;
     consumed = consumed;
     answered = None;
-    serves = record { is = record { response = []; size = 0; written = none; command = inl refl }; responds = inr (refl, same); moves = same };
+    serves = record { is = record { response = []; size = 0; written = none; whole = whole; command = inl refl }; responds = inr (refl, same); moves = same };
   }
 
   turn : (old new : DeskState C) (unread left : Option (List ℕ)) (written : List ℕ) (result : Result ℕ ServeFault)
-      → Served (RunsBody disk) Shows (record { before = old; after = new; unread = unread; left = left }) (Some []) (Some written) result → Turned old new unread written
-  turn old new unread left written (Ok n) it = turned old new unread left written it.0 it.1 (length it.1) it.2.consumed (it.4 ∙ sym (take-length it.1)) it.3
-  turn old new unread left written (Err Write) it = turned old new unread left written it.0 it.1 it.4.0 it.2.consumed it.4.1 it.3
-  turn old new unread left written (Err Read) it = idle old new unread left written it.0 it.1.consumed it.2 it.3
+      → Served (RunsBody disk) Shows (record { before = old; after = new; unread = unread; left = left }) (Some []) (Some written) result → Turned old new unread written result
+  turn old new unread left written (Ok n) it = turned old new unread left written it.0 it.1 (length it.1) it.2.consumed (it.4 ∙ sym (take-length it.1)) (Ok n) it.4 it.3
+  turn old new unread left written (Err Write) it = turned old new unread left written it.0 it.1 it.4.0 it.2.consumed it.4.1 (Err Write) it.4 it.3
+  turn old new unread left written (Err Read) it = idle old new unread left written it.0 it.1.consumed it.2 it.3 (Err Read) (refl, it.3)
   turn old new unread left written (Err Memory) it = elim it.3 [
-    | inl same ↦ idle old new unread left written it.0 it.1.consumed same it.2
-    | inr run ↦ turned old new unread left written it.0 run.0 0 run.1.consumed it.2 run.2
+    | inl same ↦ idle old new unread left written it.0 it.1.consumed same it.2 (Err Memory) it.2
+    | inr run ↦ turned old new unread left written it.0 run.0 0 run.1.consumed it.2 (Err Memory) it.2 run.2
   ]
 
   -- ---- any number of turns
@@ -195,26 +246,24 @@ module _ {C : Type 0} (disk : C → Disk) where
     pub run : RunsOver (Handles disk) old.desk (commands_of served) new.desk
 
   -- the traffic after a turn to which no connection came
-  after_none : (old mid new : Option Traffic) (served : List Exchange) → AreExchanged old mid served → Takes mid new None → AreExchanged old new served
-  after_none None mid new served it taken = tt
-  after_none (Some t) None None served it taken = tt
-  after_none (Some t) None (Some u) served it taken = absurd (none-some u (sym taken))
-  after_none (Some t) (Some m) None served it taken = absurd taken
-  after_none (Some t) (Some m) (Some u) served it taken = subst (λ (w : Traffic). AreExchanged (Some t) (Some w) served) (sym taken.1) it
+  after_none : (old mid new : Option Traffic) (served : List Exchange) (failed : ℕ) → AreExchanged old mid served → Takes mid new failed None → AreExchanged old new served
+  after_none None mid new served failed it taken = tt
+  after_none (Some t) None new served failed it taken = absurd it
+  after_none (Some t) (Some m) None served failed it taken = absurd taken
+  after_none (Some t) (Some m) (Some u) served failed it taken = subst (λ (w : Traffic). AreExchanged (Some t) (Some w) served) (sym taken.1) it
 
   -- and after the turn of one
-  after_one : (old mid new : Option Traffic) (served : List Exchange) (e : Exchange) (unread left : Option (List ℕ)) → AreExchanged old mid served → Exchanges mid new unread e.written
-      → Consumes unread left e.request → AreExchanged old new (served ++ e ∷ [])
-  after_one None mid new served e unread left it exchanged consumed = tt
-  after_one (Some t) None None served e unread left it exchanged consumed = tt
-  after_one (Some t) None (Some u) served e unread left it exchanged consumed = absurd (none-some u (sym exchanged))
-  after_one (Some t) (Some m) None served e unread left it exchanged consumed = tt
-  after_one (Some t) (Some m) (Some u) served e unread left it exchanged consumed =
+  after_one : (old mid new : Option Traffic) (served : List Exchange) (e : Exchange) (failed : ℕ) (unread left : Option (List ℕ)) → AreExchanged old mid served
+      → Exchanges mid new failed unread (ended_of e) → Consumes unread left e.request → AreExchanged old new (served ++ e ∷ [])
+  after_one None mid new served e failed unread left it exchanged consumed = tt
+  after_one (Some t) None new served e failed unread left it exchanged consumed = absurd it
+  after_one (Some t) (Some m) None served e failed unread left it exchanged consumed = absurd exchanged
+  after_one (Some t) (Some m) (Some u) served e failed unread left it exchanged consumed =
       let bytes = exchanged.0 in (
         it.0 ++ bytes ∷ [],
         it.1 ∙ ap (λ (xs : List (List ℕ)). it.0 ++ xs) exchanged.2 ∙ sym (append_assoc it.0 (bytes ∷ []) u.coming),
-        exchanged.3 ∙ ap (λ (xs : List (List ℕ)). xs ++ e.written ∷ []) it.2 ∙ append_assoc t.answered (map (λ (x : Exchange). x.written) served) (e.written ∷ [])
-            ∙ ap (λ (xs : List (List ℕ)). t.answered ++ xs) (sym (map-append (λ (x : Exchange). x.written) served (e ∷ []))),
+        exchanged.3 ∙ ap (λ (xs : List EndedConnection). xs ++ ended_of e ∷ []) it.2 ∙ append_assoc t.answered (map ended_of served) (ended_of e ∷ [])
+            ∙ ap (λ (xs : List EndedConnection). t.answered ++ xs) (sym (map-append ended_of served (e ∷ []))),
         one_more SentFirst served it.0 e bytes it.3 (first left (subst (λ (o : Option (List ℕ)). Consumes o left e.request) exchanged.1 consumed)),
       )
     where
@@ -242,17 +291,17 @@ module _ {C : Type 0} (disk : C → Disk) where
         | inl none ↦ record {
           served = so.served;
           few = omega (arith, so.few);
-          exchanged = after_none old.traffic mid.traffic new.traffic so.served so.exchanged none.none;
+          exchanged = after_none old.traffic mid.traffic new.traffic so.served none.failed so.exchanged none.none;
           serves = subst (λ (s : DeskState C). ServesExchanges disk old.desk so.served s) (sym none.desk) so.serves;
           run = subst (λ (s : DeskState C). RunsOver (Handles disk) old.desk (commands_of so.served) s) (sym none.desk) so.run;
         }
         | inr one ↦
             let it = turn mid.desk new.desk one.unread one.left one.written one.result one.served in
-            let e : Exchange = record { request = it.request; written = one.written; answered = it.answered } in
+            let e : Exchange = record { request = it.request; written = one.written; ended = one.result; answered = it.answered } in
             record {
               served = so.served ++ e ∷ [];
               few = omega (arith, so.few, length-append so.served (e ∷ []));
-              exchanged = after_one old.traffic mid.traffic new.traffic so.served e one.unread it.left so.exchanged one.exchanged it.consumed;
+              exchanged = after_one old.traffic mid.traffic new.traffic so.served e one.failed one.unread it.left so.exchanged one.exchanged it.consumed;
               serves = serves_more old.desk mid.desk new.desk so.served e so.serves it.serves;
               run = subst (λ (xs : List (Command × Answer)). RunsOver (Handles disk) old.desk xs new.desk) (sym (commands_more so.served e))
                   (last_command old.desk mid.desk new.desk so.served it.answered so.run it.serves.moves);
@@ -282,6 +331,7 @@ module _ {C : Type 0} (disk : C → Disk) where
         few = so.few;
         exchanged = so.exchanged;
         serves = so.serves;
+        recorded = are_recorded so.served;
         kept = kept;
         effects = effects;
         leaves = leaves_served old.desk new.desk so.served kept effects;

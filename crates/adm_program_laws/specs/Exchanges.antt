@@ -1,5 +1,5 @@
 -- What `serve` keeps: the commands in the requests of connections, and the responses to them.
-use Rattle.std.specs.Prelude.{◌≡◌, ◌≤◌, ◌⊎◌, ⊤, ℕ, false, List, [], ◌∷◌, ◌++◌, codes, length, map, take, drop, Option, Some, None, Ok}
+use Rattle.std.specs.Prelude.{◌≡◌, ◌≢◌, ◌≤◌, ◌⊎◌, ⊤, ℕ, Bool, false, not, List, [], ◌∷◌, ◌++◌, codes, filter, length, map, take, drop, Option, Some, None, Result, Ok, Err, is_ok}
 use Rattle.std.specs.List.{AllByRecursion, AllZip}
 use Rattle.sqlite.specs.State.{HasCleanDisk, State as Disk}
 use Rattle.sqlite.specs.Tree.{Trees}
@@ -15,9 +15,10 @@ use Rattle.adm_desk.specs.DeskState.{DeskState, Handles}
 use Rattle.adm_desk.specs.Lines.{answer_text}
 use Rattle.adm_desk.specs.declared.answer.Answer.{Answer}
 use Rattle.adm_desk.specs.declared.answer.LineAnswer.TheVariants.{Faulty}
-use Rattle.adm_http.specs.Connections.{Moment, ServesEach, Traffic}
+use Rattle.adm_http.specs.Connections.{EndedConnection, Moment, ServesEach, Traffic}
 use Rattle.adm_http.specs.Heads.{IsJudgement}
 use Rattle.adm_http.specs.Purposes.{HasRows, RunsBody}
+use Rattle.adm_http.specs.Reading.{is_connection_fault}
 use Rattle.adm_http.specs.Replies.{status_of_command}
 use Rattle.adm_http.specs.Responses.{Responds, of_answer}
 use Rattle.adm_http.specs.Shows.{Shows}
@@ -28,14 +29,19 @@ use Rattle.adm_http.specs.declared.heads.Judgement.TheVariants.{Whole}
 use Rattle.adm_http.specs.declared.heads.Verdict.TheVariants.{Run}
 use Rattle.adm_http.specs.declared.routes.Purpose.{Purpose}
 use Rattle.adm_http.specs.declared.routes.Purpose.TheVariants as purpose
+use Rattle.adm_http.specs.declared.serve.ServeFault.{ServeFault}
+use Rattle.adm_http.specs.declared.serve.ServeFault.TheVariants.{Read, Write, Memory}
 use Rattle.adm_wire.specs.Commands.{command_of}
 use Rattle.adm_wire.specs.declared.fault.WireFault.{WireFault}
 use Rattle.adm_program_laws.specs.Effects.{IsEffect}
+use Rattle.adm_program_laws.specs.Recorded.{IsMerged, recorded}
 
--- what was read of a connection as its request, and what was written to it; with the command that the request was and its answer, or none
+-- what was read of a connection as its request, what was written to it, and how it ended: without an error where its response was written whole; with the command that
+-- the request was and the answer of the desk, or none
 pub record Exchange : Type 0 where
   pub request : List ℕ
   pub written : List ℕ
+  pub ended : Result ℕ ServeFault
   pub answered : Option (Command × Answer)
 
 -- a body for this is this command: a line of commands, or for an import its rows
@@ -73,11 +79,21 @@ abbrev pub Moves : {C : Type 0} → (C → Disk) → Option (Command × Answer) 
 Moves disk None old new = new ≡ old
 Moves disk (Some answered) old new = Handles disk old answered.0 answered.1 new
 
--- What was written is a beginning of a response. Its command is in the request, if it was one, and the answer to it makes the response.
+-- How much of a response was written, by how its connection ended: all of it; or a beginning, where a write failed; or nothing, where a read failed, so that no response was
+-- made, or where memory ran out.
+abbrev pub IsWrittenBy : Result ℕ ServeFault → List ℕ → List ℕ → Type 0
+IsWrittenBy (Ok n) response written = written ≡ response
+IsWrittenBy (Err Write) response written = (n : ℕ) × (written ≡ take n response)
+IsWrittenBy (Err Read) response written = (response ≡ []) × (written ≡ [])
+IsWrittenBy (Err Memory) response written = written ≡ []
+
+-- What was written is a beginning of a response: all of it, unless the connection failed or memory ran out. Its command is in the request, if it was one, and the answer to it
+-- makes the response.
 pub record IsAnswered (e : Exchange) : Type 0 where
   pub response : List ℕ
   pub size : ℕ
   pub written : e.written ≡ take size response
+  pub whole : IsWrittenBy e.ended response e.written
   pub command : AnswersTo e.request response e.answered
 
 -- The response is that of the request's route, or none where it could not be read or memory ran out. Its command, if it was one, was handled.
@@ -101,16 +117,42 @@ abbrev pub commands_of : List Exchange → List (Command × Answer)
 commands_of [] = []
 commands_of (e ∷ more) = with_answered e.answered (commands_of more)
 
+-- the response was written whole
+abbrev pub is_whole : Exchange → Bool
+is_whole e = is_ok e.ended
+
+-- the acknowledged commands of exchanges: those that were recorded, and whose response was written whole
+abbrev pub acknowledged_in : List Exchange → List Command
+acknowledged_in served = recorded (commands_of (filter is_whole served))
+
+-- the commands of exchanges that were recorded, not answered: their response was not written whole, as the connection failed or memory ran out
+abbrev pub unanswered_in : List Exchange → List Command
+unanswered_in served = recorded (commands_of (filter (λ e. not (is_whole e)) served))
+
+-- the connection did not fail, and memory did not run out
+abbrev pub IsUndisturbed : Exchange → Type 0
+IsUndisturbed e = (is_connection_fault e.ended ≡ false) × (e.ended ≢ Err Memory)
+
+-- The recorded commands of exchanges are the acknowledged ones and those that were recorded, not answered. Of the latter there is none where no connection failed and memory
+-- did not run out.
+pub record AreRecorded (served : List Exchange) : Type 0 where
+  pub merged : IsMerged (recorded (commands_of served)) (acknowledged_in served) (unanswered_in served)
+  pub undisturbed : AllByRecursion IsUndisturbed served → unanswered_in served ≡ []
+
+-- the connection of an exchange, as it was ended
+abbrev pub ended_of : Exchange → EndedConnection
+ended_of e = record { written = e.written; has_failed = is_connection_fault e.ended }
+
 -- the request is a beginning of what the connection sent
 abbrev pub SentFirst : Exchange → List ℕ → Type 0
 SentFirst e sent = (more : List ℕ) × (sent ≡ e.request ++ more)
 
--- these are the exchanges of the connections that were taken in between, one after another, where the bytes of connections are known
+-- these are the exchanges of the connections that were taken in between, one after another, where the bytes of connections and whether each failed are known
 abbrev pub AreExchanged : Option Traffic → Option Traffic → List Exchange → Type 0
 AreExchanged None new served = ⊤
-AreExchanged (Some old) None served = ⊤
+AreExchanged (Some old) None served = ⊥
 AreExchanged (Some old) (Some new) served =
-    (sent : List (List ℕ)) × (old.coming ≡ sent ++ new.coming) × (new.answered ≡ old.answered ++ map (λ e. e.written) served) × AllZip SentFirst served sent
+    (sent : List (List ℕ)) × (old.coming ≡ sent ++ new.coming) × (new.answered ≡ old.answered ++ map ended_of served) × AllZip SentFirst served sent
 
 -- ---- what was answered with the status 200
 
@@ -157,13 +199,14 @@ LeavesServed first served disk = HasCleanDisk disk → (db : Trees) → disk.may
 
 -- ---- over a desk
 
--- At most so many connections were served, each by its request, and the desk has the register after the acknowledged commands of their requests, in order. All that a crash may leave
+-- At most so many connections were served, each by its request, and the desk has the register after the recorded commands of their requests, in order. All that a crash may leave
 -- represents it, or also the one that the command in flight leaves; so one that has each command to which the status 200 was written.
 pub record KeepsServed {C : Type 0} (disk : C → Disk) (count : ℕ) (old new : Moment (DeskState C)) : Type 0 where
   pub served : List Exchange
   pub few : length served ≤ count
   pub exchanged : AreExchanged old.traffic new.traffic served
   pub serves : ServesExchanges disk old.desk served new.desk
+  pub recorded : AreRecorded served
   pub kept : KeepsAcknowledged disk old.desk new.desk (commands_of served)
   pub effects : (done : List Command) → IsEffect (commands_of served) done → TookEffect served done
   pub leaves : LeavesServed old.desk.register served (disk new.desk.conn)

@@ -57,7 +57,7 @@ use Rattle.adm_program.specs.Arguments.{FollowsFrom}
 use Rattle.adm_program.specs.Given.{Around}
 use Rattle.adm_program.specs.Served.{AreUntaken, Visits}
 use Rattle.adm_program_laws.specs.Effects.{AreEffects, IsEffect}
-use Rattle.adm_program_laws.specs.Exchanges.{AreExchanged, Exchange, IsAnswered, TookEffect, commands_of}
+use Rattle.adm_program_laws.specs.Exchanges.{AreExchanged, AreRecorded, Exchange, IsAnswered, TookEffect, commands_of}
 
 -- a run: what its arguments were read as, the streams and the connections to ports before and after it, and its end: the exit status, and what remains of the files
 pub record ProgramRun {D : Type 0} (g : disk.Ghosts D) : Type 0 where
@@ -67,8 +67,8 @@ pub record ProgramRun {D : Type 0} (g : disk.Ghosts D) : Type 0 where
 
 -- ---- the commands of a run, with their answers
 
--- The commands in the first lines that were read, one answer for each of these lines, and the answers as they were written, but for a part of the last one. Unless
--- the run ended with an error, that is each line of the whole input, and each answer was written whole.
+-- The commands in the first lines that were read, one answer for each of these lines, and the answers as they were written, but for a part of the last one: its command
+-- may be recorded, not answered. Unless the run ended with an error, that is each line of the whole input, and each answer was written whole.
 pub record AnswersInput (status : ℕ) (input output : Stream) (answered : List (Command × Answer)) : Type 0 where
   pub bytes : List ℕ
   pub read : Consumes input.old input.new bytes
@@ -81,7 +81,8 @@ pub record AnswersInput (status : ℕ) (input output : Stream) (answered : List 
   pub written : Appends output.old output.new text
   pub all : status ≢ 1 → IsAtEnd input.new × (count ≡ length (lines_of bytes)) × (text ≡ answers_text answers)
 
--- all rows of the file as one command, and its answer, which was written, or where the run ended with an error perhaps a beginning of it
+-- All rows of the file as one command, and its answer, which was written whole, or where the run ended with an error perhaps a beginning of it: then the command may be
+-- recorded, not answered.
 pub record AnswersRows (status : ℕ) (file output : Stream) (answered : List (Command × Answer)) : Type 0 where
   pub rows : List ImportRow
   pub given : FileGives file (Ok rows)
@@ -91,14 +92,15 @@ pub record AnswersRows (status : ℕ) (file output : Stream) (answered : List (C
   pub written : Puts (answer_text answer ++ 10 ∷ []) output result
   pub all : status ≢ 1 → Appends output.old output.new (answer_text answer ++ 10 ∷ [])
 
--- At most so many connections to the port were served: each got a response to its request, or a beginning of one, and these are the commands of the requests, with
--- their answers. What may be found later has the effect of each command to which the status 200 was written.
+-- At most so many connections to the port were served: each got the response to its request whole, unless it failed or memory ran out, and these are the commands of the
+-- requests, with the answers of the desk. What may be found later has the effect of each command to which the status 200 was written.
 pub record AnswersConnections (count : ℕ) (coming left : Option Traffic) (answered : List (Command × Answer)) : Type 0 where
   pub served : List Exchange
   pub few : length served ≤ count
   pub exchanged : AreExchanged coming left served
   pub each : AllByRecursion IsAnswered served
   pub commands : answered ≡ commands_of served
+  pub recorded : AreRecorded served
   pub effects : (done : List Command) → IsEffect answered done → TookEffect served done
 
 -- the run ended with an error, no command was answered, and no connection was taken
@@ -119,7 +121,7 @@ AnswersBy (action.Serve file port count) run answered =
     TakesNone run.end.status port run.around.given.visits answered ⊎ AnswersConnections count (run.around.given.visits.coming port) run.around.given.visits.new answered
 AnswersBy other run answered = answered ≡ []
 
--- so does a run by what its arguments were read as; by none where they are a usage error
+-- a run answers these commands, by what its arguments were read as: those of the action, and none where they are a usage error
 abbrev pub AnswersFor : {D : Type 0} {g : disk.Ghosts D} → Result Action WordsFault → ProgramRun g → List (Command × Answer) → Type 0
 AnswersFor (Ok a) run answered = AnswersBy a run answered
 AnswersFor (Err fault) run answered = answered ≡ []
@@ -154,12 +156,12 @@ PlacesAfterRuns =
 
 -- ---- runs over the files
 
--- a database that the files hold has pages of this size
+-- each database that an open may read from the files has pages of this size
 abbrev pub HavePagesOf : ℕ → Image → Type 0
 HavePagesOf size image = (db : Trees) (held : HoldsDatabase image db) → held.0 ≡ size
 
 module _ {D : Type 0} {g : disk.Ghosts D} where
-  -- where its tables are numbered, what a crash may leave of the store; or files that hold a database which an open after a crash may find
+  -- what a crash may leave of a store whose tables have the numbers that the next open gives them; or, of any store, files that hold a database which an open after a crash may find
   abbrev pub MayHold : FileStore D g → Image → Type 0
   MayHold store after = (IsTrue (view store).is_numbered × (state store).may_leave after) ⊎ ((db : Trees) × recovers store db × HoldsDatabase after db)
 
@@ -169,8 +171,9 @@ module _ {D : Type 0} {g : disk.Ghosts D} where
   MayClose (Ok files) after = AreClean g files.log files.db × outcomes g files.log files.db after
   MayClose (Err (error, store)) after = IsClean (view store) × MayHold store after
 
-  -- The same of files that held the image `before` and were not opened as a register: what was not opened is as it was; what an open of `sqlite` that failed may leave,
-  -- where one that failed while it took over the log of a database did so by the size of its pages; or files that hold a database which an open after a crash may find.
+  -- On disks that returned what was written to them, a crash at the end of a run that did not open a register may leave this of files that held `before`. Not opened at all, they are as
+  -- they were. Of an open of `sqlite` that failed, what it may leave: where it failed while it copied the log of a database into it, the pages that it copied have the size of the database's
+  -- pages, which is assumed. Of an open that was followed by another error, files that hold a database which an open after a crash may find.
   abbrev pub MayStay : Image → Remainder D g → Image → Type 0
   MayStay before (remainder.Untouched it) after = after ≡ before
   MayStay before (remainder.Files (leftover.Files files)) after = AreClean g files.log files.db × outcomes g files.log files.db after
@@ -178,7 +181,7 @@ module _ {D : Type 0} {g : disk.Ghosts D} where
   MayStay before (remainder.Files (leftover.Store store)) after = IsTrue (view store).is_clean × (db : Trees) × recovers store db × HoldsDatabase after db
   MayStay before (remainder.Connection c) after = HasCleanDisk (file_state c) × (db : Trees) × recovers c.store db × HoldsDatabase after db
 
-  -- the same of whatever remains
+  -- What a crash at the end of a run may leave of files that held `before`, by what remains of the run: of files that were closed, or of ones that were not opened as a register.
   abbrev pub MayRemain : Image → Remains D g → Image → Type 0
   MayRemain before (Closed closed) after = MayClose closed after
   MayRemain before (Unopened rest) after = MayStay before rest after
@@ -189,7 +192,7 @@ module _ {D : Type 0} (g : disk.Ghosts D) where
     pub follows : FollowsFrom g before run.read run.around run.end
     pub left : MayRemain before run.end.remains after
 
-  -- runs, one after another
+  -- these runs were made one after another, each over what the one before it left of the files
   abbrev pub RunInOrder : Image → List (ProgramRun g) → Image → Type 0
   RunInOrder before [] after = after ≡ before
   RunInOrder before (run ∷ runs) after = (mid : Image) × RunsOver before run mid × RunInOrder mid runs after

@@ -24,12 +24,14 @@ pub fn next_run<D: Disk + Drop, E: Disk + Drop>(desk: Desk<FileStore<D>>) -> Fil
 }
 
 /// Any number of runs of the program over the same two files, each of which ended, or was crashed
-/// once it had opened the files: they hold the register to which the acknowledged commands of all
-/// runs lead, in order, with at most the one in flight of each run. It has the outcomes of each of
-/// their rounds, and each draw; each place has a cause. This follows from what
-/// `run_arguments` states of each run, on disks of any kind, so also on ones that fail from some call
-/// on, which are the model of a crash. `run` adds one run, so that each may be over disks of a kind
-/// of its own, and `runs` any number. It does nothing.
+/// once it had opened the files: they hold the register to which the recorded commands of all runs
+/// lead, in order, with at most the one in flight of each run. A command is recorded once the desk has
+/// answered it Done, and acknowledged once this answer was written whole; so each acknowledged command
+/// is in that register. It has the outcomes of each of their rounds, and each draw; each place has a
+/// cause. This follows from what `run_arguments` states of each run, on disks of any kind, so also on
+/// ones that fail from some call on, which are the model of a crash. `run` adds one run, so that each
+/// may be over disks of a kind of its own, and `runs` any number. This is a law and no step of the
+/// program: when it is called, nothing is done.
 pub fn runs_in_order<D: Disk + Drop>()
     ensures init { InitMakesFile D.Disk }
     ensures run { OneMoreRun D.Disk }

@@ -1,6 +1,6 @@
-// Connections in memory: what each client sends, when it breaks off, and what was written to it.
+// Connections in memory: what each client sends, when it breaks off, what was written to it, and whether its connection failed.
 ghost use Rattle.std.specs.Prelude.{◌≡◌, ◌+◌, ◌≤◌, ◌++◌, ◌∷◌, [], Some, true, false, IfOk, map, length, vec_len, vec_capacity, if◌then◌else◌};
-ghost use Rattle.adm_http.specs.Connections.{Traffic};
+ghost use Rattle.adm_http.specs.Connections.{EndedConnection, Traffic};
 
 use crate::requests::desks::MemoryDesk;
 use crate::requests::served::print_bytes;
@@ -62,12 +62,19 @@ impl Input for Visit<'_> {
     }
 }
 
-/// Clients, one after the other.
+/// What was written to a client, and whether its connection failed.
+#[derive(Drop)]
+struct Ended {
+    written: Vec<u8>,
+    has_failed: bool,
+}
+
+/// Clients, one after the other. No accept fails.
 #[derive(Drop)]
 struct Clients<'a> {
     alloc: Global,
     coming: &'a [Client],
-    answers: Vec<Vec<u8>>,
+    answers: Vec<Ended>,
     is_open: bool,
     ghost room: { vec_len answers + length coming.now + (if is_open then 1 else 0) ≤ vec_capacity answers },
 }
@@ -86,13 +93,13 @@ impl<'a> Clients<'a> {
     }
 
     /// Ends the connection that is open.
-    fn end(&mut self, answer: Vec<u8>)
+    fn end(&mut self, ended: Ended)
         requires { self.old.is_open ≡ true }
         ensures coming { self.new.coming.now ≡ self.old.coming.now }
-        ensures answers { self.new.answers.items ≡ self.old.answers.items ++ answer ∷ [] }
+        ensures answers { self.new.answers.items ≡ self.old.answers.items ++ ended ∷ [] }
         ensures open { self.new.is_open ≡ false }
     {
-        self.answers.push_reserved(answer);
+        self.answers.push_reserved(ended);
         self.is_open = false;
     }
 }
@@ -102,7 +109,8 @@ impl<'a> Connections for Clients<'a> {
 
     ghost traffic = { λ s. Some (record {
       coming = map (λ c. c.sends.items) s.coming.now;
-      answered = map (λ v. v.items) s.answers.items;
+      answered = map (λ ended. record { written = ended.written.items; has_failed = ended.has_failed }) s.answers.items;
+      failed_accepts = 0;
       is_open = s.is_open;
     }) };
 
@@ -119,19 +127,28 @@ impl<'a> Connections for Clients<'a> {
 
     fn respond(&mut self, connection: Visit<'a>, output: &[u8]) -> Result<(), WriteFailed> {
         let count = output.len().min(connection.takes);
-        let mut answer = Vec::new(self.alloc);
-        let stored = answer.extend_from_slice(&output[..count]);
-        self.end(answer);
+        let mut written = Vec::new(self.alloc);
+        let stored = written.extend_from_slice(&output[..count]);
         if stored.is_ok() && count == output.len() {
+            self.end(Ended {
+                written,
+                has_failed: connection.reader.has_failed,
+            });
             Ok(())
         } else {
+            self.end(Ended {
+                written,
+                has_failed: true,
+            });
             Err(WriteFailed)
         }
     }
 
     fn close(&mut self, connection: Visit<'a>) {
-        drop(connection);
-        self.end(Vec::new(self.alloc));
+        self.end(Ended {
+            written: Vec::new(self.alloc),
+            has_failed: connection.reader.has_failed,
+        });
     }
 }
 
@@ -139,7 +156,7 @@ impl<'a> Connections for Clients<'a> {
 #[derive(Drop)]
 pub(crate) struct Turns {
     status: u8,
-    answers: Vec<Vec<u8>>,
+    answers: Vec<Ended>,
     errors: Vec<u8>,
     /// How many clients were not served.
     left: usize,
@@ -174,7 +191,7 @@ impl Turns {
     pub(crate) fn print(&self, rt: &impl Print, alloc: Global) -> io::Result<()> {
         for (index, answer) in self.answers.iter().enumerate() {
             println!(rt; "  client {}", index.saturating_add(1))?;
-            print_bytes(rt, alloc, answer)?;
+            print_bytes(rt, alloc, &answer.written)?;
         }
         print_bytes(rt, alloc, &self.errors)?;
         println!(rt; "  status {}, {} not served", self.status, self.left)

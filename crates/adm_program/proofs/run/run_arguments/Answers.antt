@@ -22,7 +22,7 @@ returns-in-Err-clause-does g c =
       read = Err c.in-Err.fault;
       reads = c.in-Err.ensures.reads;
       follows = (
-        record { unread = refl; unwritten = refl; untaken = refl; reported = c.refuse_arguments.ensures.reported; exits = c.code.ensures ∙ ap exit_code c.refuse_arguments.ensures.exit },
+        record { unread = refl; unwritten = refl; untaken = refl; unlogged = refl; reported = c.refuse_arguments.ensures.reported; exits = c.code.ensures ∙ ap exit_code c.refuse_arguments.ensures.exit },
         c.leave_unopened.ensures,
       );
     }
