@@ -280,6 +280,10 @@ def steps(office: Site, number: int) -> dict[str, Callable[[], object]]:
     }
 
 
+# why a draw is given up
+MISTYPED = "the lot of 2 at OAK was typed as 14, the sheet has 41"
+
+
 def begun(office: Site, school_code: str | None = None, fills: int = 1,
           day: str = OFFER_DAY) -> int:
     """Begins a draw."""
@@ -300,7 +304,7 @@ def given_up(office: Site, number: int) -> None:
     """Gives up a draw, by as many persons as it needs."""
     draws: Draws = office.parts.draws
     if draws.get(number).digest:
-        draws.ask_give_up(HAL, number, version(office, number))
+        draws.ask_give_up(HAL, number, version(office, number), MISTYPED)
         draws.confirm_give_up(JANE, number, version(office, number))
     else:
         draws.give_up(HAL, number, version(office, number))

@@ -11,8 +11,8 @@ import flask
 import pytest
 from applications import Browser, Site, site
 from draw_site import (
-    HAL, Fields, Machine, Person, at_lots, begun, brought, lot_of, machine_over, sealed,
-    small_register, typed, version, waiting,
+    HAL, MISTYPED, RAISED, Fields, Machine, Person, at_lots, begun, brought, lot_of, machine_over,
+    sealed, small_register, typed, version, waiting,
 )
 from pages import Page
 
@@ -147,17 +147,21 @@ def test_one_gives_up_alone_whom_nobody_can_confirm(small: Machine) -> None:
         page = hal.browser.get(f"/draws/{number}").text
         assert re.search(r"Nobody else can confirm it now: Jane was given another password by hal"
                          r" at \d\d:\d\d, after this draw was begun\.", page)
-        assert hal.step(number, "give-up-alone").status_code == 303
+        found = hal.step(number, "give-up-alone")
+        assert found.status_code == 409 and "Type the reason for giving the draw up" in found.text
+        assert hal.step(number, "give-up-alone", reason=MISTYPED).status_code == 303
         assert office.parts.desk.closed() == "" and office.parts.desk.now().draws == []
         last = office.parts.history.entries[-1]
         assert (last.who, last.what, last.about["lots"]) == ("hal", "gave up alone", digest)
         assert last.about["why"].startswith("jane was given another password by hal")
+        assert last.about["reason"] == MISTYPED
         again = begun(office)
         for state in ("begun", "rehearsed"):
             brought(office, again, state)
             page = " ".join(jane.browser.get(f"/draws/{again}").text.split())
-            assert ("Draw 1 was begun before, and given up after the lots were sealed, when the"
-                    " outcome could be known: by hal alone, ") in page
+            assert re.search("Draw 1 was begun before, and given up after the lots were sealed,"
+                             " when the outcome could be known: by hal alone, [^<]*, because:"
+                             f" <bdi>{MISTYPED}</bdi>", page)
         assert jane.step(again, "confirm").status_code == 303
         assert hal.step(again, "send").status_code == 303
         assert office.parts.draws.get(again).state == "opened"
@@ -173,7 +177,7 @@ def test_a_draw_given_up_by_two_names_both(small: Machine) -> None:
         assert "begun before" not in hal.browser.get(f"/draws/{second}").text
         brought(office, second, "sealed")
         waiting(office, second)
-        assert jane.step(second, "ask-give-up").status_code == 303
+        assert jane.step(second, "ask-give-up", reason=MISTYPED).status_code == 303
         found = jane.step(second, "confirm-give-up")
         assert found.status_code == 409 and "somebody else confirms" in found.text
         assert hal.step(second, "confirm-give-up").status_code == 303
@@ -201,6 +205,33 @@ def test_an_officer_ends_what_a_locked_head_began(small: Machine) -> None:
         waiting(office, number)
         assert jane.step(number, "go-on").status_code == 303
         assert office.parts.draws.get(number).state == "opened"
+
+
+def test_another_head_holds_what_was_confirmed(small: Machine) -> None:
+    """Where the head who began it is away: one who got the role since, who is none of the two
+    persons of the draw; and a second head both confirms and holds.
+    """
+    with small.office() as office:
+        _, jane = office_of_two(office)
+        pat = Person(office, "pat", "officer")
+        number = begun(office)
+        brought(office, number, "rehearsed")
+        office.parts.history.add("root", "gave a role", {"person": "pat", "role": "head"})
+        office.parts.people.set_role("pat", "head")
+        pat = Person(office, "pat", "head")
+        found = pat.press(number, str(version(office, number)), "confirm")
+        assert found.status_code == 409 and "Pat was given another role by root" in found.text
+        assert jane.step(number, "confirm").status_code == 303
+        assert "Hold draw 1</button>" in pat.browser.get(f"/draws/{number}").text
+        assert pat.step(number, "send").status_code == 303
+        assert office.parts.draws.get(number).who("sending") == "pat"
+        small.do([RAISED])
+        number = begun(office, "OAK")
+        brought(office, number, "rehearsed")
+        for name in ("confirm", "send"):
+            assert pat.step(number, name).status_code == 303, name
+        draw = office.parts.draws.get(number)
+        assert (draw.state, draw.who("confirmed"), draw.who("sending")) == ("opened", "pat", "pat")
 
 
 def test_one_restores_alone_what_cannot_go_on(
@@ -297,7 +328,8 @@ def test_who_sealed_the_lots_reads_who_confirms(tmp_path: pathlib.Path) -> None:
     """Neither who began the draw, nor who sealed its lots."""
     done = (Done("begun", "hal", "", ""), Done("sealed", "sup", "", ""))
     terms, register = Terms(1, None, 1, datetime.date(2025, 3, 3)), cast(Any, object())
-    draw = Draw(1, terms, "rehearsed", 6, 1, None, "ab", {}, {}, "", "", "", done, None, "")
+    draw = Draw(1, terms, "rehearsed", 6, 1, None, "ab", {}, {}, "", "", "", "", done, None,
+                "")
     with site(tmp_path, "http://127.0.0.1:9") as office, office.app.test_request_context():
         for name, said in (("sup", "Somebody other than hal and sup confirms it."),
                            ("hal", "Somebody other than hal and sup confirms it."), ("jane", "")):

@@ -19,9 +19,9 @@ import pytest
 from applications import ORIGIN, Site
 from conftest import PROGRAM, apply, child, make, school
 from draw_site import (
-    HAL, JANE, NAME, OFFER_DAY, RAISED, SUP, Command, Crash, Fields, Machine, Person, after_round,
-    begun, brought, crashing, first_day, given_up, lot_of, machine_over, no_answer, sealed,
-    small_register, steps, typed, version, waiting,
+    HAL, JANE, MISTYPED, NAME, OFFER_DAY, RAISED, SUP, Command, Crash, Fields, Machine, Person,
+    after_round, begun, brought, crashing, first_day, given_up, lot_of, machine_over, no_answer,
+    sealed, small_register, steps, typed, version, waiting,
 )
 from pages import Page
 from register_files import Refused
@@ -735,7 +735,7 @@ def test_a_difference_of_the_audit_stops_it(
         for name in ("confirm", "send"):
             assert hal.step(number, name).status_code == 409
         assert office.parts.desk.now().draws == []
-        assert hal.step(number, "ask-give-up").status_code == 303
+        assert hal.step(number, "ask-give-up", reason=MISTYPED).status_code == 303
         jane = Person(office, "jane", "officer")
         assert jane.step(number, "confirm-give-up").status_code == 303
         assert office.parts.desk.closed() == ""
@@ -867,10 +867,11 @@ def test_a_draw_is_given_up_before_it_is_sent_alone(small: Machine) -> None:
             assert office.parts.desk.closed() == ""
         number = begun(office)
         brought(office, number, "sending")
-        for step in (office.parts.draws.give_up, office.parts.draws.ask_give_up,
-                     office.parts.draws.confirm_give_up):
+        for step in (office.parts.draws.give_up, office.parts.draws.confirm_give_up):
             with pytest.raises(Refused, match="in which this cannot be done"):
                 step(HAL, number, version(office, number))
+        with pytest.raises(Refused, match="in which this cannot be done"):
+            office.parts.draws.ask_give_up(HAL, number, version(office, number), MISTYPED)
 
 
 def test_two_give_up_a_draw_whose_lots_are_sealed(small: Machine) -> None:
@@ -892,7 +893,7 @@ def test_two_give_up_a_draw_whose_lots_are_sealed(small: Machine) -> None:
         assert found.status_code == 409 and "in which this cannot be done" in found.text
         found = jane.step(number, "confirm-give-up")
         assert found.status_code == 409 and "Nobody has asked to give up the draw." in found.text
-        assert hal.step(number, "ask-give-up").status_code == 303
+        assert hal.step(number, "ask-give-up", reason=MISTYPED).status_code == 303
         page = hal.browser.get(f"/draws/{number}").text
         assert "hal has asked to give up the draw." in page and ">Confirm draw 1<" not in page
         assert ">Give up draw 1</button>" not in page
@@ -903,15 +904,46 @@ def test_two_give_up_a_draw_whose_lots_are_sealed(small: Machine) -> None:
         # (it is taken back, and asked for once more)
         assert hal.step(number, "keep-on").status_code == 303
         assert ">Confirm draw 1<" in jane.browser.get(f"/draws/{number}").text
-        assert hal.step(number, "ask-give-up").status_code == 303
+        assert hal.step(number, "ask-give-up", reason=MISTYPED).status_code == 303
         assert office.parts.desk.closed()
         assert ">Give up draw 1</button>" in jane.browser.get(f"/draws/{number}").text
         assert jane.step(number, "confirm-give-up").status_code == 303
         assert office.parts.desk.closed() == "" and office.parts.desk.now().draws == []
         last = office.parts.history.entries[-1]
         assert (last.who, last.what, last.about["lots"]) == ("jane", "gave up", digest)
+        assert last.about["reason"] == MISTYPED
         page = jane.browser.get(f"/draws/{number}").text
         assert f"Digest of the lots {digest}." in page
+
+
+def test_a_draw_whose_lots_are_sealed_is_given_up_for_a_reason(small: Machine) -> None:
+    """Which is shown to who confirms it, among the steps, and with the next draw: nobody has other
+    lots drawn without one who may know the outcome. What is no reason is refused, and stays typed.
+    """
+    with small.office() as office:
+        hal, jane = Person(office, "hal", "head"), Person(office, "jane", "officer")
+        number = begun(office)
+        brought(office, number, "rehearsed")
+        assert hal.browser.get(f"/draws/{number}").text.count('name="reason"') == 1
+        for reason in ("", " ", "two\nlines", 501 * "x"):
+            found = hal.step(number, "ask-give-up", reason=reason)
+            assert found.status_code == 409, reason
+            assert "Type the reason for giving the draw up in one line" in found.text
+            assert office.parts.draws.get(number).give_up_by == ""
+        assert f'value="{501 * "x"}"' in found.text
+        assert hal.step(number, "ask-give-up", reason=f" {MISTYPED} <b>").status_code == 303
+        said = f"because: <bdi>{MISTYPED} &lt;b&gt;</bdi>"
+        page = jane.browser.get(f"/draws/{number}").text
+        assert f"hal has asked for it, {said}" in page and 'name="reason"' not in page
+        assert f"Asked to give it up. Reason: {MISTYPED} &lt;b&gt;" in page
+        # (a reason that is taken back is not that of the next request)
+        assert jane.step(number, "keep-on").status_code == 303
+        assert said not in jane.browser.get(f"/draws/{number}").text
+        assert jane.step(number, "ask-give-up", reason="the lottery was another").status_code == 303
+        assert hal.step(number, "confirm-give-up").status_code == 303
+        page = " ".join(hal.browser.get(f"/draws/{begun(office)}").text.split())
+        assert re.search(r"could be known: by jane and hal, [^<]*, because: <bdi>the lottery was"
+                         r" another</bdi> <a ", page)
 
 
 # what the head does to a second person, and how the page says it
@@ -956,7 +988,7 @@ def test_a_second_person_is_not_made_up(small: Machine, how: str) -> None:
         assert "Ask to give up draw 1</button>" not in page
         for it in ("confirm", "ask-give-up"):
             refused(it)
-        office.parts.draws.ask_give_up(HAL, number, version(office, number))
+        office.parts.draws.ask_give_up(HAL, number, version(office, number), MISTYPED)
         assert ">Give up draw 1</button>" not in pat.browser.get(f"/draws/{number}").text
         refused("confirm-give-up")
         office.parts.draws.go_on(HAL, number, version(office, number))
@@ -1023,7 +1055,7 @@ def test_the_checks_have_all_that_a_file_is_asked(small: Machine) -> None:
             ("Day", False): "Monday 7 April 2025.",
             ("Before it", False): "The register has 1 round and 0 fills.",
             ("Season", False): "Applications closed on 31 October 2024; the offer day is 3 March"
-                               " 2025; the lists close on 31 December 2025.",
+                               " 2025; the lists end on 31 December 2025.",
             ("Holidays", False): "None.",
             ("School", False): "OAK OAK School has 3 vacancies, and 4 children on its waiting"
                                " list.",

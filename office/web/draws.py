@@ -275,21 +275,24 @@ class Draws(DrawStore):
             with self.moving(draw, who, GIVEN_UP, f"In the state '{draw.state}'."):
                 pass
 
-    def ask_give_up(self, who: Person, number: int, seen: int) -> None:
-        """Says that a draw whose lots are sealed is to be given up, which another confirms. So
-        nobody alone has other lots drawn who has seen what these lead to.
+    def ask_give_up(self, who: Person, number: int, seen: int, why: str) -> None:
+        """Says that a draw whose lots are sealed is to be given up and why, which another confirms.
+        So nobody alone has other lots drawn who has seen what these lead to.
         """
         with self.turn(number, seen, *UNSENT_SEALED) as draw:
             self.see_steady(who)
-            self.record(who, "asked to give up", draw, lots=draw.digest)
-            with self.moving(draw, who, draw.state, "Asked to give it up.", give_up_by=who.name):
+            why = reason_to_give_up(why)
+            self.record(who, "asked to give up", draw, lots=draw.digest, reason=why)
+            with self.moving(draw, who, draw.state, f"Asked to give it up. Reason: {why}",
+                             give_up_by=who.name, give_up_why=why):
                 pass
 
     def go_on(self, who: Person, number: int, seen: int) -> None:
         """Takes back that a draw is to be given up."""
         with self.turn(number, seen, *UNSENT_SEALED) as draw:
             self.record(who, "took back the giving up", draw)
-            with self.moving(draw, who, draw.state, "Took back the giving up.", give_up_by=None):
+            with self.moving(draw, who, draw.state, "Took back the giving up.", give_up_by=None,
+                             give_up_why=""):
                 pass
 
     def confirm_give_up(self, who: Person, number: int, seen: int) -> None:
@@ -301,20 +304,21 @@ class Draws(DrawStore):
             if who.name == draw.give_up_by:
                 raise Refused(f"{who.name} has asked to give up the draw: somebody else confirms"
                               " it")
-            self.record(who, "gave up", draw, lots=draw.digest)
+            self.record(who, "gave up", draw, lots=draw.digest, reason=draw.give_up_why)
             said = f"In the state '{draw.state}'. Digest of the lots {draw.digest}."
             with self.moving(draw, who, GIVEN_UP, said):
                 pass
 
-    def give_up_alone(self, who: Person, number: int, seen: int) -> None:
+    def give_up_alone(self, who: Person, number: int, seen: int, why: str) -> None:
         """Ends the same alone, where nobody else can confirm it: else no draw could ever follow.
         It is shown with each draw that does.
         """
         with self.turn(number, seen, *UNSENT_SEALED) as draw:
-            why = self.see_alone(who)
-            self.record(who, "gave up alone", draw, lots=draw.digest, why=why)
-            said = f"Alone, in the state '{draw.state}': {why}. Digest of the lots {draw.digest}."
-            with self.moving(draw, who, GIVEN_UP, said, give_up_by=who.name):
+            alone, why = self.see_alone(who), reason_to_give_up(why)
+            self.record(who, "gave up alone", draw, lots=draw.digest, why=alone, reason=why)
+            said = (f"Alone, in the state '{draw.state}': {alone}. Digest of the lots"
+                    f" {draw.digest}. Reason: {why}")
+            with self.moving(draw, who, GIVEN_UP, said, give_up_by=who.name, give_up_why=why):
                 pass
 
     def ask_restore(self, who: Person, number: int, seen: int) -> None:
@@ -370,6 +374,11 @@ class Draws(DrawStore):
         except Differs:
             return False
         return True
+
+
+def reason_to_give_up(text: str) -> str:
+    """Why a draw with sealed lots is given up, or a refusal."""
+    return draws_again.reason_in(text, "giving the draw up", "who confirms the next draw")
 
 
 def held_in(register: Register, draw: Draw) -> int:

@@ -3,11 +3,22 @@ stay. Who knows an outcome could otherwise have lots drawn until another one is 
 """
 from collections.abc import Sequence
 
+from register_files import Refused
+
 from .draws_lots import Cell
 from .draws_store import DrawStore
 from .draws_terms import OPENED, RESTORED, Draw, Terms
 
 MOST_REASON = 500
+
+
+def reason_in(text: str, what: str, reader: str) -> str:
+    """The reason for what may lead to other lots, in one line; or a refusal of what has none."""
+    found = text.strip()
+    if not found or len(found) > MOST_REASON or not found.isprintable():
+        raise Refused(f"type the reason for {what} in one line: it is on record, and {reader} reads"
+                      " it")
+    return found
 
 
 def undone(draws: Sequence[Draw]) -> list[Draw]:

@@ -101,7 +101,7 @@ def season_checks(register: Register) -> list[Check]:
     return [
         Check("Before it", f"The register has {before}."),
         Check("Season", f"Applications closed on {closing}; the offer day is {offer}; the lists"
-                        f" close on {end}."),
+                        f" end on {end}."),
         Check("Holidays", f"{held[:1].upper()}{held[1:]}."),
     ]
 

@@ -94,9 +94,10 @@ class Draw:
     # what the rehearsal and the audit found
     rehearsal: dict[str, Any]
     audit: dict[str, Any]
-    # who has asked to restore the copy, or to give up the draw, or ""
+    # who has asked to restore the copy, or to give up the draw and why, or ""
     restore_by: str
     give_up_by: str
+    give_up_why: str
     # why what follows by itself was not done, or ""
     trouble: str
     done: tuple[Done, ...]
@@ -138,7 +139,8 @@ def of_rows(row: sqlite3.Row, steps: list[sqlite3.Row]) -> Draw:
         row["id"], terms, row["state"], row["version"], row["copy_before"],
         row["copy_after"], row["digest"] or "", json.loads(row["rehearsal"] or "{}"),
         json.loads(row["audit"] or "{}"), row["restore_by"] or "", row["give_up_by"] or "",
-        row["trouble"] or "", steps_in(steps), row["repeats"], row["other_lots"])
+        row["give_up_why"], row["trouble"] or "", steps_in(steps), row["repeats"],
+        row["other_lots"])
 
 
 # each state as an office reads it; and what runs from it, where something does

@@ -181,6 +181,10 @@ STEPS = (
         child INTEGER PRIMARY KEY, lines TEXT NOT NULL, who TEXT NOT NULL,
         at TEXT NOT NULL) STRICT;
     """,
+    # why a draw whose lots are sealed is given up
+    """
+    ALTER TABLE draw ADD COLUMN give_up_why TEXT NOT NULL DEFAULT '';
+    """,
 )
 # the disk, or the limit of a file of the system, is reached
 FULL = "SQLITE_FULL"

@@ -107,11 +107,7 @@ def reason_of(form: Mapping[str, str]) -> str:
     """Why other lots are drawn for a draw that is held again, or ""."""
     if form.get("lots", "kept") == "kept":
         return ""
-    found = form.get("reason", "").strip()
-    if not found or len(found) > draws_again.MOST_REASON or not found.isprintable():
-        raise Refused("type the reason for other lots in one line: it is on record, and who"
-                      " confirms the draw reads it")
-    return found
+    return draws_again.reason_in(form.get("reason", ""), "other lots", "who confirms the draw")
 
 
 def found_draw(number: int) -> Draw:
@@ -158,7 +154,8 @@ def draw_page(number: int, reason: str = "", status: int = 200) -> Answer:
         is_tried=is_tried(draw, register),
         repeats=found_draw(draw.repeats) if draw.repeats else None,
         may_undo=draw.state == OPENED and bool(draw.before), unsent=unsent_of(draw),
-        work=work, looks_again=LOOKS_AGAIN,
+        work=work, looks_again=LOOKS_AGAIN, most_reason=draws_again.MOST_REASON,
+        typed=flask.request.form.get("reason", ""),
         is_read_first=bool(outcome) and draw.state == REHEARSED, again=again_of(draw),
         doubts="" if draw.is_ended else draw.came_to(CLOSED).said,
         runs=RUNS.get(draw.state, "a step is done"), in_words=state_in_words(draw, standing),
@@ -315,12 +312,15 @@ def sealed(number: int) -> flask.Response:
 
 @dataclasses.dataclass(frozen=True)
 class Asked:
-    """A step that is asked for: by whom, of which draw in which version, and what was agreed to."""
+    """A step that is asked for: by whom, of which draw in which version, what was agreed to, and
+    the reason.
+    """
 
     who: Person
     number: int
     seen: int
     agreed: str
+    why: str
 
     @property
     def given(self) -> tuple[Person, int, int]:
@@ -339,10 +339,10 @@ SECOND: dict[str, Step] = {
     "confirm": lambda it, asked: it.draws.confirm(*asked.given),
     AGAIN: lambda it, asked: it.following.again(*asked.given),
     "give-up": lambda it, asked: it.draws.give_up(*asked.given),
-    "ask-give-up": lambda it, asked: it.draws.ask_give_up(*asked.given),
+    "ask-give-up": lambda it, asked: it.draws.ask_give_up(*asked.given, asked.why),
     "keep-on": lambda it, asked: it.draws.go_on(*asked.given),
     "confirm-give-up": lambda it, asked: it.draws.confirm_give_up(*asked.given),
-    "give-up-alone": lambda it, asked: it.draws.give_up_alone(*asked.given),
+    "give-up-alone": lambda it, asked: it.draws.give_up_alone(*asked.given, asked.why),
     "ask-restore": lambda it, asked: it.draws.ask_restore(*asked.given),
     "keep": lambda it, asked: it.draws.keep(*asked.given),
     "restore": lambda it, asked: it.draws.restore(*asked.given),
@@ -356,8 +356,9 @@ def done(number: int, steps: dict[str, Step], name: str) -> Answer:
     seen = numbers.read(flask.request.form.get("seen", ""))
     if name not in steps or seen < 0:
         flask.abort(404 if name not in steps else 400)
-    agreed = flask.request.form.get("agreed", "") if name == "close" else ""
-    asked = Asked(person(), number, seen, agreed)
+    form = flask.request.form
+    agreed = form.get("agreed", "") if name == "close" else ""
+    asked = Asked(person(), number, seen, agreed, form.get("reason", ""))
     found, step = parts(), steps[name]
     try:
         found.following.begin(person(), number, lambda: step(found, asked))
