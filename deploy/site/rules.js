@@ -219,7 +219,7 @@ export const words = {
   },
   "RegisterFull": {
    "means": "the register is full: it has at most {schools.most} schools, {children.most} children, {draws.most} rounds and fills, and {lots.most} lots",
-   "do": "no more can be added"
+   "do": "no more can be added: keep the child's application outside of the register, and tell whoever runs the machine"
   },
   "BadPreferences": {
    "means": "the preferences are not {preferences.least} to {preferences.most} schools, or one is repeated",
