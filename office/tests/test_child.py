@@ -307,6 +307,14 @@ def test_a_correction_does_not_undo_another_unseen(office: Site) -> None:
     assert (found.name, found.north) == ("Ada Abell", 100)
 
 
+def test_both_forms_say_who_is_looked_after(office: Site) -> None:
+    """Not every child that was once in care: who is has the first rank at each school."""
+    jane = office.browser("jane")
+    for path in ("/applications/add/", "/children/1/correct"):
+        found = jane.get(path).text
+        assert "or adopted from state care abroad; no: every other child" in found, path
+
+
 def test_a_correction_that_is_wrong_stays_in_the_form(office: Site) -> None:
     """With each error at its field; one that changes nothing is not sent."""
     jane = office.browser("jane")
