@@ -27,6 +27,6 @@ TEXTS = {name: sentences(*rules.in_words("refusals", name)) for name in rules.RU
 def names() -> list[str]:
     """The names of the refusals in the table of ERRORS, sorted."""
     text = ERRORS.read_text(encoding="utf-8")
-    table = text[text.index("### Refused") : text.index("### Unreadable")]
+    table = text[text.index("### Refusals") : text.index("### Unreadable")]
     cells = [line.split("|")[1] for line in table.splitlines() if line.startswith("|")][2:]
     return sorted(re.findall(r"[A-Z][A-Za-z]+", " ".join(cells)))

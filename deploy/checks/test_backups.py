@@ -83,7 +83,7 @@ def test_a_register_that_is_not_in_use_is_backed_up(backup: Backup) -> None:
 
 def test_of_the_nightly_copies_the_two_that_were_made_last_are_kept_and_the_others_stay(
         copies: pathlib.Path, backup: Backup) -> None:
-    assert names(copies) == [OTHER, OLD[-1], backup.copy.name]
+    assert names(copies) == [OTHER, OLD[-1], backup.copy.name, "nightly.number"]
     assert backup.copy.name.startswith("nightly-000008-")
 
 

@@ -41,7 +41,7 @@ def units_fixture(world: World) -> list[pathlib.Path]:
     usr, folder = world.installation.usr, world.room / "units"
     folder.mkdir()
     for unit in (world.prefix / "lib/systemd/system").glob("admissions*"):
-        text = re.sub(f"=({SIGNS}){usr}/(bin|lib/admissions)/", rf"=\1{world.prefix}/\2/",
+        text = re.sub(f"=({SIGNS}){usr}/(s?bin|lib/admissions)/", rf"=\1{world.prefix}/\2/",
                       unit.read_text())
         (folder / unit.name).write_text(text)
     return sorted(folder.iterdir())
