@@ -161,9 +161,9 @@ class Browser:
         while self.held:
             self.call("Fetch.continueRequest", requestId=self.held.pop(0))
 
-    def until(self, what: Callable[[], T], name: str) -> T:
+    def until(self, what: Callable[[], T], name: str, seconds: float = 120) -> T:
         """Waits until something is so that the browser's events change, and returns it."""
-        return until(lambda: (self.value("0"), what())[1], name)
+        return until(lambda: (self.value("0"), what())[1], name, seconds)
 
     def framed(self, address: str) -> str:
         """The address of the document that a frame of another site shows for an address, once it
