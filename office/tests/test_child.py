@@ -8,6 +8,7 @@ from typing import Any
 
 import pytest
 from applications import ROUND, Browser, Site, child, office_over, town
+from conftest import ROOT
 from pages import Page, press
 
 from office.web import children, corrections, effects, flags, wording
@@ -308,11 +309,19 @@ def test_a_correction_does_not_undo_another_unseen(office: Site) -> None:
 
 
 def test_both_forms_say_who_is_looked_after(office: Site) -> None:
-    """Not every child that was once in care: who is has the first rank at each school."""
+    """Not every child that was once in care: who is has the first rank at each school. The words
+    are those of GLOSSARY.
+    """
     jane = office.browser("jane")
+    glossary = (ROOT / "docs" / "GLOSSARY.md").read_text("utf-8")
     for path in ("/applications/add/", "/children/1/correct"):
         found = jane.get(path).text
-        assert "or adopted from state care abroad; no: every other child" in found, path
+        assert ">Looked after</label>" in found, path
+        assert "no: every other child, even if it was once in care" in found, path
+        for words in ("in the care of a local authority, or provided with accommodation by one",
+                      "a child arrangements order or a special guardianship order",
+                      "appears to have been in state care outside England"):
+            assert words in found and words in glossary, (path, words)
 
 
 def test_a_correction_that_is_wrong_stays_in_the_form(office: Site) -> None:

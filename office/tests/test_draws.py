@@ -212,6 +212,7 @@ def test_a_round_by_five_hands(machine: Machine, town: Town) -> None:
         assert f"{link}confirm draw 1." in jane.browser.get("/").text
         wanted = town.allotted(lots)
         shown = hal.browser.get("/draws/1").text
+        assert "from then on until the register is open again. All can still read" in shown
         placed = sum(it is not None for it in wanted.values())
         assert f"<dt>A new place</dt><dd>{placed} children</dd>" in shown
         assert f"<dt>No place</dt><dd>{40 - placed} children</dd>" in shown

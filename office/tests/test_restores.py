@@ -743,7 +743,7 @@ def held_again(room: Room, lots: dict[tuple[str, int], list[int]]) -> None:
     made = room.hal.post("/draws/", other)
     number = int(made.headers["Location"].rsplit("/", 1)[1])
     page = html.unescape(room.jane.get(f"/draws/{number}").text)
-    assert "Other lots are drawn, because: <bdi>two lots were typed wrong" in page
+    assert "All lots are entered anew, because: <bdi>two lots were typed wrong" in page
     assert office.parts.history.entries[-1].about["other lots"] == "two lots were typed wrong"
     assert draws_again.kept(office.parts.draws, office.parts.draws.get(number)) == {}
     given_up(office, number)

@@ -174,8 +174,8 @@ class Step:
 STEPS = (
     Step(BEGUN, "What is drawn, and for which day", "Nothing is closed yet."),
     Step(CLOSED, "Closed for all others",
-         "Nobody can record anything from then on until the draw is opened or given up. All can"
-         " still read, and what somebody has typed stays. The next two steps follow by themselves.",
+         "Nobody can record anything from then on until the register is open again. All can still"
+         " read, and what somebody has typed stays. The next two steps follow by themselves.",
          "Close for all others"),
     Step(COPIED, "Copy of the register",
          "The register is copied, and the copy is compared with it. For some seconds nobody can"
