@@ -56,7 +56,7 @@ def test_the_office_is_typed_in_fields_and_shown_on_its_letters(office: Site) ->
     assert "We write of a place." in found.text and count(office, "letter_sender") == 1
     found = hal.post("/letters/office/", {**form, "what": "preview"})
     assert "Nothing was saved" in found.text and count(office, "letter_sender") == 1
-    text = pages(hal.get("/letters/templates/preview.pdf").data)[0]
+    text = " ".join(pages(hal.get("/letters/templates/preview.pdf").data))
     head = ("Borough of Tŷ & Sons Civic Hall, 2 Low Street, Town TN1 1AA"
             " schools@borough.example · 020 7946 0000 · www.borough.example")
     for part in (head, "Dear parent or carer, We write of a place.", "Ring us <soon>. Yours"

@@ -643,7 +643,8 @@ def test_a_served_register_that_changes_meanwhile(
             ran = office("letters", place, *words, "--user", "jane", stdin="secret\n")
             see_refused(ran, tmp_path, said)
             assert ran.stderr.count(said) == 1, ran
-            assert seen == ["/register", *(f"/child/{it}/letter" for it in NAMES), "/register"]
+            letters = (f"/child/{it}/letter" for it in NAMES)
+            assert seen == ["/register", "/draw/1", *letters, "/register"]
             seen.clear()
             if len(commands) == 1:
                 break
@@ -932,7 +933,7 @@ def test_a_register_that_changes_meanwhile(
         '[ "$1" != serve ] || { echo serving elsewhere; exec sleep 600; }',
         "the program does not serve: it prints 'serving elsewhere\\n'",
     ),
-    ('[ "$1" != show ] || chmod 0 "$0"', "the program does not serve: Permission denied"),
+    ('[ "$3" != --draw ] || chmod 0 "$0"', "the program does not serve: Permission denied"),
     ('[ "$1" != do ] || chmod 0 "$0"', "there is no program: name it by ADMISSIONS"),
 ])
 def test_a_program_that_does_not_serve(tools: Path, tmp_path: Path, line: str, said: str) -> None:

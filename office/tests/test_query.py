@@ -205,7 +205,7 @@ def test_children_and_places_beside_the_model(query: Query, tmp_path: Path) -> N
             wanted = child_rows(season, number)
             seen.update(str(it[7]) for it in wanted)
             assert rows_in(register, "child", child=number) == text(wanted), (seed, number)
-        seen.update(see_places(register, season, "2025-06-19"))
+        seen.update(see_places(register, season, "2025-06-20"))
     assert set(seen) == {"offered", "accepted", "plan", "left", "waiting", "below its place",
                          "remind", "lapse", "unplaced"}, seen
     assert min(seen.values()) > 2, seen
@@ -441,8 +441,8 @@ def test_a_plan_named_since_a_draw(query: Query, tmp_path: Path) -> None:
 # the options of worklists that need any, for a season of two rounds
 ALL: dict[str, tuple[object, ...]] = {
     "amend": ("--child", 3), "child": ("--child", 7), "find": ("ann",),
-    "lapse-due": ("--day", "2025-06-19"), "list": ("--school", "B"), "lots": ("--draw", 2),
-    "moved": ("--round", 2), "remind-due": ("--day", "2025-06-19"),
+    "lapse-due": ("--day", "2025-06-20"), "list": ("--school", "B"), "lots": ("--draw", 2),
+    "moved": ("--round", 2), "remind-due": ("--day", "2025-06-20"),
     "round-report": ("--round", 1),
 }
 
@@ -478,7 +478,7 @@ def test_a_register_that_is_served(office: Office, tmp_path: Path) -> None:
     assert printed_of_all(office, "copy.db") == wanted
     copy = ("moved", "--draw", town.season.draws[-1][0], "--before", "before.db")
     moves = office("query", "reg.db", *copy).stdout
-    day = ("--day", "2025-06-19")
+    day = ("--day", "2025-06-20")
     assert office("query", "reg.db", "--workbook", "file.xlsx", *day).returncode == 0
     with served(reg) as (address, _):
         assert printed_of_all(office, address) == wanted

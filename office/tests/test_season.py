@@ -49,7 +49,7 @@ def test_the_supervisor_draws_only_lots_that_a_draw_waits_for(tmp_path: pathlib.
 
         assert due(None) == (begin,)
         for state in IN_ORDER:
-            draw = Draw(1, terms, state, 1, None, None, "", {}, {}, "", "", "", (), None, "")
+            draw = Draw(1, terms, state, 1, None, None, "", {}, {}, "", "", "", "", (), None, "")
             assert due(draw) == (("The supervisor can draw the lots now.",)
                                  if state == "lots" else ())
 
