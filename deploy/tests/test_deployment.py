@@ -51,7 +51,16 @@ echo "$3 signs in at https://x/ with the password of-$3"
 """,
     "admissions": """
 case $1 in
-    do) while read -r it; do echo "$it" >> "$2"; echo '{"done":true}'; done ;;
+    do)
+        status=0
+        while read -r it; do
+            if [ -z "$it" ]; then echo '{"fault":1,"name":"NotJson"}'; status=3; continue; fi
+            if [[ -e $ROOM/fails && $it == *"$(cat "$ROOM/fails")"* ]]; then
+                echo '{"failed":true}'; exit 4
+            fi
+            echo "$it" >> "$2"; echo '{"done":true}'
+        done
+        exit "$status" ;;
     import) cat "$3" >> "$2" ;;
     show) sed '1s/^/[/; $!s/$/,/; $s/$/]/' "$2" ;;
 esac
@@ -253,6 +262,12 @@ def test_a_disk_is_the_second_place(at: Machine) -> None:
 
 
 OFFICE_ENDS = f"stop admissions-office@{NAME}.socket admissions-office@{NAME}.service"
+# (also what would open it in the night)
+CLOSES = [f"stop admissions-backup@{NAME}.timer admissions-backup@{NAME}.service",
+          f"{OFFICE_ENDS} admissions@{NAME}"]
+OPENS = (f"start admissions@{NAME} {OFFICE_ENDS.removeprefix('stop ')}"
+         f" admissions-backup@{NAME}.timer")
+NOT_ALL = "not all is sent, and the office is closed\n"
 
 
 def test_a_register_is_restored_and_what_it_lacks_sent_again(at: Machine) -> None:
@@ -261,28 +276,33 @@ def test_a_register_is_restored_and_what_it_lacks_sent_again(at: Machine) -> Non
     at.write(f"{BACKUPS}/{COPY}", '{"child":0}\n')
     at.history(f"var/lib/admissions-office/{NAME}/history.jsonl", 1, 2)
     restore, people = blocks_of("Restore on this machine")
-    assert at.run(restore, COPY="nightly-x.db")[0] == 1 and at.called() == []
-    assert at.run(restore) == (0, "")
-    assert at.called() == [f"{OFFICE_ENDS} admissions@{NAME}"]
-    printed, send, _ = blocks_of("Send again what a copy lacks")
+    assert at.run(restore, COPY="nightly-x.db")[0] != 0 and at.called() == []
+    assert at.run(restore) == (0, f"{at.room}/{BACKUPS}/{COPY}\n")
+    assert at.called() == CLOSES
+    printed, send, _, copied = blocks_of("Send again what a copy lacks")
     status, text = at.run(printed + send)
     assert (status, text.split()[0], text.splitlines()[-1]) == (0, "2", "all are done")
     assert register.read_text(encoding="utf-8") == '{"child":0}\n' + "".join(
         f'{{"child":{it},"cmd":"accept"}}\n' for it in (1, 2))
-    assert at.called()[1:] == [
-        f"{OFFICE_ENDS} admissions@{NAME}",
-        f"start admissions@{NAME} {OFFICE_ENDS.removeprefix('stop ')}"]
+    assert at.called()[1:] == [*CLOSES, OPENS]
+    assert at.run(f"NAME={NAME}\n{copied}") == (0, "")
+    assert at.called() == [f"start admissions-{it}@{NAME}" for it in ("backup", "second-copy")]
+    assert not (at.room / "run/again").exists()
     office = f"var/lib/admissions-office/{NAME}"
     at.write(f"{office}/office.db", "people of now")
     at.write(f"{office}/office.db-wal", "log of now")
     assert at.run(people)[0] == 1 and at.called() == []
     at.write(f"{BACKUPS}/{COPY.replace('.db', '.tar')}", "people of then")
-    assert at.run(people) == (0, "")
+    assert at.run(people)[0] == 0
     assert at.called() == [
-        OFFICE_ENDS, f"admissions-setup {NAME} --copy /{BACKUPS}/{COPY}"]
+        OFFICE_ENDS, f"admissions-setup {NAME} --copy /{BACKUPS}/{COPY}", *CLOSES]
     assert at.content(f"{office}/aside") == {
         "office.db": b"people of now", "office.db-wal": b"log of now"}
     assert not (at.room / office / "office.db").exists()
+    # (the one that was put aside stays, and nothing is closed)
+    at.write(f"{office}/office.db", "people of then")
+    assert at.run(people)[0] == 1 and at.called() == []
+    assert at.content(f"{office}/aside")["office.db"] == b"people of now"
 
 
 def test_an_import_is_sent_again_between_the_commands(at: Machine) -> None:
@@ -294,17 +314,52 @@ def test_an_import_is_sent_again_between_the_commands(at: Machine) -> None:
     record.add("jane", ANSWER, {"of": of, "answer": {"done": True}})
     record.close()
     at.history(path.relative_to(at.room).as_posix(), 2, 3)
-    printed, send, between = blocks_of("Send again what a copy lacks")
+    printed, send, between, _ = blocks_of("Send again what a copy lacks")
     assert "after 1 of the printed commands" in at.run(printed)[1]
     # (the page's example is after 57 of them)
-    lines, count = re.subn(r"(?m)^as_desk do .*\n", between.replace("57", "1").replace("58", "2"),
-                           send)
+    lines, count = re.subn(r"(?m)^send .*\n", between.replace("57", "1"), send)
     assert count == 1
+    # (the command before the import fails, and nothing behind it is sent)
+    at.write("fails", '"child":1')
+    assert at.run(f"NAME={NAME}\n{lines}") == (1, NOT_ALL)
+    assert register.read_text(encoding="utf-8") == ""
+    (at.room / "fails").unlink()
     status, text = at.run(f"NAME={NAME}\n{lines}")
     assert (status, text) == (0, "all are done\n")
     assert register.read_text(encoding="utf-8").splitlines() == [
         '{"child":1,"cmd":"accept"}', "rows", '{"child":2,"cmd":"accept"}',
         '{"child":3,"cmd":"accept"}']
+
+
+def test_sending_that_fails_keeps_the_office_closed_and_goes_on(at: Machine) -> None:
+    """From the command that failed on, also where the program ends without an answer. A line that
+    was emptied changes no number."""
+    register = at.write(f"var/lib/admissions/{NAME}/reg.db", "")
+    at.history(f"var/lib/admissions-office/{NAME}/history.jsonl", 1, 2, 3, 4)
+    printed, send, _, _ = blocks_of("Send again what a copy lacks")
+    send = f"NAME={NAME}\n{send}"
+    assert at.run(send)[0] == 1 and at.called() == []
+    assert at.run(printed)[0] == 0
+    page = " ".join(PAGE.split())
+    [empty] = re.findall(r"`(sed -i '12[^`]*)`", page)
+    assert at.run(empty.replace("12s", "2s"))[0] == 0
+    at.write("fails", '"child":3')
+    at.called()
+    assert at.run(send) == (1, NOT_ALL)
+    assert at.called() == CLOSES
+    program = at.room / "bin/admissions"
+    whole = program.read_text(encoding="utf-8")
+    at.write("bin/admissions", "#!/bin/bash\necho 'fault: Disk' >&2; exit 1\n")
+    assert at.run(send) == (1, f"fault: Disk\n{NOT_ALL}")
+    assert at.called() == CLOSES
+    at.write("bin/admissions", whole)
+    (at.room / "fails").unlink()
+    assert at.run(send) == (0, '2:{"fault":1,"name":"NotJson"}\n')
+    assert at.called() == [*CLOSES, OPENS]
+    done = [f'{{"child":{it},"cmd":"accept"}}' for it in (1, 3, 4)]
+    assert register.read_text(encoding="utf-8").splitlines() == done
+    assert at.run(send)[0] == 0
+    assert register.read_text(encoding="utf-8").splitlines() == done
 
 
 def test_a_recipient_is_named_and_no_other_text(at: Machine) -> None:
@@ -360,12 +415,16 @@ def test_a_history_that_was_changed_is_replaced_by_a_whole_copy(at: Machine) -> 
     look, put = blocks_of("A line of the history was changed")
     found = [it.rpartition("/")[2] for it in at.run(look)[1].splitlines()]
     assert found[:2] == names and "the history was changed there" in found[2]
+    at.called()
     assert at.run(put, COPY=names[0]) == (0, "")
+    assert at.called() == [OFFICE_ENDS, OFFICE_ENDS.replace("stop", "start")]
     assert path.read_bytes() == whole and path.stat().st_mode & 0o777 == 0o600
-    assert path.with_name("history.changed").read_bytes() == changed
+    kept = path.parent / "changed/history.jsonl"
+    assert kept.read_bytes() == changed
     assert not (at.room / "run/history.jsonl").exists()
-    assert at.run(put, COPY=names[0])[0] == 1
-    assert path.with_name("history.changed").read_bytes() == changed
+    status, text = at.run(put, COPY=names[0])
+    assert (status, "mkdir" in text, at.called()) == (1, True, [])
+    assert kept.read_bytes() == changed
 
 
 def test_each_person_gets_a_new_password(at: Machine) -> None:
