@@ -11,7 +11,9 @@ history is replaced by a longer one; where the one there is longer, as another
 machine's may be, nothing of the history is copied, and the line says so. Then
 the newest copy and the archive of its settings are fetched back and compared
 with the first ones byte by byte, the copy is opened by the program, and rsync
-compares the history by checksums. The result is in
+compares the history by checksums. What is there of an earlier register of this
+NAME, with a greater number or another history, is named: a takeover would go
+on from it. The result is in
 /var/backups/admissions/NAME/second-copy.report, which admissions-status reads.
 Where no place is named nothing is done.
 
@@ -34,6 +36,7 @@ import os
 import pathlib
 import re
 import tempfile
+from collections.abc import Iterable
 
 from register_files import Refused
 
@@ -163,16 +166,30 @@ def copied(register: Register, place: str) -> str:
         )
     return (
         f"{now()} {made[-1].name} is in {place}/{register.name}, equal to the first copy, and opens"
-        + warnings(register, place)
+        + warnings(register, place, sizes(there))
     )
 
 
-def warnings(register: Register, place: str) -> str:
+def warnings(register: Register, place: str, listed: Iterable[str]) -> str:
     """What is wrong with a copy that was made."""
     is_same = is_local(place) and os.stat(place).st_dev == os.stat(register.copies).st_dev
     settings = copies.settings_of(register.nightly_copies()[-1])
+    found = of_another(register, listed)
     return ("" if settings.exists() else "; WARNING: without people and settings") + (
-        "; WARNING: on the same disk as the first copies" if is_same else "")
+        "; WARNING: on the same disk as the first copies" if is_same else "") + (
+        f"; WARNING: {found} there is of another register of this name, from which a takeover may"
+        f" go on: give the folder {register.name} there another name, and copy again"
+        if found else "")
+
+
+def of_another(register: Register, listed: Iterable[str]) -> str:
+    """The first file at the second place that no copy of this register can have left there, or "":
+    a copy with a greater number than each that was made here, or of a history that is not here."""
+    last = copies.last_number(register.copies)
+    names = sorted(it.removesuffix(sealed.END) for it in listed)
+    return next((it for it in names if copies.number(pathlib.Path(it)) > last
+                 or history_copies.NAME.fullmatch(it.removeprefix(f"{HISTORY}/"))
+                 and not (register.copies / it).exists()), "")
 
 
 def copied_sealed(register: Register, place: str, key: str) -> str:
@@ -196,7 +213,7 @@ def copied_sealed(register: Register, place: str, key: str) -> str:
     plain = sorted(it for it in listed if not it.endswith(sealed.END))
     return (
         f"{now()} {newest.name}{sealed.END} is in {place}/{register.name}, encrypted for"
-        f" {key[:16]}.., {opens}" + warnings(register, place)
+        f" {key[:16]}.., {opens}" + warnings(register, place, listed)
         + (f"; WARNING: {len(plain)} files there are not encrypted, as {plain[0]}: they are of"
            " before, remove them there" if plain else "")
     )

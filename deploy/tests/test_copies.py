@@ -547,6 +547,32 @@ def test_the_second_place_has_the_history(
         second_copy.copied(register, str(machine / "mnt"))
 
 
+@pytest.mark.parametrize("name", [
+    "nightly-000002-2025-03-02T023000.db", "history/history-000001-0123456789abcdef.gz"])
+def test_what_an_earlier_register_has_left_at_the_second_place_is_named(
+    name: str,
+    copied: pathlib.Path,
+    register: registers.Register,
+    machine: pathlib.Path,
+    monkeypatch: pytest.MonkeyPatch,
+) -> None:
+    """As docs/DEPLOYMENT.md says where a name is used again: until its folder has another name."""
+    place = machine / "mnt"
+    (place / register.name / "history").mkdir(parents=True)
+    (machine / "etc/second-copy").write_text(f"{place}\n")
+    monkeypatch.setattr(second_copy, "open_error", lambda _: "")
+    (place / register.name / name).write_text("of before")
+    second_copy.write_report(register, second_copy.REPORT, second_copy.copied(register, str(place)))
+    is_well, text = status.second_of(register)
+    assert not is_well
+    assert f"WARNING: {name} there is of another register of this name" in text
+    (place / register.name).rename(place / "before")
+    assert "another register" not in second_copy.copied(register, str(place))
+    # (what was removed here after 30 nights is no other's)
+    (place / register.name / "nightly-000000-2025-02-28T023000.db").write_text("of this register")
+    assert "another register" not in second_copy.copied(register, str(place))
+
+
 def empty(register: registers.Register, machine: pathlib.Path) -> None:
     """Makes the machine one on which nothing of a register is set up."""
     for folder in (register.settings, register.office):

@@ -346,7 +346,11 @@ def test_another_key_needs_another_folder_there(
     place, oldest = machine / PLACE, "nightly-000001-2025-03-01T023000.db.age"
     assert opened(place / copied.name / oldest, key[1]) == SECRET + b" 1"
     (place / copied.name).rename(place / "before")
-    send(copied, machine)
+    assert "another register" not in send(copied, machine)
+    later = place / copied.name / "nightly-000003-2025-03-03T023000.db.age"
+    later.write_text("of before", encoding="ascii")
+    assert f"WARNING: {later.stem} there is of another register" in send(copied, machine)
+    later.unlink()
     names = sorted(it.name for it in (place / copied.name).rglob("*.age"))
     assert names == sorted(it.name for it in (place / "before").rglob("*.age"))
     for path in (place / copied.name).rglob("*.age"):
