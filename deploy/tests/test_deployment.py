@@ -363,6 +363,38 @@ def test_sending_that_fails_keeps_the_office_closed_and_goes_on(at: Machine) -> 
     assert register.read_text(encoding="utf-8").splitlines() == done
 
 
+def test_an_earlier_release_opens_its_office_after_all_is_sent(at: Machine) -> None:
+    """Set-up opens it, also one that fails; and it is closed at once."""
+    [lines] = blocks_of("Go back to an earlier release")
+    assert at.run(lines)[0] != 0 and at.called() == []
+    for end in ("db", "tar"):
+        at.write(f"mnt/kept/{NAME}/{BACKUPS}/before-upgrade.{end}", "a copy")
+    assert at.run(lines)[0] == 0
+    setup, *closes = at.called()
+    assert setup.startswith(f"admissions-setup {NAME} --copy /mnt/kept/{NAME}/{BACKUPS}/before")
+    assert closes == [OFFICE_ENDS]
+    at.write("bin/admissions-setup", "#!/bin/bash\nexit 1\n")
+    assert (at.run(lines)[0], at.called()) == (1, [OFFICE_ENDS])
+
+
+def test_a_move_makes_its_last_copy_once_the_office_is_closed(at: Machine) -> None:
+    [lines] = blocks_of("Move to a new machine")
+    assert at.run(lines)[0] == 0
+    timers = " ".join(f"admissions-{it}@{NAME}.timer" for it in ("backup", "drill", "second-copy"))
+    assert at.called() == [
+        f"disable --now {OFFICE_ENDS.removeprefix('stop ')} {timers}",
+        f"start admissions-backup@{NAME}", f"start admissions-second-copy@{NAME}",
+        f"disable --now admissions@{NAME}"]
+
+
+def test_a_key_that_is_there_stays(at: Machine) -> None:
+    """And its public half is printed each time."""
+    lines = blocks_of("The second place")[1]
+    status, public = at.run(lines)
+    assert status == 0 and public.startswith("ssh-ed25519 ")
+    assert at.run(lines) == (0, public)
+
+
 def test_a_recipient_is_named_and_no_other_text(at: Machine) -> None:
     _, lines, _, _ = blocks_of("Encrypt the second place")
     path = at.write("etc/admissions/second-copy-recipient", "")
@@ -478,8 +510,9 @@ def broken_into_fixture(at: Machine) -> Machine:
 
 def test_a_site_is_taken_down_and_its_evidence_kept(broken_into: Machine) -> None:
     assert broken_into.called() == [
-        "mask --now nginx",
-        "stop admissions-*@*.timer admissions-office@* admissions@*.service admissions-door@*"]
+        "mask --now nginx", "stop admissions-*@*.timer admissions-office*@*",
+        "stop admissions-backup@*", "stop admissions*@*",
+        "list-units --state=active,activating,deactivating admissions*@*"]
     kept = broken_into.room / "mnt/evidence"
     assert sorted(it.name for it in kept.iterdir()) == [
         "SHA256SUMS", "journal.gz", "machine.tar.gz", "people.txt"]
@@ -495,6 +528,12 @@ def test_programs_and_copies_that_were_changed_are_printed(broken_into: Machine)
     unpack, _, compare = blocks_of("Somebody has broken in")[5:8]
     status, text = broken_into.run(unpack)
     assert (status, text.count("differ"), PROGRAM in text) == (0, 1, True)
+    # (a program that the old machine alone has; and typed twice)
+    path = broken_into.room / "usr/sbin/admissions-setup"
+    path.rename(path.with_name("of-the-release"))
+    status, text = broken_into.run(unpack)
+    assert (status, "cmp: usr/sbin/admissions-setup: No such file" in text) == (0, True)
+    path.with_name("of-the-release").rename(path)
     _, text = broken_into.run(compare)
     assert (text.count("differ"), LATER in text) == (1, True)
     (broken_into.room / "mnt/copies" / NAME / COPY).unlink()
@@ -516,8 +555,15 @@ def test_encrypted_copies_are_decrypted_aside(at: Machine) -> None:
     for name, data in wanted.items():
         path = at.write(f"mnt/copies/{NAME}/{name}.age", "")
         subprocess.run(["age", "-r", public.stdout.strip(), "-o", path], input=data, check=True)
-    assert at.run(blocks_of("Somebody has broken in")[6]) == (0, "")
+    lines = blocks_of("Somebody has broken in")[6]
+    assert at.run(lines) == (0, "")
     assert at.content(f"root/copies/{NAME}") == wanted
+    # (one of another key, one from before encryption, and typed twice)
+    at.write(f"mnt/copies/{NAME}/nightly-000013-2025-03-04T023000.db.age", "planted")
+    plain = at.write(f"mnt/copies/{NAME}/nightly-000011-2025-03-02T023000.db", "plain")
+    status, text = at.run(lines)
+    assert (status, "nightly-000013-2025-03-04T023000.db.age does not open" in text) == (0, True)
+    assert at.content(f"root/copies/{NAME}") == {**wanted, plain.name: b"plain"}
 
 
 def test_a_register_is_its_copy_with_the_commands_of_the_history(broken_into: Machine) -> None:
@@ -527,7 +573,6 @@ def test_a_register_is_its_copy_with_the_commands_of_the_history(broken_into: Ma
     copy = f"{broken_into.room}/mnt/copies/{NAME}/{COPY}"
     assert broken_into.run(blocks[8], COPY=copy) == (
         0, "the register is that copy with the commands of the history\n")
-    subprocess.run(["rm", "-r", broken_into.room / "root/check"], check=True)
     register = broken_into.room / f"root/seized/var/lib/admissions/{NAME}/reg.db"
     with register.open("a", encoding="utf-8") as file:
         file.write('{"child":7}\n')
