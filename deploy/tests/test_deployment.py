@@ -29,6 +29,8 @@ STANDS_IN = {
     "apt": 'echo "apt $*" >> "$CALLS"',
     "admissions-status": "true",
     "mountpoint": 'test -d "$1"',
+    "getent": "true",
+    "userdel": 'echo "userdel $*" >> "$CALLS"',
     "admissions-restore": 'cp "$1" "$2"',
     # (of a register, whose history is in this folder)
     "admissions-sent": f"""
@@ -385,6 +387,24 @@ def test_a_move_makes_its_last_copy_once_the_office_is_closed(at: Machine) -> No
         f"disable --now {OFFICE_ENDS.removeprefix('stop ')} {timers}",
         f"start admissions-backup@{NAME}", f"start admissions-second-copy@{NAME}",
         f"disable --now admissions@{NAME}"]
+
+
+@pytest.mark.parametrize("name", [
+    f"var/lib/admissions/{NAME}/reg.db.before-restore-1", f"{BACKUPS}/{COPY}",
+    f"etc/admissions/{NAME}/site.key", "etc/admissions/second-copy-identity"])
+def test_all_is_removed_but_not_what_cannot_be_made_again(name: str, at: Machine) -> None:
+    [lines] = [it for it in blocks_of("Later releases, and removal") if "userdel" in it]
+    record = at.write(f"etc/admissions/{NAME}/deleted", "the record")
+    apt = at.write("etc/apt/sources.list.d/admissions.list", "deb")
+    path = at.write(name, "what is left")
+    status, text = at.run(lines)
+    assert (status, text) == (1, f"{path}\n")
+    assert path.exists() and record.exists() and apt.exists() and at.called() == []
+    path.unlink()
+    assert at.run(lines)[0] == 0
+    assert not list(at.room.glob("var/*/admissions*")) and not record.exists() and not apt.exists()
+    assert [it.split()[0] for it in at.called()] == ["userdel", "userdel"]
+    assert at.run(lines)[0] == 0
 
 
 def test_a_key_that_is_there_stays(at: Machine) -> None:
