@@ -534,6 +534,10 @@ def test_a_site_is_taken_down_and_its_evidence_kept(broken_into: Machine) -> Non
         "stop admissions-backup@*", "stop admissions*@*",
         "list-units --state=active,activating,deactivating admissions*@*"]
     kept = broken_into.room / "mnt/evidence"
+    sums = (kept / "SHA256SUMS").read_bytes()
+    status, text = broken_into.run(blocks_of("Somebody has broken in")[3])
+    assert (status, "has evidence already" in text) == (1, True)
+    assert (kept / "SHA256SUMS").read_bytes() == sums
     assert sorted(it.name for it in kept.iterdir()) == [
         "SHA256SUMS", "journal.gz", "machine.tar.gz", "people.txt"]
     assert {it.stat().st_mode & 0o077 for it in kept.iterdir()} == {0}
