@@ -752,6 +752,26 @@ def test_what_a_certificate_replaces_is_kept_and_the_request_of_the_old_key_is_n
         setup.confirmed(register, given)
 
 
+def test_what_an_authority_has_signed_is_taken_with_the_key_of_the_site(
+    register: registers.Register, machine: pathlib.Path, write_as_me: None,
+) -> None:
+    """As docs/DEPLOYMENT.md has it given: the key and the request stay."""
+    list(certificates.make(register, "admissions.example"))
+    key, certificate, request = certificates.paths(register)
+    before = [it.read_bytes() for it in (key, certificate, request)]
+    signed = machine / "signed.crt"
+    subprocess.run(["openssl", "x509", "-in", certificate, "-signkey", key, "-days", "300", "-out",
+                    signed], check=True, capture_output=True)
+    given = given_to_setup(register.name, "--certificate", str(signed), "--key", str(key), "--yes")
+    assert certificates.is_lost(register, given.certificate, given.key)
+    assert certificates.take(register, given.certificate, given.key) is True
+    assert certificate.read_bytes() == signed.read_bytes()
+    assert [key.read_bytes(), request.read_bytes()] == [before[0], before[2]]
+    assert certificate.with_name("site.crt.before").read_bytes() == before[1]
+    assert certificates.take(register, given.certificate, given.key) is False
+    assert certificate.with_name("site.crt.before").read_bytes() == before[1]
+
+
 @pytest.mark.parametrize(
     "name, days, said",
     [
