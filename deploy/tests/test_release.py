@@ -4,6 +4,7 @@ import dataclasses
 import json
 import os
 import pathlib
+import re
 import shutil
 import subprocess
 from collections.abc import Callable
@@ -23,6 +24,7 @@ ABOUT = {"package": f"admissions {VERSION}", "commit": "c0ffee", "program": {"sh
 DIGEST = "Hash Sum mismatch|Undetermined Error"
 SIGNATURE = "BADSIG|not valid|Bad signature|invalid|Message has been manipulated"
 KEY = "NO_PUBKEY|Missing key"
+VERDICT = "verdict_of_the_gate"
 
 
 @dataclasses.dataclass(frozen=True)
@@ -228,6 +230,27 @@ def test_the_digests_of_all_files_are_signed(
     assert run(*words).status == 0
     change(release / "SHA256SUMS")
     assert run(*words).status != 0
+
+
+def test_the_lines_of_the_page_show_the_verdict_of_what_is_signed(
+    release: pathlib.Path, tmp_path: pathlib.Path
+) -> None:
+    """And no verdict of a folder that was changed, or that another key has signed."""
+    page = (ROOT / "docs/DEPLOYMENT.md").read_text(encoding="utf-8")
+    [lines] = [it for it in re.findall(r"(?ms)^```\n(.*?)^```$", page) if "gpgv" in it]
+    lines = lines.replace("/srv/admissions", str(release)).replace("/run/", f"{tmp_path}/")
+    ran, verdict = run("bash", "-c", lines), f'"verdict_of_the_gate": "{ABOUT[VERDICT]}"'
+    assert ran.status == 0 and verdict in ran.text.splitlines()[-1]
+    home = tmp_path / "other"
+    new_key(home, "another key")
+    other = run("gpg", "--homedir", home, "--armor", "--export").text
+    (tmp_path / "other.asc").write_text(other)
+    ran = run("bash", "-c", lines.replace(f"{release}/admissions-archive.asc",
+                                          f"{tmp_path}/other.asc"))
+    assert ran.status != 0 and verdict not in ran.text
+    change(release / "manifest.json")
+    ran = run("bash", "-c", lines)
+    assert ran.status != 0 and verdict not in ran.text
 
 
 def test_a_key_by_its_id(source: pathlib.Path, keys: pathlib.Path, tmp_path: pathlib.Path) -> None:
