@@ -186,8 +186,9 @@ module _ {C : Type 0} (disk : C → Disk) where
     judged_so : (judgement : Judgement) → IsJudgement input judgement → (response : Response) → output ≡ response_bytes response
         → OnJudgement (RunsBody disk) Shows old input judgement response new → Did old new input output
     judged_so (Whole head verdict) judged response is it = carried head verdict judged response is it
-    judged_so Malformed judged response is it = unchanged Malformed judged tt it.1
-    judged_so Unfinished judged response is it = unchanged Unfinished judged tt it.1
+    judged_so Malformed judged response is it = unchanged Malformed judged (is ∙ ap response_bytes it.0) it.1
+    judged_so Unfinished judged response is it =
+        unchanged Unfinished judged (nat_le 8192 (length input), is ∙ ap response_bytes it.0) it.1
 
   responded : (old new : DeskState C) (input output : List ℕ) → Responds (RunsBody disk) Shows old input output new → Did old new input output
   responded old new [] output it = did_nothing old new [] output (inl it.0) it.1

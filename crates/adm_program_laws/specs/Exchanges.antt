@@ -1,5 +1,5 @@
 -- What `serve` keeps: the commands in the requests of connections, and the responses to them.
-use Rattle.std.specs.Prelude.{◌≡◌, ◌≢◌, ◌≤◌, ◌⊎◌, ⊤, ℕ, Bool, false, not, List, [], ◌∷◌, ◌++◌, codes, filter, length, map, take, drop, Option, Some, None, Result, Ok, Err, is_ok}
+use Rattle.std.specs.Prelude.{◌≡◌, ◌≢◌, ◌≤◌, ◌⊎◌, ⊤, ℕ, Bool, false, not, List, [], ◌∷◌, ◌++◌, codes, filter, length, map, take, drop, Option, Some, None, Result, Ok, Err, is_ok, if◌then◌else◌}
 use Rattle.std.specs.List.{AllByRecursion, AllZip}
 use Rattle.sqlite.specs.State.{HasCleanDisk, State as Disk}
 use Rattle.sqlite.specs.Tree.{Trees}
@@ -25,7 +25,7 @@ use Rattle.adm_http.specs.Shows.{Shows}
 use Rattle.adm_http.specs.Texts.{bare, json, response_bytes}
 use Rattle.adm_http.specs.declared.body_answer.BodyAnswer.TheVariants.{Line, Unread}
 use Rattle.adm_http.specs.declared.heads.Judgement.{Judgement}
-use Rattle.adm_http.specs.declared.heads.Judgement.TheVariants.{Whole}
+use Rattle.adm_http.specs.declared.heads.Judgement.TheVariants.{Whole, Malformed, Unfinished}
 use Rattle.adm_http.specs.declared.heads.Verdict.TheVariants.{Run}
 use Rattle.adm_http.specs.declared.routes.Purpose.{Purpose}
 use Rattle.adm_http.specs.declared.routes.Purpose.TheVariants as purpose
@@ -63,11 +63,13 @@ abbrev pub command_response : Answer → List ℕ
 command_response answer = response_bytes (json (status_of_command answer) (answer_text answer))
 
 -- Of a request that is judged so, a response to no command: the head is for no command; or the body was short, and the response is 400; or it is that of the error
--- for which the body is no command or has no rows.
+-- for which the body is no command or has no rows; or no head came whole, and the response is 400, or 431 where the window was full.
 abbrev pub HasNoCommand : Judgement → List ℕ → Type 0
 HasNoCommand (Whole head (Run purpose.Command size)) response = (response ≡ response_bytes (bare 400)) ⊎ ((fault : WireFault) × (response ≡ response_bytes (of_answer (Line (Faulty fault)))))
 HasNoCommand (Whole head (Run purpose.Import size)) response = (response ≡ response_bytes (bare 400)) ⊎ ((fault : RowFault) × (response ≡ response_bytes (of_answer (Unread fault))))
-HasNoCommand judgement response = ⊤
+HasNoCommand (Whole head verdict) response = ⊤
+HasNoCommand Malformed response = response ≡ response_bytes (bare 400)
+HasNoCommand Unfinished response = (is_full : Bool) × (response ≡ response_bytes (bare (if is_full then 431 else 400)))
 
 -- A request that was a command is this one, and the response is the one to its answer. Where none is named, the response is to no command, or there is none.
 abbrev pub AnswersTo : List ℕ → List ℕ → Option (Command × Answer) → Type 0
