@@ -680,7 +680,7 @@ def test_a_paragraph_is_given_where_the_source_gives_it(promises: typing.Any) ->
 
 
 APPEALS = "  appeals\n    rule\n"
-FINDING = "  Finding a school that no family listed\n    rule\n"
+FINDING = "  Finding a school that a family did not list\n    rule\n"
 
 
 EXTENDS = "    adm_commands::propose: extends\n    adm_commands::propose: schools\n"
