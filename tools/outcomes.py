@@ -2,25 +2,30 @@
 what a mutant was refused; of tests; and how long it took.
 
 A log is one of `make test` or `make mutants`, or an auditor's own of `rt verdict` in crates: a line
-`source SUM` (tools/proved_source.py) says of which source it is, and above what was printed of a
-crate there is a line `crate NAME`.
+`source SUM` (tools/proved_source.py) says of which source it is. tools/proof_logs.py says what it
+must have of a crate that it has proved.
 """
+import hashlib
 import json
 import re
+from collections.abc import Callable
 from pathlib import Path
 from typing import Any
 
 import proved_source
 from page_text import Refused
+from proof_logs import EXIT, LOGIC, ProofLog
 
 UNSEEN, UNTRIED = "not checked here", "not tried here"
 WORDS = Path("tools/verdict_words.json")
 OUTCOME = re.compile(r"rt: must-fail (\S+)\.edit: (.*)")
 WORD = re.compile(r"([a-z-]+)=\S+")
-CRATE = re.compile(r"crate (\w+)")
+# the toolchain, as `rt version` prints it
+TOOLCHAIN = re.compile(r"\S+ logic [0-9a-f]{16}")
 # a part of the gate, as tools/test calls it, and as it prints what that ended with
 CALLED = re.compile(r"""(?m)^ *part (?:"\$\(.*?\)+\+?"|\S+) (.*)$""")
 PART = re.compile(r"(\S+): (\d+) passed, (\d+) failed")
+TOTAL = re.compile(r"\d+ passed, \d+ failed")
 RAN = re.compile(r"rt: (\w+)(?:: (its tests passed)| (ran, and wrote what its file stdout has))")
 NOT_PASSED = re.compile(r"case (\w+): (NOT as expected.*|it has no step)")
 # how long a run took, as tools/test and tools/mutants print it
@@ -34,57 +39,80 @@ MADE = (
     (r"\bincremental=trusted.* \(anew\)$",
      "with a folder for kept results that was empty of this crate before"),
     (r"\bincremental=trusted", "over what earlier checks had kept, where that still fits"),
-    (r"^proved \(", "from nothing, as `rt ci` says of its run"),
     (r"^logic=proved ", "from nothing"),
 )
+# with what `rt` begins a refusal; it cuts the reason after so many letters
+REASON, LONGEST = "refused, as it must be: ", 160
+# how the prover says that a goal is false of the mutant; cut short it says so from these letters on
+FALSE = "; the facts known there allow values at which this goal is false"
+FALSE_FROM = len("; the facts known there")
 # by what a mutant was refused, from the strongest to what is no refusal
 REFUSALS = (
-    ("meaning", r"refused, as it must be: .*allow values at which this goal is false",
-     "At a goal that is false of the mutant: the prover shows that what is known there allows"
-     " values at which the goal does not hold."),
-    ("no proof", r"refused, as it must be(: .*)?",
-     "At a goal or clause for which no proof was found. That the goal is false there is not shown;"
-     " where tools/expected has an input, a clause is false for it, and so no proof can exist."),
-    ("names", r"refused, as it must be \(only because .*",
-     "Only because a proof names what the mutant removed. That says little of the contract: such a"
-     " one is no evidence."),
-    ("limit", r"refused, as it must be \(only by a limit .*",
-     "Only by a limit of the prover, which gave no verdict. Such a one is no evidence."),
-    ("not tried", rf"{UNTRIED}|NOT TRIED: .*|BAD EDIT: .*", "Nothing was seen of it."),
-    ("not refused", r".*", "The mutant was not refused: the contract allows this bug."),
+    ("meaning", "At a goal that is false of the mutant: the prover shows that what is known there"
+     " allows values at which the goal does not hold."),
+    ("no proof", "At a goal or clause for which no proof was found. That the goal is false there is"
+     " not shown; where tools/expected has an input, a clause is false for it, and so no proof can"
+     " exist."),
+    ("cut short", f"Cut short by rt, which prints {LONGEST} letters of the reason: whether the goal"
+     " is false of the mutant, or no proof was found, came after them. It shows as much as 'no"
+     " proof'."),
+    ("names", "Only because a proof names what the mutant removed. That says little of the"
+     " contract: such a one is no evidence."),
+    ("limit", "Only by a limit of the prover, which gave no verdict. Such a one is no evidence."),
+    ("not tried", "Nothing was seen of it."),
+    ("not refused", "The mutant was not refused: the contract allows this bug."),
 )
 
 
 class Logs:
     """What the logs that were handed in say of the source as it is."""
 
-    def __init__(self, paths: list[str]) -> None:
+    def __init__(self, paths: list[str], proofs: Callable[[str], ProofLog]) -> None:
         self.proved: dict[str, str] = {}
         self.mutants: dict[str, str] = {}
-        self.verdicts: list[dict[str, str]] = []
+        self.given: list[dict[str, Any]] = []
+        self.files: dict[str, bytes] = {}
         self.parts: list[dict[str, Any]] = []
         self.runs: dict[str, list[str]] = {}
         self.cases: dict[str, str] = {}
         self.times: list[dict[str, Any]] = []
         wanted = f"source {proved_source.sum_of_all(Path())}"
-        for path in paths:
-            lines = Path(path).read_text(encoding="utf-8", errors="replace").splitlines()
+        for path in map(Path, paths):
+            data = path.read_bytes()
+            lines = data.decode(errors="replace").splitlines()
             sources = [line for line in lines if line.startswith("source ")]
             # (the gate prints it before its mutants, and again before the twins)
             if {*sources} != {wanted}:
                 raise Refused(f"{path} is no log of this source: it has no line '{wanted}', or"
                               " one of another source")
-            self.read(Path(path).name, lines)
-            self.read_crates(Path(path).name, lines)
-            self.read_parts(Path(path).name, lines)
+            if path.name in self.files:
+                raise Refused(f"{path}: another log that was given has this name, too")
+            self.files[path.name] = data
+            self.about(path.name, lines)
+            self.read(path.name, lines)
+            for one in proofs(path.name).proved(lines):
+                self.proved[one.crate] = f"{one.verdict} ({path.name})"
+            self.read_parts(path.name, lines)
+
+    def about(self, name: str, lines: list[str]) -> None:
+        """Takes what a log is: its sum, how it ended, and the toolchain that it names."""
+        filled = [it for it in lines if it.strip()]
+        last = next(it for it in reversed(filled) if not TIMES.fullmatch(it))
+        is_of_mutants = bool(re.fullmatch(r"tools/mutants.*: mutants tried: \d+, .*", filled[-1]))
+        is_gate = any(it.startswith("== ") or PART.fullmatch(it) for it in lines)
+        self.given.append({
+            "log": name, "last_line": last, "is_of_the_gate": is_gate,
+            "ended": is_of_mutants or any(it.fullmatch(filled[-1]) for it in (EXIT, TOTAL)),
+            "sha256": hashlib.sha256(self.files[name]).hexdigest(),
+            "toolchain": sorted({it for it in lines if TOOLCHAIN.fullmatch(it)}),
+            "logic": sorted({found[1] for found in map(LOGIC.fullmatch, lines) if found}),
+        })
 
     def read(self, name: str, lines: list[str]) -> None:
-        """Takes what a log has of crates, mutants, tests and times."""
-        last = next(it for it in reversed(lines) if it.strip() and not TIMES.fullmatch(it))
-        self.verdicts.append({"log": name, "last_line": last})
+        """Takes what a log has of mutants, tests and times, and of crates that were kept."""
         tried: dict[str, str] = {}
         for line, after in zip(lines, (*lines[1:], "")):
-            if found := re.fullmatch(r"rt: (\w+) (proved|is kept: .*)", line):
+            if found := re.fullmatch(r"rt: (\w+) (is kept: .*)", line):
                 self.proved[found[1]] = f"{found[2]} ({name})"
             elif found := OUTCOME.fullmatch(line):
                 # (the first: a twin may have an outcome of the same name)
@@ -98,18 +126,6 @@ class Logs:
                 self.times.append({"log": name, "what": found[1], "seconds": int(found[2]),
                                    "cpu_seconds": cpu})
         self.mutants.update(tried)
-
-    def read_crates(self, name: str, lines: list[str]) -> None:
-        """Takes the verdicts of `rt verdict` from an auditor's own log: below `crate NAME`, the
-        last line, after which nothing comes but the next crate."""
-        crate, last = "", ""
-        for line in (*lines, "crate end"):
-            if found := CRATE.fullmatch(line):
-                if crate and proved_source.PROVED.fullmatch(last):
-                    self.proved[crate] = f"{last} ({name})"
-                crate, last = found[1], ""
-            elif line.strip():
-                last = line
 
     def read_parts(self, name: str, lines: list[str]) -> None:
         """Takes what the parts of the gate ended with, in the order in which tools/test calls
@@ -139,7 +155,20 @@ def made_from(verdict: str) -> str:
 
 def refused_by(outcome: str) -> str:
     """By what a mutant was refused."""
-    return next(name for name, pattern, _ in REFUSALS if re.fullmatch(pattern, outcome))
+    if re.fullmatch(rf"{UNTRIED}|NOT TRIED: .*|BAD EDIT: .*", outcome):
+        return "not tried"
+    if not outcome.startswith(REASON[:-2]):
+        return "not refused"
+    if outcome.startswith(f"{REASON[:-2]} (only "):
+        return "names" if "(only because " in outcome else "limit"
+    reason = outcome.removeprefix(REASON)
+    is_cut = len(reason) == LONGEST and outcome.startswith(REASON)
+    cut_short = (FALSE[:at] for at in range(FALSE_FROM, len(FALSE)))
+    if FALSE in reason or is_cut and any(map(reason.endswith, cut_short)):
+        return "meaning"
+    if "gave up at one of its limits" in reason:
+        return "limit"
+    return "cut short" if is_cut else "no proof"
 
 
 def words() -> dict[str, str]:

@@ -3,6 +3,7 @@ with something that is missing or that nobody saw; from each sentence to its cla
 clause to what it assumes, what mutants attack and by what they are refused, and how to repeat
 it."""
 import hashlib
+import html
 import json
 import os
 import pathlib
@@ -18,6 +19,7 @@ import page_text
 import planted
 import premises
 import promised
+import proof_logs
 import proved_source
 import pytest
 import repeats
@@ -205,7 +207,7 @@ SOUND = PROVED.removesuffix(" incremental=trusted") + " statements=trusted"
     (f"{SOUND} incremental=trusted (anew)", "that was empty of this crate before"),
     (f"{SOUND} crate-checked=trusted", "an earlier check"),
     (f"{SOUND} cache=trusted", "an earlier check"),
-    ("proved (gate.log)", "from nothing, as `rt ci` says"),
+    (f"{SOUND} (gate.log)", "from nothing"),
     ("is kept: an earlier run on this machine proved the same files (gate.log)", "kept: "),
 ])
 def test_from_what_a_verdict_was_made(verdict: str, how: str) -> None:
@@ -213,9 +215,23 @@ def test_from_what_a_verdict_was_made(verdict: str, how: str) -> None:
     assert how in found and found.startswith("from nothing") == how.startswith("from nothing")
 
 
+FALSE = "; the facts known there allow values at which this goal is false"
+
+
+def cut(reason: str) -> str:
+    """A refusal for a reason, as `rt` cuts it after 160 letters."""
+    return f"refused, as it must be: {reason[:160]}"
+
+
 @pytest.mark.parametrize(("outcome", "by"), [
-    (f"{REFUSED} (`invariant_of-result`); the facts known there allow values at which this goal is"
-     " false", "meaning"),
+    (f"{REFUSED} (`invariant_of-result`){FALSE}", "meaning"),
+    (cut("note: src/keys.rt:21:5: it is not proved that what the function ensures holds when it"
+         f" returns (`returns`){FALSE}"), "meaning"),
+    (cut("x" * (160 - len("; the facts known there")) + FALSE), "meaning"),
+    (cut("x" * (160 - len("; the facts known")) + FALSE), "cut short"),
+    (cut("x" * 160), "cut short"), (cut("x" * 159), "no proof"),
+    ("refused, as it must be: " + "x" * 80 + FALSE[:40], "no proof"),
+    (f"{REFUSED}; `search` gave up at one of its limits", "limit"),
     (REFUSED, "no proof"), ("refused, as it must be", "no proof"),
     (REFUSED.replace(": ", " (only because a proof file names what the edit took away, so this says"
                      " little of the contract: change a value and keep the names): ", 1), "names"),
@@ -239,15 +255,36 @@ def test_each_field_of_a_verdict_of_the_toolchain_has_words() -> None:
     assert {*known, *more, "logic", "native"} <= set(outcomes.words()) | {"proved"}
 
 
+LOGIC = "dac8208d650f15bf"
+
+
+def last_line(functions: int) -> str:
+    """The last line of a check of so many functions."""
+    return f"logic=proved functions={functions} sum={LOGIC} statements=trusted"
+
+
+def check_of(crate: str, functions: int = 2) -> str:
+    """What a check of a crate prints."""
+    items = [f"fn {crate}::keys::f{at}: proved" for at in range(functions)]
+    return "\n".join((
+        *items, f"empty contracts: 0 found; tried {functions} of {functions} functions",
+        f"logic /kit/logic.json: libraries=16 files=2756 sum={LOGIC}3e2d", last_line(functions)))
+
+
+def gate_of(crate: str) -> str:
+    """What `rt ci` prints of a crate that it proves."""
+    return f"== {crate}\n{check_of(crate)}\nrt: {crate} proved"
+
+
 def test_a_log_counts_for_the_source_that_it_is_of(copy: pathlib.Path) -> None:
     made(copy)
     source, log = run(copy, "tools/proved_source.py").stdout, copy.parent / "log"
-    lines = ["rt: adm_rank proved", "rt: adm_types is kept: an earlier run proved the same files",
+    lines = [gate_of("adm_rank"), "rt: adm_types is kept: an earlier run proved the same files",
              f"rt: must-fail adm_types/closes_a_day_early.edit: {REFUSED}", "3 passed, 0 failed"]
     log.write_text(source + "\n".join(lines) + "\n")
     found = made(copy, log)
     seen = {it: text for it, text in verdicts(found).items() if text != UNSEEN}
-    assert seen == {"adm_rank": "proved (log)",
+    assert seen == {"adm_rank": f"{last_line(2)} (log)",
                     "adm_types": "is kept: an earlier run proved the same files (log)"}
     told = {it["mutant"]: it["outcome"] for it in found["mutants"]}
     assert told.pop("adm_types/closes_a_day_early") == REFUSED
@@ -259,7 +296,7 @@ def test_a_log_counts_for_the_source_that_it_is_of(copy: pathlib.Path) -> None:
 
 
 GATE = """tools/lint: 2 passed, 0 failed
-{source}rt: adm_rank proved
+{source}{rank}
 rt: must-fail adm_types/closes_a_day_early.edit: refused, as it must be
 rt: match_runs ran, and wrote what its file stdout has
 rt: adm_tests: its tests passed
@@ -281,7 +318,8 @@ def test_a_log_of_the_gate_says_what_came_out_of_tests_and_how_long_it_took(
     copy: pathlib.Path,
 ) -> None:
     log = copy.parent / "gate.log"
-    log.write_text(GATE.format(source=run(copy, "tools/proved_source.py").stdout))
+    source = run(copy, "tools/proved_source.py").stdout
+    log.write_text(GATE.format(source=source, rank=gate_of("adm_rank")))
     found = made(copy, log)
     parts = [(it["part"].split()[:2], it["passed"], it["failed"]) for it in found["parts"]]
     # (the tests of office come after the cases, and those of deploy before)
@@ -301,37 +339,156 @@ def test_a_log_of_the_gate_says_what_came_out_of_tests_and_how_long_it_took(
     assert searches["match_runs"].startswith("ran, ")
     times = {it["what"]: (it["seconds"], it["cpu_seconds"]) for it in found["times"]["logs"]}
     assert times == {"rt ci": (4000, None), "All of it": (4500, 15000)}
-    assert found["logs"] == [{"log": "gate.log", "last_line": "860 passed, 1 failed"}]
+    [about] = found["logs"]
+    digest = hashlib.sha256(log.read_bytes()).hexdigest()
+    assert about == {"log": "gate.log", "last_line": "860 passed, 1 failed", "ended": True,
+                     "is_of_the_gate": True, "sha256": digest, "toolchain": [], "logic": [LOGIC]}
     page = (copy / "out/evidence/tests.html").read_text()
     assert "NOT as expected" in page and "700" in page and "No log was given" not in page
+    # the log goes with the folder, and the whole last line of each check
+    assert (copy / "out/evidence/logs/gate.log").read_bytes() == log.read_bytes()
+    page = (copy / "out/evidence/verdicts.html").read_text()
+    assert digest in page and f"{last_line(2)} (gate.log)" in page
+
+
+def test_a_run_of_the_gate_that_did_not_finish_is_said_to_be_that(copy: pathlib.Path) -> None:
+    """As the gate leaves it that was killed while it proved crates."""
+    log = copy.parent / "gate.log"
+    source = run(copy, "tools/proved_source.py").stdout
+    log.write_text(f"{source}{gate_of('adm_rank')}\n== adm_days\nfn adm_days::f: proved\n")
+    found, out = made(copy, log), copy / "out/evidence"
+    assert {it for it, line in verdicts(found).items() if line != UNSEEN} == {"adm_rank"}
+    assert not found["logs"][0]["ended"]
+    page = (out / "index.html").read_text()
+    assert "the run did not finish</strong>" in page and "fn adm_days::f: proved" in page
+    without = re.search("Without a verdict here: (.*)</td>", page)
+    assert without and re.findall(r"<code>(\w+)</code>", without[1]) == [
+        it for it in verdicts(found) if it != "adm_rank"]
+    page = (out / "tests.html").read_text()
+    assert "No log was given in which a part of the gate ended" in page
+    assert "The run of gate.log did not finish" in page
+    assert "did not finish, or is cut short" in (out / "verdicts.html").read_text()
+
+
+@pytest.fixture(name="proof_log", scope="module")
+def proof_log_fixture(project: typing.Any) -> proof_logs.ProofLog:
+    """What reads the proofs of a log."""
+    def deep(crate: str) -> set[str]:
+        below = [it for it in project.below[crate] if it in project.below]
+        return {crate}.union(*map(deep, below))
+
+    return proof_logs.ProofLog("own.log", deep, {it.crate for it in project.functions})
+
+
+OWN = "\n".join(("source 0", "crate adm_rank", check_of("adm_lists", 0), check_of("adm_types"),
+                 check_of("adm_rank"), "exit 0"))
+
+
+def test_a_log_of_ones_own_proves_the_crates_below_too(proof_log: proof_logs.ProofLog) -> None:
+    found = {it.crate: it.verdict for it in proof_log.proved(OWN.split("\n"))}
+    assert found == {"adm_lists": last_line(0), "adm_types": last_line(2), "adm_rank": last_line(2)}
+    tests = check_of("adm_rank").replace("proved functions", "proved tests=3 functions")
+    text = OWN.replace(check_of("adm_rank"), f"{tests}\n{check_of('adm_rank')}")
+    assert len([*proof_log.proved(text.split("\n"))]) == 3
+
+
+RANK = check_of("adm_rank")
+
+
+@pytest.mark.parametrize(("old", "new", "wanted"), [
+    # a run that was cut, or that goes on
+    ("\nexit 0", "", "2: crate adm_rank: no line 'exit 0'"),
+    (f"\n{RANK}\nexit 0", "", "2: crate adm_rank: no line 'exit 0'"),
+    (f"\n{RANK}", "", "not so of adm_rank"),
+    ("exit 0", "exit 1", "exit 1: `rt verdict` of adm_rank did not succeed"),
+    ("exit 0", "crate adm_types", "crate adm_rank: no line 'exit 0'"),
+    ("exit 0", "rt: this fails the verdict\nexit 0", "ends with the line logic=proved"),
+    # lines of another crate
+    ("crate adm_rank", "crate adm_fairness", "one check of each of adm_command_laws, adm_commands"),
+    ("crate adm_rank", "crate adm_types", "not so of adm_rank"),
+    (check_of("adm_types") + "\n", "", "not so of adm_types"),
+    ("fn adm_rank::keys::f1", "fn adm_types::keys::f1", "of another crate than the lines above"),
+    (check_of("adm_types") + f"\n{RANK}", f"{RANK}\n{check_of('adm_rank', 0)}",
+     "its own as the last"),
+    (f"{check_of('adm_lists', 0)}\n{check_of('adm_types')}\n{RANK}", check_of("adm_rank", 0),
+     "one check of each of adm_lists, adm_rank, adm_types"),
+    # what the page says to look for
+    ("fn adm_rank::keys::f0: proved", "fn adm_rank::keys::f0: not proved", "it must be proved"),
+    ("fn adm_rank::keys::f0: proved", "fn adm_rank::keys::f0: assumed", "it must be proved"),
+    ("fn adm_rank::keys::f0: proved", "fn adm_rank::keys::f0: could not tell", "must be proved"),
+    ("fn adm_rank::keys::f0: proved", "fn adm_rank::keys::f0: proved, may abort", "must be proved"),
+    ("fn adm_rank::keys::f0: proved\n", "", "tried 1 of 1 functions'"),
+    (RANK, RANK.replace("0 found", "3 found"), "3 found; tried 2 of 2 functions: of each check"),
+    (RANK, RANK.replace("2 of 2", "1 of 2"), "tried 1 of 2 functions: of each check"),
+    (RANK, re.sub("empty.*\n", "", RANK), "there must be 'empty contracts: 0 found"),
+    (RANK, f"note: the work of last time is kept\n{RANK}", "something was kept"),
+    (RANK, f"{RANK} incremental=trusted", "took up what was there, or says less"),
+    (RANK, f"{RANK} hides=2", "took up what was there, or says less"),
+    (RANK, RANK.replace("=proved", "=not-proved"), "this is no line logic=proved"),
+    (RANK, re.sub("logic /.*\n", "", RANK), "no line 'logic ..' above has this sum"),
+    (RANK, RANK.replace(f"sum={LOGIC}3", "sum=00000000000000003"), "no line 'logic ..' above"),
+])
+def test_a_log_that_lacks_what_the_page_says_to_look_for_is_refused(
+    old: str, new: str, wanted: str, proof_log: proof_logs.ProofLog,
+) -> None:
+    """With the line, and why."""
+    assert OWN.count(old) == 1
+    with pytest.raises(page_text.Refused, match=re.escape(wanted)):
+        list(proof_log.proved(OWN.replace(old, new).split("\n")))
+
+
+@pytest.mark.parametrize(("old", "new", "wanted"), [
+    ("== adm_rank\n", "", "the lines of its check are not above it"),
+    ("== adm_rank", "== adm_types", "the lines of its check are not above it"),
+    (RANK, "", "is not the one check of this crate"),
+    (RANK, check_of("adm_types"), "is not the one check of this crate"),
+    (RANK, check_of("adm_rank", 0), "adm_rank has functions, and this check has none"),
+    (": proved\nempty", ": not proved\nempty", "f1: not proved: it must be proved"),
+    ("rt: adm_rank proved", "rt: adm_rank: its tests are proved", "not above it"),
+])
+def test_a_log_of_the_gate_is_looked_at_likewise(
+    old: str, new: str, wanted: str, proof_log: proof_logs.ProofLog,
+) -> None:
+    text = gate_of("adm_rank")
+    assert [it.crate for it in proof_log.proved(text.split("\n"))] == ["adm_rank"]
+    assert text.count(old) == 1
+    with pytest.raises(page_text.Refused, match=re.escape(wanted)):
+        list(proof_log.proved(text.replace(old, new).split("\n")))
 
 
 def test_a_log_of_ones_own_has_the_source_and_the_crate_of_each_verdict(
     copy: pathlib.Path, pack: Pack,
 ) -> None:
     """As the page says that it is made, by a toolchain that prints this."""
-    page = (pack[0] / "out/evidence/repeat.html").read_text()
-    command = re.findall(r"(?m)^(\{ tools/proved_source.py.*) &gt; \.\./adm_rank\.log|"
-                         r"^(\{ tools/proved_source.py.*) > \.\./adm_rank\.log", page)
+    page = html.unescape((pack[0] / "out/evidence/repeat.html").read_text())
+    command = re.findall(r"(?m)^(\{ tools/proved_source.py.*) > \.\./adm_rank\.log", page)
     assert len(command) == 1
     room, log = copy.parent / "toolchain", copy.parent / "own.log"
     room.mkdir()
-    (room / "rt").write_text(f"#!/bin/sh\necho 'fn rank: proved'\necho '{SOUND}'\n")
+    printed = OWN.removeprefix("source 0\ncrate adm_rank\n").removesuffix("\nexit 0")
+    (room / "printed").write_text(f"{printed}\n")
+    kit = f"rattle-kit-13b logic {LOGIC}"
+    (room / "rt").write_text('#!/bin/sh\n[ "$1" = version ] && echo "' + kit + '" ||'
+                             f' cat "{room}/printed"\n')
     (room / "rt").chmod(0o755)
-    text = (command[0][0] or command[0][1]).replace("&amp;", "&")
-    done = run(copy, "bash", "-c", text, PATH=f"{room}:{os.environ['PATH']}")
-    assert done.returncode == 0 and done.stdout.splitlines()[1] == "crate adm_rank"
+    done = run(copy, "bash", "-c", command[0], PATH=f"{room}:{os.environ['PATH']}")
+    assert done.returncode == 0 and done.stdout.splitlines()[2] == "crate adm_rank"
     log.write_text(done.stdout)
     found = made(copy, log)
     seen = {it["crate"]: it for it in found["crates"] if it["verdict"] != UNSEEN}
-    assert list(seen) == ["adm_rank"]
-    assert seen["adm_rank"]["verdict"] == f"{SOUND} (own.log)"
+    assert list(seen) == ["adm_lists", "adm_types", "adm_rank"]
+    assert seen["adm_rank"]["verdict"] == f"{last_line(2)} (own.log)"
     assert seen["adm_rank"]["made"] == "from nothing"
-    # a verdict after which something comes is none; a second crate has its own
-    log.write_text(f"{done.stdout}rt: this fails the verdict\ncrate adm_types\n{SOUND}\n\n")
-    assert {it for it, line in verdicts(made(copy, log)).items() if line != UNSEEN} == {"adm_types"}
+    [about] = found["logs"]
+    assert about["ended"] and about["toolchain"] == [kit] and about["logic"] == [LOGIC]
+    # cut while the last crate was proved, as the toolchain leaves it
+    log.write_text(done.stdout.partition("fn adm_rank")[0])
+    assert "own.log:3: crate adm_rank: no line 'exit 0'" in refusal(copy, log)
     log.write_text("\n".join(done.stdout.splitlines()[1:]))
     assert "is no log of this source" in refusal(copy, log)
+    (copy / "own.log").write_text(done.stdout)
+    log.write_text(done.stdout)
+    assert "another log that was given has this name" in refusal(copy, log, copy / "own.log")
 
 
 def test_times_are_those_of_a_build_from_nothing_in_units_of_the_machine(
@@ -687,10 +844,12 @@ EXTENDS = "    adm_commands::propose: extends\n    adm_commands::propose: school
 
 
 @pytest.mark.parametrize(("old", "new", "wanted"), [
-    ("README.md: Honest lists\n", "README.md: Honest list\n", "0 entries of README.md: Honest"),
-    ("README.md: Honest lists\n", "README.md: A lie\n  It\n    limit\nREADME.md: Honest lists\n",
+    ("README.md: Every place has a cause\n", "README.md: Every place\n",
+     "0 entries of README.md: Every place has a cause"),
+    ("README.md: All or nothing\n",
+     "README.md: A lie\n  It\n    limit\nREADME.md: All or nothing\n",
      "no promise begins so: README.md: A lie"),
-    ("  Nor does a child with a place\n", "  Nor do others\n", "are not the first words of its 2"),
+    ("  Nor does a child with a place\n", "  Nor do others\n", "are not the first words of its 3"),
     ("    adm_command_laws::no_better_list\n", "    limit\n    adm_command_laws::no_better_list\n",
      "or 'limit' beside one"),
     ("    adm_command_laws::no_better_list\n", "", "no clause, or 'limit'"),
@@ -734,7 +893,7 @@ SIZES = "`cases/sizes`, `cases/children`"
     ("docs/GUARANTEES.md", "| ranked again |", "| ordered again |",
      "this rule has no 'ordered again'"),
     ("docs/GUARANTEES.md", "`office/tests/test_lists.py` |", "the tests |", "no test is named"),
-    ("README.md", "**A place is kept.** A", "A place is kept. A", "has no name in bold"),
+    ("README.md", "**All or nothing.** A", "All or nothing. A", "has no name in bold"),
     ("README.md", "by the same lots, by declining its place first.",
      "by the same lots, by declining its place first. Nor later.", "words of its 2 sentences"),
 ])
@@ -768,7 +927,7 @@ def test_what_is_missing_is_an_error(
 
 def test_a_page_that_does_not_fit_leaves_what_was_there(copy: pathlib.Path) -> None:
     made(copy)
-    name = "**A place is kept.** A"
+    name = "**All or nothing.** A"
     change(copy, "README.md", name, name.replace("*", ""))
     assert "this claim has no name in bold" in refusal(copy)
 
