@@ -7,6 +7,8 @@ TABLE = Path("tools/claims.txt")
 README, LIMIT, RULE = "README.md", "limit", "rule"
 # the heading of README below which it says what is left out
 LEFT_OUT = "What it does not do"
+# below which it has what a clause assumes where a premise reaches it
+DEFINITIONS, ASSUMED = "definitions", "assumed by what a premise reaches"
 # (a sentence ends where the next one begins)
 ENDS = re.compile(r"(?:(?<=\.)|(?<=\.\)))\s+(?=[(A-Z`])")
 CLAUSE = re.compile(r"(\w+)::([\w:]*\w)(?:: (\w+))?")
@@ -118,6 +120,25 @@ class Claims:
         if unnamed:
             raise Unclear(f"{TABLE}: {README}: {LEFT_OUT}: nothing is named of: {unnamed[0]}")
         return [{"is": kind, "said": said, "what": what} for (kind, said), what in out.items()]
+
+    def assumed(self) -> list[Any]:
+        """The definitions that say what a clause assumes where one of its premises reaches them:
+        each by the words above it in its file. A definition whose words say that something is
+        assumed is one of them, or names one."""
+        self.used.add((DEFINITIONS, ASSUMED))
+        out = []
+        for words, lines in self.entries.get((DEFINITIONS, ASSUMED), {}).items():
+            names = [name for name, _ in lines]
+            found = [it for it in self.project.reached if [it.anchor] == names]
+            if len(found) != 1 or found[0].sentence != words:
+                raise Unclear(f"{TABLE}: {DEFINITIONS}: no definition, or more than one, has this"
+                              f" name and these words: {words}")
+            out += found
+        for it in self.project.reached:
+            if re.search(r"\bassum", it.sentence) and it not in out and not {*it.names} & {*out}:
+                raise Unclear(f"{TABLE}: {DEFINITIONS}: {it.anchor} says that something is assumed,"
+                              " and neither is in the list nor names one that is")
+        return out
 
     def definitions(self, clause: Any, by: list[str]) -> list[Any]:
         """The definitions of these names that a clause reaches."""

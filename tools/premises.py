@@ -36,6 +36,13 @@ class Place(NamedTuple):
     depth: int = 0
 
 
+class Function(NamedTuple):
+    """An argument `(λ x. ..)`: its place in the text, and its body."""
+
+    start: int
+    body: str
+
+
 def levels(text: str) -> Iterator[tuple[int, str, int]]:
     """Each letter with its place, and how many brackets are open after it."""
     depth = 0
@@ -88,6 +95,17 @@ def binders(text: str) -> list[str]:
     return found
 
 
+def lambdas(text: str) -> list[Function]:
+    """The functions `(λ x. ..)` that a text has as arguments."""
+    out, start = [], 0
+    for at, letter, depth in levels(text):
+        if depth == 1 and letter in OPENING:
+            start = at
+        elif depth == 0 and letter in CLOSING and text.startswith("(λ", start):
+            out.append(Function(start, text[start + 1:at].partition(". ")[2]))
+    return out
+
+
 def bodies(text: str) -> list[tuple[str, str]]:
     """What a definition states: the fields of a record by their names, or the right sides of its
     equations. Nothing, if it is a value."""
@@ -114,6 +132,24 @@ class Premises:
         """What a clause assumes, from the outside to the inside."""
         return list(dict.fromkeys(self.within(clause.text, Place(clause), set())))
 
+    def reached(self, clause: Any) -> set[Any]:
+        """The definitions that the premises of a clause reach, and the `requires` of its
+        function: what one of them says is assumed as well."""
+        level = {one for it in self.of_clause(clause) for one in self.of_premise(clause, it)}
+        level |= {one for it in clause.function.clauses if it.kind == "requires"
+                  for one in it.names}
+        found: set[Any] = set()
+        while level:
+            found |= level
+            level = {one for it in level for one in it.names} - found
+        return found
+
+    def of_premise(self, clause: Any, it: Premise) -> list[Any]:
+        """The definitions that a premise names."""
+        used = [one for name, one in self.named(it.of or clause).items()
+                if re.search(rf"(?<![\w.]){re.escape(name)}(?![\w'])", it.text)]
+        return list(dict.fromkeys(used))
+
     def within(self, text: str, place: Place, seen: set[Any]) -> Iterator[Premise]:
         """The premises of a text."""
         *before, last = split(bare(text), "→")
@@ -129,22 +165,26 @@ class Premises:
 
     def of_fact(self, text: str, place: Place, seen: set[Any]) -> Iterator[Premise]:
         """The premises of one fact of a conclusion."""
-        if any(len(split(text, sign)) > 1 for sign in "≡≢⊎↔≤<"):
-            return
+        # (`→` and `×` bind less than `≡` does: a premise or a part may be an equation)
         if len(split(text, "→")) > 1 or len(split(text, "×")) > 1:
             yield from self.within(text, place, seen)
             return
+        if len(split(text, "⊎")) > 1:
+            for part in split(text, "⊎"):
+                yield from self.within(part, place, seen)
+            return
+        if any(len(split(text, sign)) > 1 for sign in "≡≢↔≤<"):
+            return
         used = self.definition(text, place)
-        inner = re.search(r"\((λ [^.]*\. .*)\)[^()]*\Z", text)
         if used and used not in seen:
             seen.add(used)
             for field, body in bodies(used.text):
                 yield from self.within(body, Place(used, used, field, place.depth + 1), seen)
-        elif not used and inner:
-            said = text[:inner.start()].strip()
-            if "result" in said:
-                yield Premise(said, *place[1:])
-            yield from self.within(inner[1].partition(". ")[2], place, seen)
+        functions = lambdas(text)
+        if functions and not used and "result" in (said := text[:functions[0].start].strip()):
+            yield Premise(said, *place[1:])
+        for it in functions:
+            yield from self.within(it.body, place, seen)
 
     def definition(self, text: str, place: Place) -> Any:
         """The definition of this repository with whose name a text begins."""

@@ -48,6 +48,7 @@ class Promised:
             self.rows = [(row, self.of_row(row)) for row in project.rows]
             self.of_readme = list(self.of_claims())
             self.left_out = self.list.left_out(self.points())
+            self.assumed = self.list.assumed()
         except Unclear as error:
             raise Refused(str(error)) from error
         if unused := self.list.unused():
@@ -194,10 +195,9 @@ class Promised:
 
     def premise(self, clause: Any, it: Premise) -> dict[str, Any]:
         """A premise, with the definitions that it names."""
-        used = [one for name, one in self.premises.named(it.of or clause).items()
-                if re.search(rf"(?<![\w.]){re.escape(name)}(?![\w'])", it.text)]
+        used = self.premises.of_premise(clause, it)
         return {"text": it.text, "of": it.of.name if it.of else "", "field": it.field,
-                "definitions": [self.reference.href(one) for one in dict.fromkeys(used)]}
+                "definitions": [self.reference.href(one) for one in used]}
 
     def clause(self, it: Any, verdict: str) -> dict[str, Any]:
         """A clause with its place, what it assumes, and the definitions that it names."""
@@ -212,6 +212,8 @@ class Promised:
                          for one in function.clauses if one.kind == "requires"],
             "assumes": [self.premise(it, one) for one in found if one.depth < 2],
             "within": [self.premise(it, one) for one in found if one.depth > 1],
+            "assumes_by": [self.reference.href(one) for one in self.assumed
+                           if one in self.premises.reached(it)],
             "definitions": [self.reference.href(used) for used in it.names],
             "verdict_of_the_crate": verdict,
         }

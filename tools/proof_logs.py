@@ -165,9 +165,9 @@ class ProofLog:
         if len(crates) > 1:
             raise self.fails([*crates.values()][-1], "this is of another crate than the lines above")
         if counts != (0, functions, functions):
-            raise self.fails(searched, "of each check there must be 'empty contracts: 0 found; tried"
-                             f" {functions} of {functions} functions', as many as it has lines"
-                             " 'fn ..'")
+            wanted = f"empty contracts: 0 found; tried {functions} of {functions} functions"
+            raise self.fails(searched, f"of each check there must be '{wanted}', as many as it"
+                             " has lines 'fn ..'")
         if not logic or f" sum={logic} " not in f"{end.text} ":
             raise self.fails(end, "no line 'logic ..' above has this sum")
         return Check(end.text, next(iter(crates), ""), logic, end.number)

@@ -639,6 +639,12 @@ def test_a_fill_takes_the_first_as_it_is_claimed(promises: typing.Any) -> None:
     (("adm_crashes", "handle_all"), {("", "IfOk result"), ("", "desk.old.failed ≡ false")}),
     (("adm_program_laws", "answered_is_found"), {
         ("", "IsFileOf first before"), ("", "RunsOver g before run after")}),
+    # (an equation is the first of several premises)
+    (("adm_program_laws", "run_once_more"), {
+        ("", "IsFileOf first before"), ("", "HoldsNone before"),
+        ("", "MayRemain before end.remains after")}),
+    # (in an alternative)
+    (("adm_desk", "Desk::handle"), {("", "old.failed ≡ false")}),
 ])
 def test_premises_are_read_from_the_source(
     function: tuple[str, str], assumed: set[tuple[str, str]], project: typing.Any
@@ -650,6 +656,53 @@ def test_premises_are_read_from_the_source(
             for one in found.of_clause(clause) if one.depth < 2}
     assert assumed <= rows
     assert not any("→" in premises.bare(text) and text.startswith("λ") for _, text in rows)
+
+
+def test_what_a_premise_reaches_is_assumed_where_its_definition_says_so(pack: Pack) -> None:
+    """Of the law of crashes: the size of pages, which docs/DECISIONS.md calls assumed; and what
+    the rows assume in words, as known bytes."""
+    copy, found = pack
+    key = "adm_program_laws.html#SuccessiveRuns.HavePagesOf"
+    assert found["assumed"]["by_definitions"] == [key]
+    clauses = {it["name"]: it for it in found["clauses"]}
+    for name in ("runs_in_order: runs", "runs_in_order: run", "run_once_more: kept"):
+        assert clauses[f"adm_program_laws::{name}"]["assumes_by"] == [key]
+    assert clauses["adm_program_laws::runs_in_order: opened"]["assumes_by"] == []
+    rows = [it["text"] for it in clauses["adm_program_laws::answered_is_found"]["rows_assume"]]
+    assert rows == ["files of a register; known bytes of the connections"]
+    assert {it["number"] for it in found["promises"] for title in it["said"]
+            if title.startswith("Assumes")} == {
+        one["number"] for it in found["clauses"] for one in it["rows_assume"]}
+    pages = {name: (copy / f"out/evidence/{name}.html").read_text()
+             for name in ("claims", "clauses", "trust")}
+    claim = pages["claims"].partition('id="claim-14"')[2].partition("<h3")[0]
+    assert "known bytes of the connections" in claim and "known bytes of" in pages["trust"]
+    assert "'Known bytes' are those of" in html.unescape(pages["trust"])
+    for name in ("clauses", "trust"):
+        assert "has pages of this size" in pages[name]
+    assert "believes the text of a log" in pages["trust"] and "(1 conditions" not in pages["clauses"]
+
+
+PAGES = "    SuccessiveRuns.HavePagesOf\n"
+
+
+@pytest.mark.parametrize(("old", "new", "wanted"), [
+    (PAGES, PAGES.replace("Have", "Has"), "has this name and these words: each database that"),
+    ("  each database that an open may read", "  a database that an open may read",
+     "has this name and these words: a database"),
+    ("  each database that an open may read from the files has pages of this size\n" + PAGES, "",
+     "SuccessiveRuns.MayStay says that something is assumed"),
+])
+def test_what_is_said_to_be_assumed_has_the_words_of_the_definition(
+    old: str, new: str, wanted: str, promises: typing.Any, tmp_path: pathlib.Path,
+    monkeypatch: pytest.MonkeyPatch,
+) -> None:
+    text = (ROOT / "tools/claims.txt").read_text()
+    assert text.count(old) == 1
+    (tmp_path / "claims.txt").write_text(text.replace(old, new))
+    monkeypatch.setattr(claims, "TABLE", tmp_path / "claims.txt")
+    with pytest.raises(page_text.Refused, match=re.escape(wanted)):
+        promises()
 
 
 def test_a_mutant_is_listed_by_what_it_attacks_with_its_edit_and_its_command(pack: Pack) -> None:
@@ -801,6 +854,8 @@ def test_each_sign_of_a_clause_has_words(
 def test_a_statement_is_split_outside_of_brackets(text: str, parts: list[str]) -> None:
     assert premises.split(text, "→") == parts
     assert premises.binders("(a b : State) (c : ℕ)") == ["State", "ℕ"]
+    assert [it.body for it in premises.lambdas("Opens a (f b) (λ v. P v → Q) (λ e. (R e))")] == [
+        "P v → Q", "(R e)"]
     assert premises.binders("(Q → R)") == [] and premises.bare("((a) × (b))") == "(a) × (b)"
 
 
