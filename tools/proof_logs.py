@@ -163,7 +163,7 @@ class ProofLog:
             elif KEPT.search(re.sub(r"`[^`]*`", "", it.text)):
                 raise self.fails(it, "something was kept of an earlier check")
         if len(crates) > 1:
-            raise self.fails([*crates.values()][-1], "this is of another crate than the lines above")
+            raise self.fails([*crates.values()][-1], "this is of another crate than those above")
         if counts != (0, functions, functions):
             wanted = f"empty contracts: 0 found; tried {functions} of {functions} functions"
             raise self.fails(searched, f"of each check there must be '{wanted}', as many as it"

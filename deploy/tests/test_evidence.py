@@ -407,7 +407,7 @@ RANK = check_of("adm_rank")
     ("crate adm_rank", "crate adm_fairness", "one check of each of adm_command_laws, adm_commands"),
     ("crate adm_rank", "crate adm_types", "not so of adm_rank"),
     (check_of("adm_types") + "\n", "", "not so of adm_types"),
-    ("fn adm_rank::keys::f1", "fn adm_types::keys::f1", "of another crate than the lines above"),
+    ("fn adm_rank::keys::f1", "fn adm_types::keys::f1", "of another crate than those above"),
     (check_of("adm_types") + f"\n{RANK}", f"{RANK}\n{check_of('adm_rank', 0)}",
      "its own as the last"),
     (f"{check_of('adm_lists', 0)}\n{check_of('adm_types')}\n{RANK}", check_of("adm_rank", 0),
@@ -680,7 +680,8 @@ def test_what_a_premise_reaches_is_assumed_where_its_definition_says_so(pack: Pa
     assert "'Known bytes' are those of" in html.unescape(pages["trust"])
     for name in ("clauses", "trust"):
         assert "has pages of this size" in pages[name]
-    assert "believes the text of a log" in pages["trust"] and "(1 conditions" not in pages["clauses"]
+    assert "believes the text of a log" in pages["trust"]
+    assert ">1 conditions" not in pages["clauses"]
 
 
 PAGES = "    SuccessiveRuns.HavePagesOf\n"
