@@ -62,9 +62,19 @@ class Notation:
                  or self.own["names"].get(crate, {}).get(name, "")}
                 for crate, name in sorted(found)]
 
+    def see_names(self, names: list[dict[str, str]]) -> None:
+        """Refuses a name of the toolchain's crates that has no words."""
+        missing = [f"{WORDS} has no words for {it['name']} of {it['crate']}, which a clause or a"
+                   " definition names" for it in names if not it["words"]]
+        if missing:
+            raise Refused("\n".join(missing))
+
     def document(self, project: Any, items: list[Any]) -> dict[str, Any]:
-        """All of it, for the clauses and definitions that are shown."""
+        """All of it, for the clauses and definitions that are shown; the names also for those of
+        the reference."""
         self.see_signs(it.text for it in items)
+        names = self.names(project, [*project.reached, *project.clauses, *items])
+        self.see_names(names)
         return {"example": self.parts(),
                 "signs": [{"forms": forms, "words": said} for forms, said in self.rows],
-                "names": self.names(project, items)}
+                "names": names}

@@ -847,6 +847,38 @@ def test_each_sign_of_a_clause_has_words(
         notation.Notation().see_signs(["a → ⊥"])
 
 
+def test_each_name_of_the_toolchain_on_a_page_of_the_reference_has_words(
+    pack: Pack, project: typing.Any, tmp_path: pathlib.Path, monkeypatch: pytest.MonkeyPatch
+) -> None:
+    names = {it["name"] for it in pack[1]["notation"]["names"]}
+    assert {"IsStrictlySortedBy", "option_eq", "bytes_eq", "take_while", "option_to_list",
+            "is_lt"} <= names
+    assert any("suc n" in it["forms"] for it in pack[1]["notation"]["signs"])
+    monkeypatch.chdir(ROOT)
+    words = json.loads((ROOT / "tools/notation_words.json").read_text())
+    del words["names"]["std"]["take_while"]
+    (tmp_path / "words.json").write_text(json.dumps(words))
+    monkeypatch.setattr(notation, "WORDS", tmp_path / "words.json")
+    with pytest.raises(page_text.Refused, match="has no words for take_while of std, which"):
+        notation.Notation().document(project, [])
+
+
+def test_the_first_page_leads_to_the_law_of_crashes_and_counts_claims_by_verdict(
+    copy: pathlib.Path,
+) -> None:
+    found, out = made(copy), copy / "out/evidence"
+    assert found["claims_by_verdict"] == {"all": 0, "some": 0, "none": len(found["claims"])}
+    page = (out / "index.html").read_text()
+    assert 'href="reference/headline.txt"' in page and "this folder does not show it" in page
+    claim = (out / "claims.html").read_text().partition('id="claim-14"')[2].partition("<h3")[0]
+    assert 'href="reference/headline.txt"' in claim
+    log = copy.parent / "own.log"
+    log.write_text(OWN.replace("source 0", run(copy, "tools/proved_source.py").stdout.strip()))
+    counts = made(copy, log)["claims_by_verdict"]
+    # (the first has clauses of adm_rank and of adm_fairness)
+    assert counts["some"] >= 1 and sum(counts.values()) == len(found["claims"])
+
+
 @pytest.mark.parametrize(("text", "parts"), [
     ("(a b : State) → P a → (Q → R) → S", ["(a b : State)", "P a", "(Q → R)", "S"]),
     ("IfOk result (λ x. P x → Q)", ["IfOk result (λ x. P x → Q)"]),
