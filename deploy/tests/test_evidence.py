@@ -12,6 +12,7 @@ import shutil
 import subprocess
 import typing
 
+import calls
 import claims
 import notation
 import outcomes
@@ -741,6 +742,51 @@ def test_a_mutant_is_listed_by_what_it_attacks_with_its_edit_and_its_command(pac
     law = next(it for it in found["clauses"] if it["name"] == "adm_fairness::plan_is_kept")
     assert "adm_fairness/a_second_plan" in law["mutants_of_definitions"]
     assert "adm_fairness/a_second_plan" not in law["mutants"]
+
+
+def test_each_clause_says_whether_the_program_calls_its_function(pack: Pack) -> None:
+    """And leads to the mutants of the functions that it calls, or that a law speaks of."""
+    copy, found = pack
+    clauses = {it["name"]: it for it in found["clauses"]}
+
+    def far(name: str, how: str) -> dict[str, int]:
+        return {one["name"]: one["distance"] for one in clauses[name][how]}
+
+    step = clauses["adm_commands::propose: step"]
+    assert step["beside"] == "" and step["speaks_of"] == []
+    called = far("adm_commands::propose: step", "calls")
+    assert called["allot"] < called["offers"]
+    law = clauses["adm_crashes::run_commands: keeps"]
+    assert law["beside"] == "a law beside the program"
+    assert "Desk::handle" in far("adm_crashes::run_commands: keeps", "calls")
+    law = clauses["adm_fairness::fill_takes_the_first"]
+    assert law["beside"] == "a law beside the program, and calls nothing"
+    assert law["calls"] == [] and "first_by_lot" in far(
+        "adm_fairness::fill_takes_the_first", "speaks_of")
+    law = clauses["adm_rank::keys_compare_by_rank"]
+    assert law["beside"] == "in a crate of the program, which does not call it, and calls nothing"
+    counts = {it["id"]: sum(it["id"] in one["attacks"] for one in found["mutants"])
+              for it in found["attacked"]}
+    for it in found["clauses"]:
+        for one in (*it["calls"], *it["speaks_of"]):
+            assert one["mutants"] == counts[one["id"]] > 0 and one["id"] != it["function_id"]
+            assert one["distance"] >= 1
+    claim = (copy / "out/evidence/claims.html").read_text()
+    claim = claim.partition('id="claim-14"')[2].partition("<h3")[0]
+    assert "; a law beside the program" in claim
+    page = (copy / "out/evidence/clauses.html").read_text()
+    assert "by how many calls are between" in page and "The program calls this function." in page
+    assert "No mutant attacks a function that it calls." in page
+
+
+def test_calls_are_read_from_bodies_without_their_clauses() -> None:
+    text = "fn rank(a: T) -> u8\n  requires { of(a) }\n  ensures one { x { to(a) } }\n{ by(a) }"
+    assert calls.body_of(text) == "fn(a: T) -> u8\n  \n  \n{ by(a) }"
+    found = [(it["owner"], it["dot"], it["name"], bool(it["called"])) for it in
+             calls.CALL.finditer("Key::new(a.get(), plain::<u8>(b), Self::of)")]
+    assert found == [("Key", None, "new", True), (None, None, "a", False),
+                     (None, ".", "get", True), (None, None, "plain", True),
+                     (None, None, "b", False), ("Self", None, "of", False)]
 
 
 SOURCE = """use std::cmp::Ord;
