@@ -199,6 +199,13 @@ class Promised:
         return {"text": it.text, "of": it.of.name if it.of else "", "field": it.field,
                 "definitions": [self.reference.href(one) for one in used]}
 
+    def types(self, clause: Any) -> list[dict[str, str]]:
+        """The types of the code that a clause names, or the definitions that it names."""
+        used = dict.fromkeys(one for it in (clause, *clause.names)
+                             for _, _, one in self.project.typed(it))
+        return [{"name": it.name, "page": f"reference/{self.reference.href(it)}",
+                 "sentence": it.sentence} for it in used]
+
     def clause(self, it: Any, verdict: str) -> dict[str, Any]:
         """A clause with its place, what it assumes, and the definitions that it names."""
         function, found = it.function, self.premises.of_clause(it)
@@ -215,5 +222,6 @@ class Promised:
             "assumes_by": [self.reference.href(one) for one in self.assumed
                            if one in self.premises.reached(it)],
             "definitions": [self.reference.href(used) for used in it.names],
+            "types": self.types(it),
             "verdict_of_the_crate": verdict,
         }

@@ -774,6 +774,10 @@ def test_each_clause_says_whether_the_program_calls_its_function(pack: Pack) -> 
     claim = (copy / "out/evidence/claims.html").read_text()
     claim = claim.partition('id="claim-14"')[2].partition("<h3")[0]
     assert "; a law beside the program" in claim
+    # the types that a clause speaks of, with their fields
+    types = {it["name"]: it["page"] for it in clauses["adm_rank::RankKey::ranks_before"]["types"]}
+    assert types["RankKey"] == "reference/adm_rank.html#keys.RankKey"
+    assert 'id="keys.RankKey"' in (copy / "out/evidence/reference/adm_rank.html").read_text()
     page = (copy / "out/evidence/clauses.html").read_text()
     assert "by how many calls are between" in page and "The program calls this function." in page
     assert "No mutant attacks a function that it calls." in page
