@@ -137,7 +137,7 @@ COLUMNS: Sequence[tuple[int, str, Lists, Lists, Sequence[Act]]] = (
     (1, "And once Bo declines A", {"Ann": ["A"]}, {},
      [ROUND, ("decline", "Bo", "A"), ("fill", "A")]),
     (2, "Gets", {}, {}, [ROUND]),
-    (2, "If Ann does not apply, and Bo lists A alone", {"Ann": [], "Bo": ["A"]}, {}, [ROUND]),
+    (2, "If Ann and Bo each list A alone", {"Ann": ["A"], "Bo": ["A"]}, {}, [ROUND]),
     (3, "Gets", {}, {}, [ROUND]),
     (3, "If Ann declines A first", {}, {}, [("decline", "Ann", "A"), ROUND]),
     (4, "Gets", {}, {}, [ROUND]),
