@@ -143,7 +143,7 @@ class Promised:
                 raise Refused(f"{row.where}: no test is named for this rule, or nothing remains")
             given = PARAGRAPHS.findall(" ".join((*row.cells, tested, neither)))
             out.append({
-                "rule": plain(row.cells[0]), "promise": row.number,
+                "rule": plain(PARAGRAPHS.sub("", row.cells[0])).strip(), "promise": row.number,
                 "paragraphs": given[0] if given else "", "sections": self.sections(row),
                 "proved": [self.sentence(it) for it in found if it.clauses],
                 "limits": [it.text for it in found if not it.clauses],

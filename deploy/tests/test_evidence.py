@@ -615,7 +615,7 @@ def test_a_fill_takes_the_first_as_it_is_claimed(promises: typing.Any) -> None:
     it = promises()
     claim = next(one for one in it.claims() if one["claim"] == "No queue jumping")
     said = claim["sentences"][1]
-    assert said["text"].startswith("A vacancy goes to the first child that waits")
+    assert said["text"].startswith("A fill offers a vacancy to the first child that waits")
     named = {one["name"]: one["by"] for one in said["clauses"]}
     assert named == {"adm_commands::propose: step": ["adm_commands.html#Fill.IsFillResult"],
                      "adm_waiting::first_by_lot: first": [],
@@ -958,11 +958,12 @@ def test_of_each_rule_of_the_code_it_is_said_what_is_not_proved(promises: typing
     assert "a criterion is fair" in fair["neither"] and "fair" in " ".join(fair["limits"])
 
 
-def test_a_paragraph_is_given_where_the_source_gives_it(promises: typing.Any) -> None:
+def test_each_rule_of_the_code_has_its_paragraphs(promises: typing.Any) -> None:
     it = promises()
     rules = it.code()
-    given = {rule["rule"]: rule["paragraphs"] for rule in rules if rule["paragraphs"]}
-    assert given == {"Random allocation is supervised by an independent person.": "1.34 and 1.35"}
+    given = {rule["rule"]: rule["paragraphs"] for rule in rules}
+    assert all(given.values()) and not any("paragraph" in rule for rule in given)
+    assert given["Random allocation is supervised by an independent person."] == "1.34 and 1.35"
     first = next(rule for rule in rules if rule["rule"].startswith("Unless the Code"))
     assert first["sections"] == [{"file": "crates/adm_rank/specs/Class.antt",
                                   "sections": "section 1"}]
@@ -998,7 +999,8 @@ EXTENDS = "    adm_commands::propose: extends\n    adm_commands::propose: school
      "there is no clause adm_match::chosen"),
     (EXTENDS, "    adm_commands::propose: extends\n", "no sentence has adm_commands::propose: sch"),
     (EXTENDS, EXTENDS + "    adm_commands::propose: kept\n", "propose: kept of the row"),
-    ("      by Round.quota\n", "      by Round.quotas\n", "reaches 0 definitions Round.quotas"),
+    ("      by Round.takes_part\n", "      by Round.takes_parts\n",
+     "reaches 0 definitions Round.takes_parts"),
     (APPEALS, APPEALS.replace("appeals", "lotteries"), "0 points have these words"),
     (APPEALS, APPEALS.replace("rule", "rules"), "they are neither a limit nor a rule: appeals"),
     (FINDING, "", "nothing is named of: Finding a school"),
