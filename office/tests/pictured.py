@@ -211,6 +211,7 @@ def pictures(office: Site) -> Iterator[Picture]:
     yield Picture("amend", f"/children/{one}/correct")
     yield Picture("question", f"/children/{one}/decline")
     yield Picture("why", f"/children/{one}/why/1/family")
+    yield Picture("figures", figures_made(office))
     copied(office)
     yield Picture("copies", "/copies/")
     late_added(office)
@@ -219,6 +220,13 @@ def pictures(office: Site) -> Iterator[Picture]:
     yield Picture("draw", f"/draws/{number}")
     lots_given(office, number)
     yield Picture("lots", f"/lots/{number}?page=1", SUP.name)
+
+
+def figures_made(office: Site) -> str:
+    """The address of the figures of the round, as they are published."""
+    found = office.browser("jane", "head").post("/figures/", {"round": "1"})
+    assert found.status_code == 303, found.text
+    return f"{found.headers['Location']}/page"
 
 
 def copied(office: Site) -> None:
@@ -283,7 +291,7 @@ def letter(office: Site) -> bytes:
 
 
 class Seen(html.parser.HTMLParser):
-    """What is seen of a part of a page: its words, and what its fields have."""
+    """What is seen of a part of a page: its words, and what its fields have, without its charts."""
 
     def __init__(self, page: str, part: str) -> None:
         super().__init__()
@@ -294,7 +302,9 @@ class Seen(html.parser.HTMLParser):
     def handle_starttag(self, tag: str, attrs: list[tuple[str, str | None]]) -> None:
         """Takes what a field has, and passes over what is not shown."""
         found = dict(attrs)
-        if tag in ("script", "style"):
+        if self.hidden:
+            return
+        if tag in ("script", "style", "svg"):
             self.hidden = tag
         elif tag == "input" and found.get("type", "text") not in ("hidden", "checkbox"):
             self.words += (found.get("value") or "").split()
