@@ -60,6 +60,8 @@ DECIDED = {
     " smaller one ranks first.",
     NOBODY: "Nobody was newly admitted.",
 }
+# what is said of the criterion where this child meets none
+MEETS_NONE = "The criterion decided: the last child admitted met one, and this child meets none."
 BY_DISTANCE_OR_LOT = ("Both rank equally by the criteria, and the distance, or between equal"
                       " distances the lot, decided.")
 ORDER = ("A vacancy is offered to the one that ranks first of those who wait: by the criteria, then"
@@ -302,6 +304,8 @@ def compared(found: School, view: View) -> Iterator[str]:
         yield f"This child: {view.ranked(key)}{lot}."
     if is_hidden and found.decided in (DISTANCE, LOT):
         yield BY_DISTANCE_OR_LOT
+    elif found.decided == CLASS and key and key.number > len(view.school.criteria):
+        yield MEETS_NONE
     elif found.decided:
         yield DECIDED[found.decided]
 

@@ -622,6 +622,33 @@ def test_schools_that_were_left(office: Office, tmp_path: Path) -> None:
     assert other[-1].startswith("Where this says 'some', the number is withheld")
 
 
+@pytest.mark.parametrize("is_office", [False, True])
+@pytest.mark.parametrize(
+    "criteria, last, this, said",
+    [
+        (("sibling", "within:500"), 0, 2, "one that comes before any that this child meets."),
+        (("sibling", "within:500"), 1, 2, "one that comes before any that this child meets."),
+        (("sibling", "within:500"), 0, 3, "one, and this child meets none."),
+        (("sibling", "within:500"), 1, 3, "one, and this child meets none."),
+        ((), 0, 1, "one, and this child meets none."),
+    ],
+)
+def test_what_is_said_where_the_criterion_decided(
+    criteria: tuple[str, ...], last: int, this: int, said: str, is_office: bool
+) -> None:
+    """Of a child that meets no criterion nothing is said of one that it meets."""
+    school = model.School("OAK", "Oak School", 1, 0, 0, criteria)
+    found = why.School(
+        "OAK",
+        1,
+        last=model.Cutoff(last, 900, 7),
+        key=model.Cutoff(this, 300, 5),
+        decided=model.CLASS,
+    )
+    *_, end = why.compared(found, why.View(found, school, is_office, None))
+    assert end == f"The criterion decided: the last child admitted met {said}"
+
+
 def test_a_draw_as_its_document_has_it() -> None:
     """Each reason that the program can give, none, and one that it cannot."""
     text = """{"lots":[{"child":1,"lot":7,"school":"A"},{"child":2,"lot":5,"school":"A"}],
