@@ -37,14 +37,14 @@ ACTIONS = {
         is_final=False),
     "decline": Action(
         "decline", "Decline a place", "Decline {school} for {child}",
-        f"The place is vacant. {wording.FOREVER} {wording.WRONG_DECLINE}"),
+        f"The place becomes vacant. {wording.FOREVER} {wording.WRONG_DECLINE}"),
     "remind": Action(
         "remind", "Record a reminder", "Record the reminder of {child} about {school}",
         "The offer may be withdrawn from {withdrawn} on, if it is not answered. A reminder cannot"
         " be taken back.", True, False),
     "lapse": Action(
         "lapse", "Withdraw an offer", "Withdraw the offer of {school} from {child}",
-        f"The offer ends, and the place is vacant. {wording.FOREVER}", True),
+        f"The offer ends, and the place becomes vacant. {wording.FOREVER}", True),
     "leave": Action(
         "leave_list", "Leave a waiting list", "Take {child} off the list of {school}",
         f"The child does not return to this list. {wording.FOREVER}"),
