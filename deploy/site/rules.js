@@ -235,15 +235,15 @@ export const words = {
   },
   "TooSoon": {
    "means": "{day} is too early: it is before the offer day or the last round or fill, or less than {notice.least} days after the offer or the reminder",
-   "do": "wait, or correct the day; if an earlier day was wrong, restore the copy from before it"
+   "do": "wait, or correct the day; if the day of the last draw or of the reminder was wrong itself, see 'When something went wrong' in HANDBOOK or Help"
   },
   "WrongDraw": {
    "means": "{draw} is not the next one: the number is that of the last round or fill plus one",
-   "do": "if it was sent before, it is done: look at the report; else correct the number"
+   "do": "if the list of draws has this draw, it is done, and nothing is to be sent; else correct the number in the command (the screen Draws gives it by itself)"
   },
   "LotCount": {
    "means": "there is not one lot for each pair",
-   "do": "list the pairs again; if they changed, lots must be drawn again"
+   "do": "list the pairs again; if they changed, lots must be drawn again (the screens Draws and Lots see to that by themselves)"
   },
   "LotsRepeated": {
    "means": "two lots are equal at one school",
@@ -271,7 +271,7 @@ export const words = {
   },
   "RowDiffers": {
    "means": "the register has the child of the row with other data: the file was changed, a number is used twice, or the child was added by a command",
-   "do": "correct the row; to change a child, correct its data (amend), and keep its row as it was imported"
+   "do": "if the number is another child's, give the row another number; if it is the same child, correct its data (amend), and withdraw the row on the screen Applications, or leave it in a file for import as it was imported"
   },
   "AlreadyReminded": {
    "means": "the offer of {school} to {child} has a reminder already",
