@@ -204,6 +204,26 @@ def test_each_row_is_decided_by_what_is_typed_taken_or_kept(office: Site, jane: 
     assert rita.post(f"{PATH}look", {}).status_code == 403
 
 
+def test_a_point_that_is_emptied_is_looked_up_by_what_is_typed(office: Site, jane: Browser) -> None:
+    """As for a family that moves: its row then has the point of the new property number, also where
+    all rows are looked up once more by the column of the file.
+    """
+    screens = Screens(jane)
+    data = csv_of(HEAD, row(131, "Mo", uprn="100023336956"))
+    assert screens.add(("a.csv", data)).status_code == 303
+    assert at(office, "Mo")[:2] == ("430000", "210000")
+    assert not to_see(jane)
+    assert screens.save(staged(office)["Mo"].id, east="", north="").status_code == 303
+    assert to_see(jane).keys() == {"Mo"}
+    do(jane, staged(office)["Mo"], "look", property="200000000001", postcode="")
+    moved = ("431000", "211000",
+             f"from property number 200000000001, gazetteer of {day(office)}")
+    assert at(office, "Mo") == moved
+    press(jane, PATH, Page(jane.get(PATH).text), "Look up the points of 1 row")
+    assert at(office, "Mo") == moved
+    assert not to_see(jane)
+
+
 def test_a_workbook_without_points_is_filled(office: Site, jane: Browser) -> None:
     """It has no columns east and north. Property numbers are numbers of a spreadsheet, one of which
     was shortened; the columns that were chosen are those of the next file.
