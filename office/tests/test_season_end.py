@@ -268,7 +268,7 @@ def see_nothing_is_deleted_before_its_day(
     """Neither by a person, nor by the machine, whatever the application thinks of the day."""
     refused = head.press("ask", 409, name=NAME)
     assert "The day of deletion is 24 January 2026: it has not come." in refused.text
-    assert "two persons can delete the season" in jane.page()
+    assert "two people can delete the season" in jane.page()
     for number, name in ((20260124, "NotYet"), (20260110, "OtherDay"), (20261399, "NoDay")):
         with pytest.raises(Refused) as error:
             office_delete.deleted(registers.Register(NAME), number)

@@ -11,7 +11,7 @@ FOREVER = "This cannot be undone: the school is not offered to the child again."
 # what is wrong with what was typed for a day
 NOT_A_DAY = "a day as 17 March 2025 or 17/3/2025"
 WRONG_DECLINE = ("A decline of the wrong child is put right only by a restore of a copy from before"
-                 " it, by two persons, and best before the next draw: see Help.")
+                 " it, by two people, and best before the next draw: see Help.")
 # the name of a refusal, as it ends the words of an answer
 REFUSAL = re.compile(rf"(?<=\()({'|'.join(rules.RULES['refusals'])})(?=\))")
 # what came of a school of a child's list

@@ -157,7 +157,7 @@ def archived(office: Office) -> None:
     jane.type(REASON)
     jane.enter()
     jane.see(f"{in_words(day)}, set by {jane.who}. Reason: {REASON}")
-    jane.see(f"From {in_words(day)} on two persons can delete the season.")
+    jane.see(f"From {in_words(day)} on two people can delete the season.")
     office.deletion = day
 
 
