@@ -47,7 +47,7 @@ from letter_site import asked, hidden, made, typed  # noqa: E402
 from office import days  # noqa: E402
 from office.model import OFFERED, WAITS  # noqa: E402
 from office.web import (  # noqa: E402
-    draws_lots, letters_audits, letters_sets, letters_whom, staging_files,
+    draws_lots, letters_audits, letters_sets, letters_whom, staging_commit, staging_files,
 )
 from office.web.draws_drafts import Typed  # noqa: E402
 from office.web.draws_terms import CLOSED, COPIED, LOTS  # noqa: E402
@@ -71,8 +71,10 @@ OFFICE = {
     "telephone": "01632 960001", "email": "admissions@ashdown.example",
     "website": "www.ashdown.example", "signs": "Jane Head, Head of Admissions",
 }
-# copies beside that from before the round: what each is for, who asked for it, and when
+# the copies, of which the second is that from before the round: what each is for, who asked for it,
+# and when
 COPIES = (
+    (staging_commit.PURPOSE, "jane", "2024-11-04T10:20:00+00:00"),
     ("before draw 1", "jane", "2025-03-03T09:12:00+00:00"),
     ("after draw 1", "jane", "2025-03-03T09:31:00+00:00"),
     ("before the EHC plans of March", "jane", "2025-03-10T10:02:00+00:00"),
@@ -230,16 +232,21 @@ def figures_made(office: Site) -> str:
 
 
 def copied(office: Site) -> None:
-    """The copies that the office has, beside that from before the round."""
+    """The copies that the office has: one from before the applications were stored, then that from
+    before the round, and later ones.
+    """
     folder = office.parts.copies.folder
     with office.parts.store.writing() as db:
+        db.execute("UPDATE copy SET number=2 WHERE number=1")
+        db.execute("UPDATE draw SET copy_before=2")
         for at, (purpose, who, asked_at) in enumerate(COPIES, 1):
             name = COPY.replace("000001", f"{at:06}")
             if at > 1:
                 shutil.copy(folder / COPY, folder / name)
             db.execute("INSERT INTO copy (number, purpose, asked, name, size, who) VALUES"
                        " (?, ?, ?, ?, 81920, ?) ON CONFLICT (number) DO UPDATE SET"
-                       " asked=excluded.asked, size=excluded.size, who=excluded.who",
+                       " name=excluded.name, asked=excluded.asked, size=excluded.size,"
+                       " who=excluded.who",
                        (at, purpose, asked_at, name, who))
 
 
