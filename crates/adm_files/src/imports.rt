@@ -73,7 +73,7 @@ fn import_rows<D: Disk + Drop, I: Input, O: Output>(
 
 /// Imports the rows of the file, and closes the connection, whatever comes.
 fn import_file<D: Disk + Drop, F: Rows, O: Output>(
-    rt: &HostRuntime,
+    alloc: Global,
     desk: Desk<FileStore<D>>,
     csv: &str,
     rows: &mut F,
@@ -82,8 +82,8 @@ fn import_file<D: Disk + Drop, F: Rows, O: Output>(
     ensures { ImportsFile desk (files F.Rows rows.old rows.new csv.now) (writer O.Output output.old output.new)
         result.exit result.closed }
 {
-    match rows.open(rt, csv) {
-        Ok(()) => import_rows(rt.alloc(), desk, rows, output),
+    match rows.open(csv) {
+        Ok(()) => import_rows(alloc, desk, rows, output),
         Err(error) => close(desk, Err(Fault::NotRead(error.cause))),
     }
 }
@@ -107,7 +107,7 @@ pub fn import<S: Start, F: Rows, O: Output>(
     ensures untouched { OnErr result (O.contents output.new ≡ O.contents output.old) }
 {
     match open_desk(rt, file, start)? {
-        Ok(desk) => Ok(import_file(rt, desk, csv, rows, output)),
+        Ok(desk) => Ok(import_file(rt.alloc(), desk, csv, rows, output)),
         Err(ended) => Ok(ended),
     }
 }

@@ -18,7 +18,7 @@ pub trait Rows: Input {
 
     /// Opens the file at a path: from then on reads give its bytes. The `Err` is a failure of the
     /// reader.
-    fn open(&mut self, rt: &HostRuntime, path: &str) -> Result<(), NotOpened>
+    fn open(&mut self, path: &str) -> Result<(), NotOpened>
         ensures bytes { OnOk result (Self.remaining self.new ≡ bytes_at self.old path.now) }
         ensures fails { Self.has_failed self.new ≡ (Self.has_failed self.old || is_err result) };
 }
@@ -26,24 +26,26 @@ pub trait Rows: Input {
 /// The rows of a file of the system, whose bytes no clause can know. Before it is opened each read
 /// fails.
 #[derive(Drop)]
-pub struct FileRows {
+pub struct FileRows<'a> {
+    rt: &'a HostRuntime,
     file: Option<Watched<File>>,
     has_failed: bool,
 }
 
-impl FileRows {
+impl<'a> FileRows<'a> {
     /// Rows that are not opened yet, and have not failed.
-    pub fn new() -> FileRows
-        ensures { ⟦<FileRows as Input>⟧.has_failed result ≡ false }
+    pub fn new(rt: &'a HostRuntime) -> FileRows<'a>
+        ensures { ⟦<FileRows<'a> as Input>⟧.has_failed result ≡ false }
     {
         FileRows {
+            rt,
             file: None,
             has_failed: false,
         }
     }
 }
 
-impl Input for FileRows {
+impl Input for FileRows<'_> {
     ghost remaining = { λ _. None };
 
     ghost has_failed = { λ s. s.has_failed };
@@ -59,11 +61,11 @@ impl Input for FileRows {
     }
 }
 
-impl Rows for FileRows {
+impl Rows for FileRows<'_> {
     ghost bytes_at = { λ _ _. None };
 
-    fn open(&mut self, rt: &HostRuntime, path: &str) -> Result<(), NotOpened> {
-        match open_regular(rt, path) {
+    fn open(&mut self, path: &str) -> Result<(), NotOpened> {
+        match open_regular(self.rt, path) {
             Ok(file) => {
                 self.file = Some(Watched::new(file));
                 Ok(())

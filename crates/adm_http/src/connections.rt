@@ -47,7 +47,7 @@ pub trait Ports: Connections {
 
     /// Takes a port of this machine: from then on its connections come. At the `Err` it was not taken,
     /// and nor was a connection.
-    fn listen(&mut self, rt: &HostRuntime, port: u16) -> Result<(), NotTaken>
+    fn listen(&mut self, port: u16) -> Result<(), NotTaken>
         ensures taken { OnOk result (Self.traffic self.new ≡ traffic_at self.old port) }
         ensures idle { OnOk result (IsIdle (Self.traffic self.new)) }
         ensures left { OnErr result (Self.traffic self.new ≡ Self.traffic self.old) };

@@ -32,8 +32,8 @@ const BYTES_OF_REST: usize = 2_097_152;
 /// and its client could lose the response. So one client holds the desk for 10 seconds at most, and
 /// only once it has sent a byte. No clause speaks of time, nor of the bytes of a socket.
 #[derive(Drop)]
-pub struct Port<'a, C: Clock> {
-    clock: &'a C,
+pub struct Port<'a> {
+    rt: &'a HostRuntime,
     taken: Option<Taken>,
 }
 
@@ -44,10 +44,10 @@ struct Taken {
     arrivals: Arrivals,
 }
 
-impl<'a, C: Clock> Port<'a, C> {
+impl<'a> Port<'a> {
     /// No port yet.
-    pub fn new(clock: &'a C) -> Self {
-        Port { clock, taken: None }
+    pub fn new(rt: &'a HostRuntime) -> Port<'a> {
+        Port { rt, taken: None }
     }
 
     /// Takes the connections that come to a listener.
@@ -59,8 +59,8 @@ impl<'a, C: Clock> Port<'a, C> {
     }
 }
 
-impl<'a, C: Clock> Connections for Port<'a, C> {
-    type Connection = Watched<TimedStream<'a, C>>;
+impl<'a> Connections for Port<'a> {
+    type Connection = Watched<TimedStream<'a, HostRuntime>>;
 
     ghost traffic = { λ _. None };
 
@@ -68,12 +68,10 @@ impl<'a, C: Clock> Connections for Port<'a, C> {
         let Some(taken) = &mut self.taken else {
             return None;
         };
-        let arrival = taken
-            .arrivals
-            .next(self.clock, &taken.listener, most, errors)?;
+        let arrival = taken.arrivals.next(self.rt, &taken.listener, most, errors)?;
         Some(Watched::new(TimedStream::new(
             arrival.stream,
-            self.clock,
+            self.rt,
             Duration::from_secs(SECONDS_OF_REQUEST),
             arrival.since,
             arrival.is_broken,
@@ -93,13 +91,13 @@ impl<'a, C: Clock> Connections for Port<'a, C> {
     }
 }
 
-impl<'a, C: Clock> Ports for Port<'a, C> {
+impl Ports for Port<'_> {
     ghost traffic_at = { λ _ _. None };
 
-    fn listen(&mut self, rt: &HostRuntime, port: u16) -> Result<(), NotTaken> {
-        match TcpListener::bind(rt, (Ipv4Addr::LOCALHOST, port)) {
+    fn listen(&mut self, port: u16) -> Result<(), NotTaken> {
+        match TcpListener::bind(self.rt, (Ipv4Addr::LOCALHOST, port)) {
             Ok(listener) => {
-                self.accept_from(rt.alloc(), listener);
+                self.accept_from(self.rt.alloc(), listener);
                 Ok(())
             }
             Err(_) => Err(NotTaken),

@@ -177,7 +177,7 @@ fn serve<S: Start, P: Ports, O: Output, L: Output>(
     ensures log { PrintsConnections (errors_of L.Output log.old) (errors_of L.Output log.new) }
 {
     match open_desk(rt, file, start)? {
-        Ok(desk) => Ok(serve_connections(rt, desk, ports, port, count, output, log)),
+        Ok(desk) => Ok(serve_connections(rt.alloc(), desk, ports, port, count, output, log)),
         Err(ended) => Ok(ended),
     }
 }

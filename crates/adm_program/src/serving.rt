@@ -36,16 +36,16 @@ fn put_serving<O: Output>(alloc: Global, port: u16, output: &mut O) -> Result<()
 
 /// The routes of requests, and the port of this machine alone to which they come is taken. The `Err` is
 /// Listen where it cannot be taken, or Memory.
-fn listen<P: Ports>(rt: &HostRuntime, ports: &mut P, port: u16) -> Result<Routes, Fault>
+fn listen<P: Ports>(alloc: Global, ports: &mut P, port: u16) -> Result<Routes, Fault>
     ensures taken { OnOk result (P.traffic ports.new ≡ P.traffic_at ports.old port) }
     ensures idle { OnOk result (IsIdle (P.traffic ports.new)) }
     ensures err { IfErr result IsListenFault }
     ensures left { OnErr result (P.traffic ports.new ≡ P.traffic ports.old) }
 {
-    let Ok(routes) = Routes::new(rt.alloc()) else {
+    let Ok(routes) = Routes::new(alloc) else {
         return Err(Fault::Memory);
     };
-    match ports.listen(rt, port) {
+    match ports.listen(port) {
         Ok(()) => Ok(routes),
         Err(_) => Err(Fault::Listen),
     }
@@ -54,7 +54,7 @@ fn listen<P: Ports>(rt: &HostRuntime, ports: &mut P, port: u16) -> Result<Routes
 /// Prints that the port is served, serves as many connections over the desk, and closes its own
 /// connection, whatever comes.
 pub fn serve_connections<D: Disk + Drop, P: Ports, O: Output, L: Output>(
-    rt: &HostRuntime,
+    alloc: Global,
     mut desk: Desk<FileStore<D>>,
     ports: &mut P,
     port: u16,
@@ -68,10 +68,10 @@ pub fn serve_connections<D: Disk + Drop, P: Ports, O: Output, L: Output>(
         result.exit result.closed }
     ensures log { PrintsConnections (errors_of L.Output log.old) (errors_of L.Output log.new) }
 {
-    match listen(rt, ports, port) {
-        Ok(routes) => match put_serving(rt.alloc(), port, output) {
+    match listen(alloc, ports, port) {
+        Ok(routes) => match put_serving(alloc, port, output) {
             Ok(()) => {
-                let status = serve_on(rt.alloc(), &routes, &mut desk, ports, count, log);
+                let status = serve_on(alloc, &routes, &mut desk, ports, count, log);
                 close(desk, Ok(Exit::of_served(status)))
             }
             Err(fault) => close(desk, Err(fault)),

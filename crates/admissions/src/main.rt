@@ -36,7 +36,7 @@ fn run(rt: &HostRuntime) -> io::Result<u8> {
         rt,
         arguments.as_slice(),
         Unknown,
-        &mut FileRows::new(),
+        &mut FileRows::new(rt),
         &mut Port::new(rt),
         &mut Watched::new(rt.stdin()),
         &mut Watched::new(rt.stdout()),

@@ -87,7 +87,7 @@ impl Runs {
             rt,
             words.as_slice(),
             Unknown,
-            &mut FileRows::new(),
+            &mut FileRows::new(rt),
             &mut Port::new(rt),
             &mut Watched::new(self.input.as_slice()),
             &mut output,
