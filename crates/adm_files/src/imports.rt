@@ -1,7 +1,6 @@
 // The rows of a file of comma-separated values, imported into a register.
 ghost use Rattle.std.specs.Prelude.{◌≡◌, ◌++◌, [], ◌∷◌, codes, IfOk, IfErr, OnErr, IsErrAnd};
 ghost use Rattle.sqlite.specs.Held.{state};
-ghost use Rattle.sqlite_wal.specs.Files.{image_at};
 ghost use Rattle.adm_desk.specs.Lines.{answer_text};
 ghost use Rattle.adm_host.specs.Exits.{IsOpenFault, IsDisk};
 ghost use Rattle.adm_files.specs.Imports.{files, IsHandled, Imports, ImportsFile, ImportsInto};
@@ -10,14 +9,14 @@ ghost use Rattle.adm_host.specs.Found.{LeavesAsFound};
 ghost use Rattle.adm_host.specs.Texts.{Puts};
 
 use crate::closing::close;
-use crate::opening::open_desk;
 use crate::outcome::exit_of_answer;
+use crate::registers::Registers;
 use adm_csv::read_rows;
 use adm_desk::{Answer, Desk};
 use adm_host::{Exit, Fault, LineEnd, OpenError, Rows, put};
 use adm_types::{Command, Row as ImportRow, Seq};
 use adm_wire::{Input, Output};
-use sqlite::{Alter, FileFrom, FileStore, Start};
+use sqlite::{Alter, FileStore};
 use sqlite_disk::Disk;
 use std::alloc::Global;
 
@@ -90,24 +89,24 @@ fn import_file<D: Disk + Drop, F: Rows, O: Output>(
 
 /// Imports the rows of the file `csv` into the register in the file, which is there. The `Err` is why
 /// it was not opened; then nothing was written.
-pub fn import<S: Start, F: Rows, O: Output>(
-    rt: &HostRuntime,
+pub fn import<D: Disk + Drop, R: Registers<D>, F: Rows, O: Output>(
+    alloc: Global,
+    registers: R,
     file: &str,
     csv: &str,
-    start: S,
     rows: &mut F,
     output: &mut O,
-) -> Result<LineEnd<FileFrom<S>>, OpenError<FileFrom<S>>>
-    ensures ok { IfOk result (λ ended. ImportsInto (image_at S.Start) (files F.Rows rows.old rows.new csv.now)
+) -> Result<LineEnd<D>, OpenError<D>>
+    ensures ok { IfOk result (λ ended. ImportsInto (R.held registers file.now) (files F.Rows rows.old rows.new csv.now)
         (writer O.Output output.old output.new)
         ended.exit ended.closed) }
     ensures err { IfErr result (λ e. IsOpenFault e.fault) }
-    ensures left { IfErr result (λ e. LeavesAsFound (image_at S.Start) e.remains) }
+    ensures left { IfErr result (λ e. LeavesAsFound (R.held registers file.now) e.remains) }
     ensures memory { file.now ≡ codes ":memory:" → IsErrAnd result (λ e. IsDisk e.fault) }
     ensures untouched { OnErr result (O.contents output.new ≡ O.contents output.old) }
 {
-    match open_desk(rt, file, start)? {
-        Ok(desk) => Ok(import_file(rt.alloc(), desk, csv, rows, output)),
+    match registers.open(file)? {
+        Ok(desk) => Ok(import_file(alloc, desk, csv, rows, output)),
         Err(ended) => Ok(ended),
     }
 }

@@ -7,9 +7,10 @@ mod lines;
 mod opening;
 mod outcome;
 mod printing;
+mod registers;
 
 pub use closing::close;
 pub use imports::import;
 pub use lines::{answer_questions, do_lines};
-pub use opening::open_desk;
 pub use printing::print;
+pub use registers::{HostRegisters, Registers, before_opening};

@@ -1,6 +1,5 @@
 // A document of a register, printed.
 ghost use Rattle.std.specs.Prelude.{◌≡◌, codes, false, IfOk, IfErr, OnErr, IsErrAnd};
-ghost use Rattle.sqlite_wal.specs.Files.{image_at};
 ghost use Rattle.adm_wire.specs.Streams.{writer};
 ghost use Rattle.adm_host.specs.Exits.{IsOpenFault, IsDisk};
 ghost use Rattle.adm_host.specs.Found.{Closes, LeavesAsFound};
@@ -8,11 +7,11 @@ ghost use Rattle.adm_host.specs.Texts.{PrintsAs, document_text};
 ghost use Rattle.adm_files.specs.Runs.{Prints};
 
 use crate::closing::close;
-use crate::opening::open_desk;
+use crate::registers::Registers;
 use adm_desk::Desk;
 use adm_host::{Document, Exit, Fault, LineEnd, OpenError};
 use adm_wire::Output;
-use sqlite::{Alter, FileFrom, FileStore, Start};
+use sqlite::{Alter, FileStore};
 use sqlite_disk::Disk;
 use std::alloc::Global;
 
@@ -51,23 +50,23 @@ fn print_document<D: Disk + Drop, O: Output>(
 
 /// Prints a document of the register in the file, which is there. The `Err` is why it was not opened;
 /// then nothing was written.
-pub fn print<S: Start, O: Output>(
-    rt: &HostRuntime,
+pub fn print<D: Disk + Drop, R: Registers<D>, O: Output>(
+    alloc: Global,
+    registers: R,
     file: &str,
-    start: S,
     document: Document,
     output: &mut O,
-) -> Result<LineEnd<FileFrom<S>>, OpenError<FileFrom<S>>>
-    ensures ok { IfOk result (λ ended. Prints (image_at S.Start) document
+) -> Result<LineEnd<D>, OpenError<D>>
+    ensures ok { IfOk result (λ ended. Prints (R.held registers file.now) document
         (writer O.Output output.old output.new)
         ended.exit ended.closed) }
     ensures err { IfErr result (λ e. IsOpenFault e.fault) }
-    ensures left { IfErr result (λ e. LeavesAsFound (image_at S.Start) e.remains) }
+    ensures left { IfErr result (λ e. LeavesAsFound (R.held registers file.now) e.remains) }
     ensures memory { file.now ≡ codes ":memory:" → IsErrAnd result (λ e. IsDisk e.fault) }
     ensures untouched { OnErr result (O.contents output.new ≡ O.contents output.old) }
 {
-    match open_desk(rt, file, start)? {
-        Ok(desk) => Ok(print_document(rt.alloc(), desk, document, output)),
+    match registers.open(file)? {
+        Ok(desk) => Ok(print_document(alloc, desk, document, output)),
         Err(ended) => Ok(ended),
     }
 }

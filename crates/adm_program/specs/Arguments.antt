@@ -1,11 +1,9 @@
 -- How a command line ends: what is done, what is reported, and the exit status.
-use Rattle.std.specs.Prelude.{◌≡◌, ℕ, List, map, IsTrue, Result, Ok, Err}
+use Rattle.std.specs.Prelude.{◌≡◌, ℕ, List, [], map, IsTrue, Result, Ok, Err}
 use Rattle.std.specs.Borrow.{Bor}
 use Rattle.sqlite_disk.specs.declared.Disk as disk
 use Rattle.sqlite_disk.specs.declared.Files.{Files}
-use Rattle.sqlite_disk.specs.declared.start.Start as start
 use Rattle.sqlite_wal.specs.Recovery.{Image}
-use Rattle.sqlite_wal.specs.Files.{image_at}
 use Rattle.sqlite_store.specs.declared.store.FileStore.{FileStore}
 use Rattle.sqlite.specs.declared.error.Error.{Error}
 use Rattle.adm_wire.specs.declared.streams.Output as output
@@ -16,7 +14,7 @@ use Rattle.adm_words.specs.declared.faults.WordsFault.{WordsFault}
 use Rattle.adm_host.specs.Exits.{has_many_holidays, IsCauseIn, ending_of, error_of, exit_of_result, exit_code, exit_of_arguments, fault_line}
 use Rattle.adm_host.specs.Reports.{ReportsText, ReportsOutcome, ReportsArguments}
 use Rattle.adm_host.specs.Found.{IsUntouched, LeavesAsFound}
-use Rattle.adm_program.specs.Does.{Does, TakesByServing}
+use Rattle.adm_program.specs.Does.{Does, TakesByServing, file_of}
 use Rattle.adm_program.specs.Given.{Around}
 use Rattle.adm_program.specs.Served.{AreUntaken, IsUnlogged}
 use Rattle.adm_host.specs.declared.connecting.Remainder.{Remainder}
@@ -30,6 +28,11 @@ use Rattle.adm_host.specs.declared.fault.Fault.TheVariants.{TooManyHolidays}
 -- the arguments as texts: the bytes of each
 abbrev pub texts : List (Bor (List ℕ)) → List (List ℕ)
 texts arguments = map (λ w. w.now) arguments
+
+-- what the register's file that the arguments name held: nothing where they are a usage error, which names none
+abbrev pub held_by_named : (List ℕ → Image) → Result Action WordsFault → Image
+held_by_named held (Ok action) = held (file_of action)
+held_by_named held (Err fault) = record { log = []; db = [] }
 
 -- the arguments are a usage error, or could not be read because memory ran out, which is reported; nothing was read, written or logged, and no connection taken
 pub record IsUsageError (fault : WordsFault) (around : Around) (status : ℕ) : Type 0 where
@@ -78,17 +81,17 @@ module _ {D : Type 0} (g : disk.Ghosts D) where
   FollowsFrom image (Ok action) around end = ActsOrFails image action around end.status end.remains
   FollowsFrom image (Err fault) around end = IsUsageError fault around end.status × AreUntouched end.remains
 
-  -- the arguments are read, and this follows from them, over files that held what the ghosts of their opener say
-  pub record ActsAround {S : Type 0} (opener : start.Ghosts S) (arguments : List (Bor (List ℕ))) (around : Around) (end : RunEnd D g) : Type 0 where
+  -- the arguments are read, and this follows from them, where the files at each path held this
+  pub record ActsAround (held : List ℕ → Image) (arguments : List (Bor (List ℕ))) (around : Around) (end : RunEnd D g) : Type 0 where
     pub read : Result Action WordsFault
     pub reads : ReadsArguments (texts arguments) read
-    pub follows : FollowsFrom (image_at opener) read around end
+    pub follows : FollowsFrom (held_by_named held read) read around end
 
   -- the arguments are read, and some end with this status follows from them, whatever was logged
-  abbrev pub ActsWith : {S : Type 0} → start.Ghosts S → List (Bor (List ℕ)) → (Errors → Errors → Around) → ℕ → Type 0
-  ActsWith opener arguments around status =
-      (before : Errors) × (after : Errors) × (end : RunEnd D g) × (end.status ≡ status) × ActsAround opener arguments (around before after) end
+  abbrev pub ActsWith : (List ℕ → Image) → List (Bor (List ℕ)) → (Errors → Errors → Around) → ℕ → Type 0
+  ActsWith held arguments around status =
+      (before : Errors) × (after : Errors) × (end : RunEnd D g) × (end.status ≡ status) × ActsAround held arguments (around before after) end
 
 -- the arguments are read, and this end follows from them, where the log was so before and is so now
-abbrev pub ActsOn : {S L D : Type 0} {g : disk.Ghosts D} → start.Ghosts S → List (Bor (List ℕ)) → (Errors → Errors → Around) → output.Ghosts L → L → L → RunEnd D g → Type 0
-ActsOn {g} opener arguments around l log log_new end = ActsAround g opener arguments (around (errors_of l log) (errors_of l log_new)) end
+abbrev pub ActsOn : {L D : Type 0} {g : disk.Ghosts D} → (List ℕ → Image) → Bor (List (Bor (List ℕ))) → (Errors → Errors → Around) → output.Ghosts L → L → L → RunEnd D g → Type 0
+ActsOn {g} held arguments around l log log_new end = ActsAround g held arguments.now (around (errors_of l log) (errors_of l log_new)) end

@@ -22,6 +22,19 @@ use Rattle.adm_host.specs.declared.document.Document.TheVariants as document
 use Rattle.adm_host.specs.declared.exit.Exit.{Exit}
 use Rattle.adm_host.specs.declared.fault.Fault.{Fault}
 
+-- the path of the register's file that an action names
+abbrev pub file_of : Action → List ℕ
+file_of (action.Init file phase year days) = file.now
+file_of (action.Do file) = file.now
+file_of (action.WhatIf file) = file.now
+file_of (action.Import file csv) = file.now
+file_of (action.Serve file port count) = file.now
+file_of (action.Letter file child) = file.now
+file_of (action.List file school) = file.now
+file_of (action.RoundReport file round) = file.now
+file_of (action.Pairs file school) = file.now
+file_of (action.Show file draw) = file.now
+
 -- what `show` prints: the draw of a number, or the register where there is none
 abbrev pub shown : Option ℕ → Document
 shown None = document.Register
@@ -41,6 +54,10 @@ Does image (action.List file school) given e closed = (given.input.new ≡ given
 Does image (action.RoundReport file round) given e closed = (given.input.new ≡ given.input.old) × Prints image (document.Report round) given.output e closed
 Does image (action.Pairs file school) given e closed = (given.input.new ≡ given.input.old) × Prints image (document.Pairs school) given.output e closed
 Does image (action.Show file draw) given e closed = (given.input.new ≡ given.input.old) × Prints image (shown draw) given.output e closed
+
+-- the action does this, over the file at the path that it names, where the files at each path held this
+abbrev pub DoesAt : {D : Type 0} {g : disk.Ghosts D} → (List ℕ → Image) → Action → Given → Result Exit Fault → Result (Files D) (Error × FileStore D g) → Type 0
+DoesAt held action given e closed = Does (held (file_of action)) action given e closed
 
 -- `serve` alone takes connections
 abbrev pub TakesByServing : Action → Visits → Type 0

@@ -1,4 +1,4 @@
-// What each line of the command line does, over files that can be started, a reader and writers.
+// What each line of the command line does, over registers that are opened by their paths, a reader and writers.
 #![tactic(auto)]
 
 mod run;

@@ -1,10 +1,9 @@
 // What each line of the command line does, over a reader and writers.
 ghost use Rattle.std.specs.Prelude.{◌≡◌, codes, IsTrue, IfOk, IfErr, OnErr, IsErrAnd};
-ghost use Rattle.sqlite_wal.specs.Files.{image_at};
 ghost use Rattle.adm_host.specs.Exits.{has_many_holidays, IsCauseIn, IsOpenFault, RunsArguments, IsDisk};
 ghost use Rattle.adm_host.specs.declared.fault.Fault.TheVariants.{TooManyHolidays};
 ghost use Rattle.adm_http.specs.Connections.{errors_of};
-ghost use Rattle.adm_program.specs.Does.{Does, TakesByServing, shown};
+ghost use Rattle.adm_program.specs.Does.{DoesAt, TakesByServing, file_of, shown};
 ghost use Rattle.adm_program.specs.Logged.{Logs, LogsBy, PrintsConnections};
 ghost use Rattle.adm_files.specs.Imports.{ImportsInto};
 ghost use Rattle.adm_wire.specs.Streams.{writer};
@@ -15,38 +14,44 @@ ghost use Rattle.adm_files.specs.Runs.{Prints};
 ghost use Rattle.adm_program.specs.Arguments.{ActsOn, ActsWith, texts};
 
 use crate::serving::serve_connections;
-use adm_files::{answer_questions, do_lines, import, open_desk, print};
-use adm_host::{
-    Document, Fault, LineEnd, OpenError, Remains, Rows, RunEnd, before_open, end, init,
-    leave_unopened, refuse_arguments,
-};
+use adm_files::{Registers, answer_questions, before_opening, do_lines, import, print};
+use adm_host::{Document, Fault, LineEnd, OpenError, Remains, Rows, RunEnd, end, refuse_arguments};
 use adm_http::Ports;
 use adm_types::Season;
 use adm_wire::{Input, Output};
 use adm_words::{Action, action};
-use sqlite::{FileFrom, Start};
 use sqlite_disk::Disk;
+use std::alloc::Global;
 
 /// Does what `run_arguments` does, and gives the exit status alone: what remains of the files is let go.
-pub fn run_words<S: Start, F: Rows, P: Ports, I: Input, O: Output, E: Output, L: Output>(
-    rt: &HostRuntime,
+pub fn run_words<
+    D: Disk + Drop,
+    R: Registers<D>,
+    F: Rows,
+    P: Ports,
+    I: Input,
+    O: Output,
+    E: Output,
+    L: Output,
+>(
+    alloc: Global,
     arguments: &[&str],
-    start: S,
+    files: R,
     rows: &mut F,
-    ports: &mut P,
+    port: &mut P,
     input: &mut I,
     output: &mut O,
     errors: &mut E,
     log: &mut L,
 ) -> u8
-    ensures does { ActsWith ⟦<FileFrom<S> as Disk>⟧ S.Start arguments.entry.now
-        (around F.Rows rows.old rows.new P.Ports ports.old ports.new
+    ensures does { ActsWith D.Disk (R.held files) arguments.entry.now
+        (around F.Rows rows.old rows.new P.Ports port.old port.new
         I.Input input.old input.new O.Output output.old output.new E.Output errors.old errors.new) result }
     ensures status { RunsArguments (texts arguments.entry.now) result }
     ensures log { Logs (texts arguments.entry.now) (errors_of L.Output log.old) (errors_of L.Output log.new) }
 {
     run_arguments(
-        rt, arguments, start, rows, ports, input, output, errors, log,
+        alloc, arguments, files, rows, port, input, output, errors, log,
     )
     .status
 }
@@ -57,33 +62,42 @@ pub fn run_words<S: Start, F: Rows, P: Ports, I: Input, O: Output, E: Output, L:
 /// Disk or Read that is known; 2 a usage error; 3 some line of `do` or `what-if` was refused, was no
 /// command or question or ran out of memory, or the command of an import was refused or ran out of
 /// memory; 4 the store failed. What goes wrong with single connections while `serve` runs is printed to
-/// `log`, and nothing else is. `rows` opens the file that `import` reads, and `ports` takes the port of
+/// `log`, and nothing else is. `rows` opens the file that `import` reads, and `port` takes the port of
 /// `serve`.
-pub fn run_arguments<S: Start, F: Rows, P: Ports, I: Input, O: Output, E: Output, L: Output>(
-    rt: &HostRuntime,
+pub fn run_arguments<
+    D: Disk + Drop,
+    R: Registers<D>,
+    F: Rows,
+    P: Ports,
+    I: Input,
+    O: Output,
+    E: Output,
+    L: Output,
+>(
+    alloc: Global,
     arguments: &[&str],
-    start: S,
+    files: R,
     rows: &mut F,
-    ports: &mut P,
+    port: &mut P,
     input: &mut I,
     output: &mut O,
     errors: &mut E,
     log: &mut L,
-) -> RunEnd<FileFrom<S>>
-    ensures does { ActsOn S.Start arguments.entry.now
-        (around F.Rows rows.old rows.new P.Ports ports.old ports.new I.Input input.old input.new
+) -> RunEnd<D>
+    ensures does { ActsOn (R.held files) arguments.entry
+        (around F.Rows rows.old rows.new P.Ports port.old port.new I.Input input.old input.new
         O.Output output.old output.new E.Output errors.old errors.new) L.Output log.old log.new result }
     ensures status { RunsArguments (texts arguments.entry.now) result.status }
     ensures log { Logs (texts arguments.entry.now) (errors_of L.Output log.old) (errors_of L.Output log.new) }
 {
-    match action(rt.alloc(), arguments) {
+    match action(alloc, arguments) {
         Ok(action) => {
-            let ended = run_action(rt, action, start, rows, ports, input, output, log);
+            let ended = run_action(alloc, action, files, rows, port, input, output, log);
             end(ended, errors)
         }
         Err(fault) => RunEnd {
-            status: refuse_arguments(rt.alloc(), &fault, errors).code(),
-            remains: Remains::Unopened(leave_unopened(start)),
+            status: refuse_arguments(alloc, &fault, errors).code(),
+            remains: Remains::Unopened(files.leave()),
         },
     }
 }
@@ -91,22 +105,22 @@ pub fn run_arguments<S: Start, F: Rows, P: Ports, I: Input, O: Output, E: Output
 /// Does what a line of the command line says. The `Err` is why there is no season of these
 /// values, or why the file was not opened, with what remained of it; then nothing was read or
 /// written.
-fn run_action<S: Start, F: Rows, P: Ports, I: Input, O: Output, L: Output>(
-    rt: &HostRuntime,
+fn run_action<D: Disk + Drop, R: Registers<D>, F: Rows, P: Ports, I: Input, O: Output, L: Output>(
+    alloc: Global,
     action: Action<'_>,
-    start: S,
+    files: R,
     rows: &mut F,
     ports: &mut P,
     input: &mut I,
     output: &mut O,
     log: &mut L,
-) -> Result<LineEnd<FileFrom<S>>, OpenError<FileFrom<S>>>
-    ensures ok { IfOk result (λ e. Does (image_at S.Start) action.entry
+) -> Result<LineEnd<D>, OpenError<D>>
+    ensures ok { IfOk result (λ e. DoesAt (R.held files) action.entry
         (given F.Rows rows.old rows.new P.Ports ports.old ports.new L.Output log.old log.new
         I.Input input.old input.new O.Output output.old output.new)
         e.exit e.closed) }
     ensures err { IfErr result (λ e. IsCauseIn action.entry e.fault) }
-    ensures left { IfErr result (λ e. LeavesAsFound (image_at S.Start) e.remains) }
+    ensures left { IfErr result (λ e. LeavesAsFound (R.held files (file_of action.entry)) e.remains) }
     ensures many { IsTrue (has_many_holidays action.entry) → IsErrAnd result (λ e. e.fault ≡ TooManyHolidays) }
     ensures untouched { OnErr result ((I.remaining input.new ≡ I.remaining input.old) × (O.contents output.new ≡ O.contents output.old)
         × (P.traffic ports.new ≡ P.traffic ports.old) × (errors_of L.Output log.new ≡ errors_of L.Output log.old)) }
@@ -119,27 +133,27 @@ fn run_action<S: Start, F: Rows, P: Ports, I: Input, O: Output, L: Output>(
             phase,
             year,
             holidays,
-        } => match Season::new(rt.alloc(), phase, year, holidays.as_slice()) {
-            Ok(season) => init(rt, file, start, &season),
-            Err(fault) => Err(before_open(Fault::from(fault), start)),
+        } => match Season::new(alloc, phase, year, holidays.as_slice()) {
+            Ok(season) => files.create(file, &season),
+            Err(fault) => Err(before_opening(Fault::from(fault), files)),
         },
-        Action::Do { file } => do_lines(rt, file, start, input, output),
-        Action::WhatIf { file } => answer_questions(rt, file, start, input, output),
-        Action::Import { file, csv } => import(rt, file, csv, start, rows, output),
+        Action::Do { file } => do_lines(files, file, input, output),
+        Action::WhatIf { file } => answer_questions(files, file, input, output),
+        Action::Import { file, csv } => import(alloc, files, file, csv, rows, output),
         Action::Serve { file, port, count } => {
-            serve(rt, file, start, ports, port, count, output, log)
+            serve(alloc, files, file, ports, port, count, output, log)
         }
         Action::Letter { file, child } => {
-            print(rt, file, start, Document::Letter(child), output)
+            print(alloc, files, file, Document::Letter(child), output)
         }
-        Action::List { file, school } => print(rt, file, start, Document::List(school), output),
+        Action::List { file, school } => print(alloc, files, file, Document::List(school), output),
         Action::RoundReport { file, round } => {
-            print(rt, file, start, Document::Report(round), output)
+            print(alloc, files, file, Document::Report(round), output)
         }
         Action::Pairs { file, school } => {
-            print(rt, file, start, Document::Pairs(school), output)
+            print(alloc, files, file, Document::Pairs(school), output)
         }
-        Action::Show { file, draw } => print(rt, file, start, shown(draw), output),
+        Action::Show { file, draw } => print(alloc, files, file, shown(draw), output),
     }
 }
 
@@ -155,29 +169,29 @@ fn shown(draw: Option<u32>) -> Document
 
 /// Serves connections to a port over the register in the file, which is there. The `Err` is why it was
 /// not opened; then nothing was written.
-fn serve<S: Start, P: Ports, O: Output, L: Output>(
-    rt: &HostRuntime,
+fn serve<D: Disk + Drop, R: Registers<D>, P: Ports, O: Output, L: Output>(
+    alloc: Global,
+    files: R,
     file: &str,
-    start: S,
     ports: &mut P,
     port: u16,
     count: u32,
     output: &mut O,
     log: &mut L,
-) -> Result<LineEnd<FileFrom<S>>, OpenError<FileFrom<S>>>
-    ensures ok { IfOk result (λ ended. ServesOver (image_at S.Start) port count
+) -> Result<LineEnd<D>, OpenError<D>>
+    ensures ok { IfOk result (λ ended. ServesOver (R.held files file.now) port count
         (visits P.Ports ports.old ports.new L.Output log.old log.new)
         (writer O.Output output.old output.new)
         ended.exit ended.closed) }
     ensures err { IfErr result (λ e. IsOpenFault e.fault) }
-    ensures left { IfErr result (λ e. LeavesAsFound (image_at S.Start) e.remains) }
+    ensures left { IfErr result (λ e. LeavesAsFound (R.held files file.now) e.remains) }
     ensures memory { file.now ≡ codes ":memory:" → IsErrAnd result (λ e. IsDisk e.fault) }
     ensures untouched { OnErr result ((O.contents output.new ≡ O.contents output.old) × (P.traffic ports.new ≡ P.traffic ports.old)
         × (errors_of L.Output log.new ≡ errors_of L.Output log.old)) }
     ensures log { PrintsConnections (errors_of L.Output log.old) (errors_of L.Output log.new) }
 {
-    match open_desk(rt, file, start)? {
-        Ok(desk) => Ok(serve_connections(rt.alloc(), desk, ports, port, count, output, log)),
+    match files.open(file)? {
+        Ok(desk) => Ok(serve_connections(alloc, desk, ports, port, count, output, log)),
         Err(ended) => Ok(ended),
     }
 }

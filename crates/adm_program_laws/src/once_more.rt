@@ -1,5 +1,4 @@
 // A call of the program, over the files that the runs before it left.
-ghost use Rattle.sqlite_wal.specs.Files.{image_at};
 ghost use Rattle.adm_program.specs.Arguments.{texts};
 ghost use Rattle.adm_program.specs.Given.{around};
 ghost use Rattle.adm_program_laws.specs.OneRun.{FindsAnswered, KeepsAfterRuns, LeavesFirst};
@@ -7,39 +6,52 @@ ghost use Rattle.adm_program_laws.specs.OneRun.{FindsAnswered, KeepsAfterRuns, L
 use crate::birth::first_runs;
 use crate::found_again::answered_is_found;
 use crate::runs::runs_in_order;
+use adm_files::Registers;
 use adm_host::{Rows, RunEnd};
 use adm_http::Ports;
 use adm_program::run_arguments;
 use adm_wire::{Input, Output};
-use sqlite::{FileFrom, Start};
+use sqlite_disk::Disk;
+use std::alloc::Global;
 
-/// Runs the program, as `run_arguments` does, over files that hold what the start says: the register
-/// after some runs, or none before `init`. To its end or to a crash, they hold the one after this run
+/// Runs the program, as `run_arguments` does, over the file that its arguments name: it holds the
+/// register after some runs, or none before `init`. To its end or to a crash, it holds the one after this run
 /// too, which has the commands that it answered, among them each that `serve` answered with the status 200.
-pub fn run_once_more<S: Start, F: Rows, P: Ports, I: Input, O: Output, E: Output, L: Output>(
-    rt: &HostRuntime,
+pub fn run_once_more<
+    D: Disk + Drop,
+    R: Registers<D>,
+    F: Rows,
+    P: Ports,
+    I: Input,
+    O: Output,
+    E: Output,
+    L: Output,
+>(
+    alloc: Global,
     arguments: &[&str],
-    start: S,
+    files: R,
     rows: &mut F,
     port: &mut P,
     input: &mut I,
     output: &mut O,
     errors: &mut E,
     log: &mut L,
-) -> RunEnd<FileFrom<S>>
-    ensures kept { KeepsAfterRuns (image_at S.Start) (texts arguments.entry.now)
+) -> RunEnd<D>
+    ensures kept { KeepsAfterRuns (R.held files) (texts arguments.entry.now)
         (around F.Rows rows.old rows.new P.Ports port.old port.new
         I.Input input.old input.new O.Output output.old output.new E.Output errors.old errors.new) result }
-    ensures first { LeavesFirst (image_at S.Start) (texts arguments.entry.now)
+    ensures first { LeavesFirst (R.held files) (texts arguments.entry.now)
         (around F.Rows rows.old rows.new P.Ports port.old port.new
         I.Input input.old input.new O.Output output.old output.new E.Output errors.old errors.new) result }
-    ensures found { FindsAnswered (image_at S.Start) (texts arguments.entry.now)
+    ensures found { FindsAnswered (R.held files) (texts arguments.entry.now)
         (around F.Rows rows.old rows.new P.Ports port.old port.new
         I.Input input.old input.new O.Output output.old output.new E.Output errors.old errors.new) result }
 {
     // what the clauses of one run make of the files, calls of the laws say
-    runs_in_order::<FileFrom<S>>();
-    first_runs::<FileFrom<S>>();
-    answered_is_found::<FileFrom<S>>();
-    run_arguments(rt, arguments, start, rows, port, input, output, errors, log)
+    runs_in_order::<D>();
+    first_runs::<D>();
+    answered_is_found::<D>();
+    run_arguments(
+        alloc, arguments, files, rows, port, input, output, errors, log,
+    )
 }

@@ -1,6 +1,7 @@
 // The program: it takes its arguments and the streams of its process, and runs on real files.
 #![tactic(auto)]
 
+use adm_files::HostRegisters;
 use adm_host::{FileRows, print_memory_fault};
 use adm_http::Port;
 use adm_program::run_words;
@@ -33,9 +34,9 @@ fn run(rt: &HostRuntime) -> io::Result<u8> {
         arguments.push(argument.as_str())?;
     }
     Ok(run_words(
-        rt,
+        rt.alloc(),
         arguments.as_slice(),
-        Unknown,
+        HostRegisters::new(rt, Unknown),
         &mut FileRows::new(rt),
         &mut Port::new(rt),
         &mut Watched::new(rt.stdin()),

@@ -1,4 +1,5 @@
 // A run with the lines that were given for it, and what it prints.
+use adm_files::HostRegisters;
 use adm_host::FileRows;
 use adm_http::Port;
 use adm_program::run_words;
@@ -84,9 +85,9 @@ impl Runs {
         let mut errors = Watched::new(Vec::new(alloc));
         let mut log = Watched::new(Vec::new(alloc));
         let status = run_words(
-            rt,
+            alloc,
             words.as_slice(),
-            Unknown,
+            HostRegisters::new(rt, Unknown),
             &mut FileRows::new(rt),
             &mut Port::new(rt),
             &mut Watched::new(self.input.as_slice()),

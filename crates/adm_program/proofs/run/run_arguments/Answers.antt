@@ -9,7 +9,7 @@ pub returns-in-Ok-clause-does : goal.returns-in-Ok-clause-does
 returns-in-Ok-clause-does g c =
     let did = c.run_action-ended.ensures in
     let is = c.end.ensures in
-    taken g.S.Start _ c.in-Ok.action _ c.run_action-ended.result c.end.result c.in-Ok.ensures.reads did.ok did.err did.left did.many did.untouched did.taken is.status is.remains is.reported
+    taken (g.R.Registers.held c.args.files) _ c.in-Ok.action _ c.run_action-ended.result c.end.result c.in-Ok.ensures.reads did.ok did.err did.left did.many did.untouched did.taken is.status is.remains is.reported
 
 pub returns-in-Ok-clause-status : goal.returns-in-Ok-clause-status
 returns-in-Ok-clause-status g c =
