@@ -12,10 +12,11 @@ what remains there. What stays is the record, /etc/admissions/NAME/deleted:
 when, by whom, how many files and bytes, and what remains. It has nothing of a
 child.
 
-The command shows what it will delete and asks for the name of the register;
-without a terminal --yes confirms. Nothing can be brought back. One that was
-killed is begun again and goes on. Files that were taken away are not found,
-as an archive or letters; disk blocks are not overwritten.
+The command shows what it will delete, with the names of this machine and of the
+site, and asks for the name of the register; without a terminal --yes confirms.
+Nothing can be brought back. One that was killed is begun again and goes on.
+Files that were taken away are not found, as an archive or letters; disk blocks
+are not overwritten.
 
 example:
   admissions-retire secondary-2025 --second-place
@@ -27,6 +28,7 @@ import argparse
 import os
 import pathlib
 import shutil
+import socket
 import sys
 import tempfile
 
@@ -59,7 +61,7 @@ def main(given: argparse.Namespace) -> int:
             print(in_words(register, record))
             return 0
         see_time(register, record, given.early)
-        confirm(register, given.yes)
+        confirm(register, given)
         record = retired(register, given)
     print(in_words(register, record))
     return 1 if given.second_place and record["remains"] else 0
@@ -109,16 +111,21 @@ def see_time(register: Register, record: dict[str, str], reason: str | None) -> 
                       " deleted. To delete it before that, give a reason with --early")
 
 
-def confirm(register: Register, is_yes: bool) -> None:
-    """Shows what will be deleted, and asks for the name."""
+def confirm(register: Register, given: argparse.Namespace) -> None:
+    """Shows what will be deleted, and asks for the name. A machine that has taken a register over
+    has one of the same name as the first: what differs is the machine, and mostly the site."""
     places = (register.folder, register.copies, *folders_of(register), register.settings)
     for it in places:
         count, size = office_delete.counted([it])
         print(f"{it}: {count} files, {size:,} bytes")
-    if is_yes:
+    if given.second_place and (there := office_delete.second_place(register)):
+        print(f"{there}: all of it, at the second place")
+    if given.yes:
         return
     if not sys.stdin.isatty():
         raise Refused("nothing was deleted: without a terminal --yes confirms", 2)
+    print(f"This is the machine {socket.gethostname()}, where {register.name} has"
+          f" {f'the site {register.host}' if register.host else 'no site'}.")
     print("Type the name of the register to delete all of it: ", end="", flush=True)
     if sys.stdin.readline().strip() != register.name:
         raise Refused("nothing was deleted: another name was typed")

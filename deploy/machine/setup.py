@@ -63,7 +63,7 @@ from . import answers, certificates, files, holidays, people, settings_copy, sit
 from .answers import ask, confirm
 from .desk import status_of
 from .programs import OFFICE, USER, call, is_booted, program, tool
-from .registers import PHASES, SETTINGS, Register, known, named, stored
+from .registers import PHASES, SETTINGS, Register, all_registers, known, named, stored
 
 NEEDED = {
     "nginx": "nginx",
@@ -265,6 +265,10 @@ def completed(given: argparse.Namespace) -> Register:
     if given.copy:
         given.name = given.name or name_of(stored(pathlib.Path(given.copy)))
     elif given.name is None or not named(given.name).is_made:
+        if given.name and not (given.phase and given.year):
+            # (it may be a name that was mistyped)
+            there = ", ".join(it.name for it in all_registers()) or "none"
+            print(f"there is no register {given.name} yet; registers of this machine: {there}")
         given.phase = given.phase or ask("--phase (primary or secondary)", answers.phase)
         given.year = given.year or ask("--year of entry", answers.year)
         given.name = given.name or name_of(given)

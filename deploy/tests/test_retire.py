@@ -376,6 +376,38 @@ def test_without_a_terminal_it_must_be_confirmed(
         assert register.file.exists() is not is_done
 
 
+@pytest.mark.parametrize("at_second_place", [False, True])
+def test_the_question_names_the_machine_and_the_site(
+    at_second_place: bool, register: registers.Register, machine: pathlib.Path,
+    monkeypatch: pytest.MonkeyPatch, capsys: pytest.CaptureFixture[str],
+) -> None:
+    """A machine that took a register over, as for a rehearsal, has one of the same name as the
+    first. The second place is named only where it is deleted too."""
+    monkeypatch.setattr("socket.gethostname", lambda: "office-2")
+    reader = argparse.ArgumentParser()
+    retire.arguments(reader)
+    given = reader.parse_args([register.name, *["--second-place"] * at_second_place])
+
+    def asked() -> list[str]:
+        terminal = io.StringIO("no\n")
+        monkeypatch.setattr(terminal, "isatty", lambda: True, raising=False)
+        monkeypatch.setattr("sys.stdin", terminal)
+        with pytest.raises(Refused, match="another name was typed"):
+            retire.main(given)
+        return capsys.readouterr().out.splitlines()
+
+    found = asked()
+    there = f"{machine / 'mnt' / register.name}: all of it, at the second place"
+    assert (there in found) is at_second_place
+    question = "Type the name of the register to delete all of it: "
+    assert found[-2:] == [
+        f"This is the machine office-2, where {register.name} has the site admissions.example.",
+        question]
+    (register.settings / "site-name").unlink()
+    assert asked()[-2:] == [
+        f"This is the machine office-2, where {register.name} has no site.", question]
+
+
 def test_no_link_is_followed(register: registers.Register, machine: pathlib.Path) -> None:
     outside = machine / "outside"
     outside.mkdir()

@@ -174,6 +174,21 @@ def test_a_plain_setup_asks_for_holidays_and_a_role(
     assert (named.holiday, named.authority) == ([], None)
 
 
+def test_a_name_that_no_register_has_is_named_before_anything_is_asked(
+    register: registers.Register, monkeypatch: pytest.MonkeyPatch,
+    capsys: pytest.CaptureFixture[str],
+) -> None:
+    """It may be mistyped. Where phase and year are given, a new register is meant."""
+    said = (f"there is no register secondary-2052 yet; registers of this machine: {register.name}\n"
+            "--phase (primary or secondary): ")
+    with pytest.raises(Refused, match="the input ended"):
+        completed(monkeypatch, "", "secondary-2052", "--user", "jane", "--new-password")
+    assert capsys.readouterr().out == said
+    with pytest.raises(Refused, match="the input ended"):
+        completed(monkeypatch, "", "secondary-2052", "--phase", "secondary", "--year", "2052")
+    assert "there is no register" not in capsys.readouterr().out
+
+
 def test_a_copy_names_its_register_and_nothing_is_asked_that_it_has(
     register: registers.Register, machine: pathlib.Path, monkeypatch: pytest.MonkeyPatch
 ) -> None:
