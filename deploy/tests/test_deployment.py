@@ -28,6 +28,8 @@ STANDS_IN = {
     "journalctl": 'echo "journal: $*"',
     "apt": 'echo "apt $*" >> "$CALLS"',
     "admissions-status": "true",
+    "admissions-retire": 'echo "admissions-retire $*" >> "$CALLS"',
+    "uname": "echo spare",
     "mountpoint": 'test -d "$1"',
     "getent": "true",
     "userdel": 'echo "userdel $*" >> "$CALLS"',
@@ -242,14 +244,26 @@ def test_a_copy_is_kept_under_a_name_that_is_free(at: Machine) -> None:
     at.write(f"{BACKUPS}/{COPY}", "the register")
     at.write(f"{BACKUPS}/{COPY.replace('.db', '.tar')}", "people")
     [lines] = blocks_of("Keep a copy")
-    assert at.run(lines) == (0, "")
-    kept = [at.room / BACKUPS / f"before-round-1.{it}" for it in ("db", "tar")]
+    folder = at.room / BACKUPS
+    assert at.run(lines) == (
+        0, f"kept: {folder}/before-round-1.db, with its people in before-round-1.tar\n")
+    kept = [folder / f"before-round-1.{it}" for it in ("db", "tar")]
     assert [it.read_text(encoding="utf-8") for it in kept] == ["the register", "people"]
     assert at.called() == [
         f"start admissions-backup@{NAME}", f"start admissions-second-copy@{NAME}"]
+    # (a name that is taken is named before a backup removes the oldest night)
     at.write(f"{BACKUPS}/{COPY}", "later")
-    assert at.run(lines)[0] == 1
-    assert kept[0].read_text(encoding="utf-8") == "the register"
+    for name in ("before-round-1.db", "before-round-1.tar"):
+        assert at.run(lines) == (
+            1, f"NOT KEPT: {folder}/{name} is there already: choose another name\n")
+        assert at.called() == []
+        assert kept[1].read_text(encoding="utf-8") == "people"
+        kept[0].unlink(missing_ok=True)
+    # (people that were not copied)
+    kept[1].unlink()
+    (folder / COPY.replace(".db", ".tar")).unlink()
+    status, text = at.run(lines)
+    assert (status, "kept:" in text, kept[0].exists()) == (1, False, False)
 
 
 def test_a_disk_is_the_second_place(at: Machine) -> None:
@@ -271,6 +285,7 @@ CLOSES = [f"stop admissions-backup@{NAME}.timer admissions-backup@{NAME}.service
 OPENS = (f"start admissions@{NAME} {OFFICE_ENDS.removeprefix('stop ')}"
          f" admissions-backup@{NAME}.timer")
 NOT_ALL = "not all is sent, and the office is closed\n"
+AGAIN = f"run/again/{NAME}"
 
 
 def test_a_register_is_restored_and_what_it_lacks_sent_again(at: Machine) -> None:
@@ -288,9 +303,11 @@ def test_a_register_is_restored_and_what_it_lacks_sent_again(at: Machine) -> Non
     assert register.read_text(encoding="utf-8") == '{"child":0}\n' + "".join(
         f'{{"child":{it},"cmd":"accept"}}\n' for it in (1, 2))
     assert at.called()[1:] == [*CLOSES, OPENS]
-    assert at.run(f"NAME={NAME}\n{copied}") == (0, "")
+    # (pasted again it would undo that)
+    assert at.run(restore)[0] == 1 and at.called() == []
+    assert at.run(copied) == (0, "")
     assert at.called() == [f"start admissions-{it}@{NAME}" for it in ("backup", "second-copy")]
-    assert not (at.room / "run/again").exists()
+    assert not (at.room / AGAIN).exists()
     office = f"var/lib/admissions-office/{NAME}"
     at.write(f"{office}/office.db", "people of now")
     at.write(f"{office}/office.db-wal", "log of now")
@@ -324,10 +341,10 @@ def test_an_import_is_sent_again_between_the_commands(at: Machine) -> None:
     assert count == 1
     # (the command before the import fails, and nothing behind it is sent)
     at.write("fails", '"child":1')
-    assert at.run(f"NAME={NAME}\n{lines}") == (1, NOT_ALL)
+    assert at.run(lines) == (1, NOT_ALL)
     assert register.read_text(encoding="utf-8") == ""
     (at.room / "fails").unlink()
-    status, text = at.run(f"NAME={NAME}\n{lines}")
+    status, text = at.run(lines)
     assert (status, text) == (0, "all are done\n")
     assert register.read_text(encoding="utf-8").splitlines() == [
         '{"child":1,"cmd":"accept"}', "rows", '{"child":2,"cmd":"accept"}',
@@ -339,9 +356,11 @@ def test_sending_that_fails_keeps_the_office_closed_and_goes_on(at: Machine) -> 
     was emptied changes no number."""
     register = at.write(f"var/lib/admissions/{NAME}/reg.db", "")
     at.history(f"var/lib/admissions-office/{NAME}/history.jsonl", 1, 2, 3, 4)
-    printed, send, _, _ = blocks_of("Send again what a copy lacks")
-    send = f"NAME={NAME}\n{send}"
+    printed, send, _, copied = blocks_of("Send again what a copy lacks")
     assert at.run(send)[0] == 1 and at.called() == []
+    # (nor of a register that this machine does not have)
+    at.write("run/again/primary-2026/commands", "")
+    assert at.run(send, NAME="primary-2026")[0] == 1 and at.called() == []
     assert at.run(printed)[0] == 0
     page = " ".join(PAGE.split())
     [empty] = re.findall(r"`(sed -i '12[^`]*)`", page)
@@ -350,6 +369,9 @@ def test_sending_that_fails_keeps_the_office_closed_and_goes_on(at: Machine) -> 
     at.called()
     assert at.run(send) == (1, NOT_ALL)
     assert at.called() == CLOSES
+    assert at.run(copied) == (
+        1, f"not all of {at.room}/{AGAIN}/commands is sent: nothing was copied\n")
+    assert at.called() == [] and (at.room / AGAIN).exists()
     program = at.room / "bin/admissions"
     whole = program.read_text(encoding="utf-8")
     at.write("bin/admissions", "#!/bin/bash\necho 'fault: Disk' >&2; exit 1\n")
@@ -363,6 +385,45 @@ def test_sending_that_fails_keeps_the_office_closed_and_goes_on(at: Machine) -> 
     assert register.read_text(encoding="utf-8").splitlines() == done
     assert at.run(send)[0] == 0
     assert register.read_text(encoding="utf-8").splitlines() == done
+
+
+def test_what_is_to_be_sent_is_printed_once_and_for_each_register_apart(at: Machine) -> None:
+    """Pasted again the lines that were emptied would be filled again, and what was sent would be
+    forgotten."""
+    office = at.room / "var/lib/admissions-office"
+    at.history(f"var/lib/admissions-office/{NAME}/history.jsonl", 1, 2)
+    printed = blocks_of("Send again what a copy lacks")[0]
+    # (a history that cannot be read leaves nothing, and the block can be pasted again)
+    (office / NAME / "history.jsonl").rename(office / "away")
+    assert at.run(printed)[0] == 1 and not (at.room / AGAIN).exists()
+    (office / "away").rename(office / NAME / "history.jsonl")
+    assert at.run(printed) == (0, f"2 {at.room}/{AGAIN}/commands\n")
+    path = at.write(f"{AGAIN}/commands", '\n{"child":2,"cmd":"accept"}\n')
+    before = at.content("run/again")
+    said = (1, f"{at.room}/{AGAIN} is there already, and stays as it is\n")
+    assert at.run(printed) == said and at.content("run/again") == before
+    # (as after a break-in, where the commands are brought from elsewhere)
+    bring = blocks_of("Somebody has broken in")[11]
+    at.write(f"root/check/{NAME}/commands", "of the intruder\n")
+    (at.room / f"root/check/{NAME}/rows").mkdir()
+    assert at.run(bring) == said and at.content("run/again") == before
+    shutil.rmtree(path.parent)
+    assert at.run(bring) == (0, "")
+    assert path.read_text(encoding="utf-8") == "of the intruder\n"
+    # (the one of another register is another folder)
+    at.write("root/check/primary-2026/commands", "")
+    (at.room / "root/check/primary-2026/rows").mkdir()
+    assert at.run(bring, NAME="primary-2026") == (0, "")
+    assert sorted(at.content("run/again")) == ["primary-2026/commands", f"{NAME}/commands"]
+
+
+def test_a_machine_that_is_opened_by_nothing_says_that_all_is_sent(at: Machine) -> None:
+    at.write(f"var/lib/admissions/{NAME}/reg.db", "")
+    at.history(f"var/lib/admissions-office/{NAME}/history.jsonl", 1)
+    printed, send, _, _ = blocks_of("Send again what a copy lacks")
+    assert at.run(printed)[0] == 0
+    at.write("bin/systemctl", "#!/bin/bash\n[ $1 != start ]\n")
+    assert at.run(send) == (1, "all is sent, and the office is closed\n")
 
 
 def test_an_earlier_release_opens_its_office_after_all_is_sent(at: Machine) -> None:
@@ -380,7 +441,7 @@ def test_an_earlier_release_opens_its_office_after_all_is_sent(at: Machine) -> N
 
 
 def test_a_move_makes_its_last_copy_once_the_office_is_closed(at: Machine) -> None:
-    [lines] = blocks_of("Move to a new machine")
+    lines = blocks_of("Move to a new machine")[0]
     assert at.run(lines)[0] == 0
     timers = " ".join(f"admissions-{it}@{NAME}.timer" for it in ("backup", "drill", "second-copy"))
     assert at.called() == [
@@ -389,11 +450,161 @@ def test_a_move_makes_its_last_copy_once_the_office_is_closed(at: Machine) -> No
         f"disable --now admissions@{NAME}"]
 
 
+def test_a_move_takes_along_what_is_not_at_the_second_place(at: Machine) -> None:
+    """And nothing that is; what the new machine has already stays as it is."""
+    office = f"var/lib/admissions-office/{NAME}"
+    beside = {f"{BACKUPS}/before-round-1.db", f"{BACKUPS}/before-round-1.tar",
+              f"{BACKUPS}/office/office-000001-2025-03-03T120000.db",
+              f"{office}/archive/season.zip", f"{office}/gazetteer/places.db"}
+    there = {f"{BACKUPS}/{COPY}", f"{BACKUPS}/history/history-000001-0123456789abcdef.gz",
+             f"{BACKUPS}/drill.report", f"{BACKUPS}/second-copy.sent", f"{office}/office.db"}
+    pair = (f"etc/admissions/{NAME}/site.{it}" for it in ("crt", "key"))
+    for it in (*beside, *there, *pair):
+        at.write(it, it)
+    _, pack, unpack = blocks_of("Move to a new machine")
+    assert at.run(pack)[0] == 1 and at.run(unpack)[0] != 0 and at.called() == []
+    (at.room / "mnt/kept").mkdir()
+    assert at.run(pack) == (0, "")
+    assert sorted(it.name for it in (at.room / "mnt/kept").iterdir()) == [
+        f"{NAME}.{it}" for it in ("crt", "key", "tar")]
+    assert {it.stat().st_mode & 0o077 for it in (at.room / "mnt/kept").iterdir()} == {0}
+    status, text = at.run(pack)
+    assert (status, "is there already" in text) == (1, True)
+    for it in ("var/backups", "var/lib/admissions-office"):
+        shutil.rmtree(at.room / it / NAME, ignore_errors=True)
+        shutil.rmtree(at.room / it)
+    at.write(f"{office}/gazetteer/places.db", "read in since")
+    assert at.run(unpack)[0] == 0
+    assert at.called() == [
+        OFFICE_ENDS, f"start admissions-backup@{NAME}", f"start admissions-second-copy@{NAME}",
+        OFFICE_ENDS.replace("stop", "start")]
+    found = {f"{it}/{name}": data.decode() for it in (BACKUPS, office)
+             for name, data in at.content(it).items()}
+    assert found == {it: it for it in beside} | {f"{office}/gazetteer/places.db": "read in since"}
+
+
+GUARDED = [("Rehearse a takeover", 0), ("Somebody has broken in", 10)]
+
+
+@pytest.mark.parametrize("heading, number", GUARDED)
+@pytest.mark.parametrize("place, register, is_done", [
+    # (a machine for trials, and pasted again; one in use, with a place, none or neither; one that
+    # is prepared to take a register over)
+    ("# a comment\n", "", True), ("none\n", "primary-2026", True),
+    ("/mnt/copies\n", NAME, False), ("# a comment\n", NAME, False), ("/mnt/copies\n", "", False),
+])
+def test_the_second_place_of_a_machine_in_use_is_not_switched_off(
+    place: str, register: str, is_done: bool, heading: str, number: int, at: Machine
+) -> None:
+    (at.room / f"var/lib/admissions/{NAME}").rmdir()
+    path = at.write("etc/admissions/second-copy", place)
+    at.write(f"mnt/copies/{NAME}/{COPY}", "a copy")
+    if register:
+        at.write(f"var/lib/admissions/{register}/reg.db", "a register")
+    status, text = at.run(blocks_of(heading)[number])
+    assert (status, "nothing was changed" in text) == (int(not is_done), not is_done)
+    assert path.read_text(encoding="utf-8") == ("none\n" if is_done else place)
+    assert is_done or at.called() == []
+
+
+def test_a_rehearsal_is_cleared_where_it_was_and_nowhere_else(at: Machine) -> None:
+    _, clear = blocks_of("Rehearse a takeover")
+    path = at.write("etc/admissions/second-copy", "/mnt/copies\n")
+    assert at.run(clear)[0] == 1 and at.called() == []
+    path.write_text("none\n", encoding="utf-8")
+    # (a question that was not answered, and another register that was rehearsed too)
+    at.write("bin/admissions-retire", "#!/bin/bash\nexit 1\n")
+    assert at.run(clear)[0] == 1 and path.read_text(encoding="utf-8") == "none\n"
+    at.write("bin/admissions-retire", f"#!/bin/bash\n{STANDS_IN['admissions-retire']}\n")
+    other = at.write("var/lib/admissions/primary-2026/reg.db", "a register")
+    assert at.run(clear)[0] == 0 and path.read_text(encoding="utf-8") == "none\n"
+    other.unlink()
+    assert at.run(clear)[0] == 0 and path.read_text(encoding="utf-8") == ""
+    assert at.called() == 2 * [f"admissions-retire {NAME} --early rehearsal of a takeover"]
+
+
+def test_a_wrong_takeover_is_deleted_on_the_machine_that_is_named(at: Machine) -> None:
+    lines = blocks_of("Restore on another machine")[-1]
+    status, text = at.run(lines)
+    assert (status, "nothing was deleted" in text, at.called()) == (1, True, [])
+    assert at.run(lines, MACHINE="spare") == (0, "")
+    assert at.called() == [f"admissions-retire {NAME} --early taken over from a wrong copy"]
+
+
+def test_a_site_gets_another_name_and_keeps_its_key(at: Machine) -> None:
+    """Also where it was begun and interrupted, and pasted again."""
+    settings = f"etc/admissions/{NAME}"
+    [lines] = blocks_of("Another name of the site")
+    for it in ("key", "crt", "csr"):
+        at.write(f"{settings}/site.{it}", it)
+    at.write(f"{settings}/site-name", "old.example\n")
+    (at.room / settings / "site.crt").rename(at.room / settings / "old.example.crt")
+    assert at.run(lines) == (0, "")
+    wanted = {"site.key": b"key", "old.example.crt": b"crt", "old.example.csr": b"csr",
+              "site-name": b"admissions.authority.example\n"}
+    assert at.content(settings) == wanted
+    assert at.called() == [f"admissions-setup {NAME}"]
+    at.write(f"{settings}/site.crt", "of a CA")
+    assert at.run(lines) == (0, "")
+    assert at.content(settings) == wanted | {"site.crt": b"of a CA"}
+
+
+# in place of the one that takes a certificate: it keeps what was there, and removes the request of
+# the earlier key; and makes a request that is missing
+TAKES = f"""#!/bin/bash
+set -e
+echo "admissions-setup $*" >> "$CALLS"
+cd_to=$ROOM/etc/admissions/{NAME}
+if [ "$2" = --certificate ]; then
+    for it in crt key; do cp "$cd_to/site.$it" "$cd_to/site.$it.before"; done
+    cp "$3" "$cd_to/site.crt"; cp "$5" "$cd_to/site.key"; rm "$cd_to/site.csr"
+else
+    echo made > "$cd_to/site.csr"
+fi
+"""
+
+
+def test_a_key_of_the_site_that_others_have_is_replaced(at: Machine) -> None:
+    """The request is of the site's name, and the old key is nowhere afterwards."""
+    settings, room = f"etc/admissions/{NAME}", f"root/site-{NAME}"
+    for it in ("key", "crt", "csr"):
+        at.write(f"{settings}/site.{it}", "old")
+    at.write(f"{settings}/site-name", "admissions.example\n")
+    make, use = blocks_of("Others have the site's key")
+    status, text = at.run(make)
+    assert (status, text.count("BEGIN CERTIFICATE REQUEST")) == (0, 1)
+    assert {(at.room / room / f"new.{it}").stat().st_mode & 0o077 for it in ("key", "csr")} == {0}
+    key = (at.room / room / "new.key").read_bytes()
+    done = subprocess.run(
+        ["openssl", "req", "-in", at.room / room / "new.csr", "-noout", "-verify", "-text"],
+        capture_output=True, text=True, check=True)
+    assert "DNS:admissions.example" in done.stdout and "P-256" in done.stdout
+    # (the one that was sent to the CA stays)
+    assert at.run(make)[0] == 1 and (at.room / room / "new.key").read_bytes() == key
+    at.write("bin/admissions-setup", TAKES)
+    assert at.run(use)[0] != 0 and (at.room / room / "new.key").exists()
+    for it in ("key", "crt", "csr"):
+        at.write(f"{settings}/site.{it}", "old")
+    at.write(f"{room}/new.crt", "of the CA")
+    at.called()
+    assert at.run(use)[0] == 0
+    assert at.called() == [f"admissions-setup {NAME} --certificate new.crt --key new.key",
+                           f"admissions-setup {NAME}"]
+    assert at.content(settings) == {
+        "site.key": key, "site.crt": b"of the CA", "site.csr": b"made\n",
+        "site-name": b"admissions.example\n"}
+    assert not (at.room / room).exists()
+
+
 @pytest.mark.parametrize("name", [
     f"var/lib/admissions/{NAME}/reg.db.before-restore-1", f"{BACKUPS}/{COPY}",
     f"etc/admissions/{NAME}/site.key", "etc/admissions/second-copy-identity"])
 def test_all_is_removed_but_not_what_cannot_be_made_again(name: str, at: Machine) -> None:
     [lines] = [it for it in blocks_of("Later releases, and removal") if "userdel" in it]
+    keys = at.write("home/admissions/.ssh/authorized_keys", "of another machine")
+    status, text = at.run(lines)
+    assert (status, "takes the copies of another" in text, at.called()) == (1, True, [])
+    shutil.rmtree(keys.parents[1])
     record = at.write(f"etc/admissions/{NAME}/deleted", "the record")
     apt = at.write("etc/apt/sources.list.d/admissions.list", "deb")
     path = at.write(name, "what is left")
@@ -481,7 +692,9 @@ def test_a_history_that_was_changed_is_replaced_by_a_whole_copy(at: Machine) -> 
     found = [it.rpartition("/")[2] for it in at.run(look)[1].splitlines()]
     assert found[:2] == names and "the history was changed there" in found[2]
     at.called()
-    assert at.run(put, COPY=names[0]) == (0, "")
+    # (a name that is mistyped changes nothing, and the right one goes on)
+    assert at.run(put, COPY="history-1.gz")[0] != 0 and at.called() == []
+    assert at.run(put, COPY=names[0]) == (0, f"{at.room}/{BACKUPS}/history/{names[0]}\n")
     assert at.called() == [OFFICE_ENDS, OFFICE_ENDS.replace("stop", "start")]
     assert path.read_bytes() == whole and path.stat().st_mode & 0o777 == 0o600
     kept = path.parent / "changed/history.jsonl"
