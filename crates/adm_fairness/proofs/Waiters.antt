@@ -106,7 +106,8 @@ standing_is_listed_law s school child standing well there is =
     let row = waiter_there s well school.code child waiting in
     let mine : Standing = record { entry = entry_of school (waiting_at s school.code) row.0; many = length (waiting_at s school.code) } in
     let same : mine ≡ standing = same_Some mine standing (sym (standing_is s school.code school child row.0 there row.3 waiting) ∙ is) in
-    subst (λ (x : Standing). Contains (list_of s school) x.entry × (x.many ≡ length (list_of s school))) same (entry_listed s school row.0 row.1, sym (list_length s school))
+    subst (λ (x : Standing). (x.entry.child ≡ child) × Contains (list_of s school) x.entry × (x.many ≡ length (list_of s school))) same
+    (row.2, entry_listed s school row.0 row.1, sym (list_length s school))
 
 -- ---- the children alone
 

@@ -129,9 +129,10 @@ FillTakesTheFirst =
     → WellFormed old → Accepts old (Fill draw code day numbers) new
     → (child : ℕ) × IsOfferedFirst old new code day child
 
--- The position that is printed of a child is that of the school's waiting list, and so is the number of those who wait.
+-- The position that is printed of a child is that of its own entry on the school's waiting list, and the number beside it is that of
+-- those who wait.
 abbrev pub StandingIsListed : Type 0
 StandingIsListed =
     (s : State) (school : School) (child : ℕ) (standing : Standing)
     → WellFormed s → get s.schools school.code ≡ Some school → standing_of s child school.code ≡ Some standing
-    → Contains (list_of s school) standing.entry × (standing.many ≡ length (list_of s school))
+    → (standing.entry.child ≡ child) × Contains (list_of s school) standing.entry × (standing.many ≡ length (list_of s school))

@@ -44,7 +44,7 @@ pub fn fill_takes_the_first()
     ensures { FillTakesTheFirst }
 {}
 
-/// The position that is printed of a child is an entry of the waiting list of the school.
+/// The position that is printed of a child is that of its own entry on the waiting list of the school.
 pub fn standing_is_listed()
     ensures { StandingIsListed }
 {}
