@@ -13,7 +13,7 @@ use Rattle.adm_types.specs.declared.rows.PlaceState.TheVariants.{Offered}
 use Rattle.adm_types.specs.declared.commands.Command.TheVariants.{Fill}
 use Rattle.adm_types.specs.declared.commands.Refusal.TheVariants as refusal
 use Rattle.adm_match.specs.Market.{Code}
-use Rattle.adm_waiting.specs.Waiting.{entry_of}
+use Rattle.adm_waiting.specs.Waiting.{entry_of, first_by_lot}
 use Rattle.adm_register.specs.State.{State}
 use Rattle.adm_register.specs.Change.{after}
 use Rattle.adm_register.specs.Waits.{is_waiting, waiting_at}
@@ -50,6 +50,7 @@ pub record IsFill (old new : State) (draw : ℕ) (code : Code) (day : ℕ) (numb
   pub school : School
   pub there : get old.schools code ≡ Some school
   pub child : ℕ
+  pub chosen : first_by_lot school (waiting_at old code) numbers ≡ Some child
   pub first : IsFirst school (waiting_at old code) child
   pub now : new ≡ after old (fill.change_of old draw code day numbers child)
 
@@ -65,6 +66,7 @@ is_fill old new draw code day numbers accepts =
       school = result.0;
       there = result.1;
       child = result.2;
+      chosen = result.3;
       first = first_is result.0 (waiting_at old code) numbers result.2 (lots_counted old draw code day numbers (no_row _ accepts.1.0)) result.3;
       now = effect.2 ∙ ap (after old) result.4;
     }

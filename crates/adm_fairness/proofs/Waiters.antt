@@ -109,6 +109,27 @@ standing_is_listed_law s school child standing well there is =
     subst (λ (x : Standing). (x.entry.child ≡ child) × Contains (list_of s school) x.entry × (x.many ≡ length (list_of s school))) same
     (row.2, entry_listed s school row.0 row.1, sym (list_length s school))
 
+-- ---- whether a child waits, by its row
+
+waiting_by : (s : State) (child : ℕ) (code : Code) (application : Application) → get s.applications child ≡ Some application → is_waiting s child code ≡ waits s application code
+waiting_by s child code application at = rw at refl
+
+waiting_none : (s : State) (child : ℕ) (code : Code) → get s.applications child ≡ None → is_waiting s child code ≡ false
+waiting_none s child code at = rw at refl
+
+-- of two registers in which a child has no application, or waits by that of the one as by that of the other, it waits in both or in neither
+pub as_waiting : (s t : State) (child : ℕ) (code : Code) → get t.applications child ≡ get s.applications child
+    → ((application : Application) → waits t application code ≡ waits s application code) → is_waiting t child code ≡ is_waiting s child code
+as_waiting s t child code same waits' = by (get s.applications child) refl
+  where
+    by : (o : Option Application) → get s.applications child ≡ o → is_waiting t child code ≡ is_waiting s child code
+    by None at = waiting_none t child code (same ∙ at) ∙ sym (waiting_none s child code at)
+    by (Some application) at = waiting_by t child code application (same ∙ at) ∙ (waits' application ∙ sym (waiting_by s child code application at))
+
+pub as_waiting_by : (s t : State) (child : ℕ) (code : Code) (was now : Application) → get s.applications child ≡ Some was → get t.applications child ≡ Some now
+    → waits t now code ≡ waits s was code → is_waiting t child code ≡ is_waiting s child code
+as_waiting_by s t child code was now at at' same = waiting_by t child code now at' ∙ (same ∙ sym (waiting_by s child code was at))
+
 -- ---- the children alone
 
 same_waiters : (one other : State) (code : Code) → WellFormed one → WellFormed other → other.children ≡ one.children

@@ -74,17 +74,30 @@ ListGivesNoPriority =
 abbrev pub on_day : State → Application → ℕ → State
 on_day s application day = record s { applications = insert s.applications application.child (record application { day = day }) }
 
--- A round does not depend on the days of applications: its problem is the same where one of them has another day, by which its child
--- takes part or not as by its own. (The Code: no priority by the date of application.)
-abbrev pub DayGivesNoPriority : Type 0
-DayGivesNoPriority =
-    (s : State) (application : Application) (day : ℕ) (numbers : List ℕ)
-    → get s.applications application.child ≡ Some application → takes_part s (record application { day = day }) ≡ takes_part s application
-    → round_market (on_day s application day) numbers ≡ round_market s numbers
+-- The days of applications give no priority. (The Code: none by the date of application.) Where one of them has another day, the problem
+-- of a round is the same, if its child takes part by both days or by neither; and by any day the same children wait at each school, its
+-- waiting list is the same, and a fill by the same lots leaves the same places.
+pub record DayGivesNoPriority : Type 0 where
+  pub rounds :
+      (s : State) (application : Application) (day : ℕ) (numbers : List ℕ)
+      → get s.applications application.child ≡ Some application → takes_part s (record application { day = day }) ≡ takes_part s application
+      → round_market (on_day s application day) numbers ≡ round_market s numbers
+  pub waits :
+      (s : State) (application : Application) (day : ℕ) (child : ℕ) (code : Code)
+      → get s.applications application.child ≡ Some application
+      → is_waiting (on_day s application day) child code ≡ is_waiting s child code
+  pub lists :
+      (s : State) (application : Application) (day : ℕ) (school : School)
+      → get s.applications application.child ≡ Some application
+      → list_of (on_day s application day) school ≡ list_of s school
+  pub fills :
+      (s new other : State) (application : Application) (day draw : ℕ) (code : Code) (on : ℕ) (numbers : List ℕ)
+      → get s.applications application.child ≡ Some application
+      → Accepts s (Fill draw code on numbers) new → Accepts (on_day s application day) (Fill draw code on numbers) other
+      → other.places ≡ new.places
 
 -- A waiting list is that of the children who wait: of two registers with the same children, where the same of them wait at a school, the
--- list of the school is the same, and by the same lots a fill takes the same child. Neither the order of preferences nor the day of
--- application or of joining the list occurs in it.
+-- list of the school is the same. Neither the order of preferences nor the day of application or of joining the list occurs in it.
 abbrev pub ListsKnowNoOrder : Type 0
 ListsKnowNoOrder =
     (one other : State) (school : School)

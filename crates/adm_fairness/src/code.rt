@@ -22,7 +22,8 @@ pub fn list_gives_no_priority()
     ensures { ListGivesNoPriority }
 {}
 
-/// The day of an application does not change the problem of a round in which its child takes part.
+/// The day of an application does not change the problem of a round in which its child takes part, nor
+/// who waits where, any waiting list, or what a fill gives.
 pub fn day_gives_no_priority()
     ensures { DayGivesNoPriority }
 {}
