@@ -11,6 +11,7 @@ pub mod Waits
 pub mod EnvyRows
 pub mod EnvyDraws
 pub mod Envy
+pub mod Begun
 pub mod Ends
 pub mod Plans
 pub mod CutoffLemmas

@@ -2,6 +2,7 @@ pub mod Rounds
 pub mod Code
 pub mod Season
 pub mod Cutoffs
+pub mod Begun
 pub mod Explained
 pub mod Improvements
 pub mod Honesty

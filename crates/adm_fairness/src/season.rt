@@ -1,4 +1,5 @@
 // Laws of commands over a season: whom they make envied, and whose place they end.
+ghost use Rattle.adm_fairness.specs.Begun.{EveryEnvyHasCause};
 ghost use Rattle.adm_fairness.specs.Season.{NoNewEnvy, EnvyHasCause, PlaceEndsFairly, PlanIsKept};
 
 use adm_round::allotment_fits;
@@ -15,6 +16,14 @@ pub fn no_new_envy()
 /// of those that may cause it.
 pub fn envy_has_cause()
     ensures { EnvyHasCause }
+{
+    allotment_fits();
+}
+
+/// So each envy since the season began has such a cause: of the commands accepted since then, one began
+/// it and is of those that may cause it.
+pub fn every_envy_has_cause()
+    ensures { EveryEnvyHasCause }
 {
     allotment_fits();
 }
