@@ -1,13 +1,13 @@
 -- The view of a draw explains its round: its cutoffs are those of the problem, and its reasons those of its cutoffs.
 use Rattle.std.proofs.Common.{◌≡◌, ◌∙◌, ap, sym, subst, refl, cond, Bool, true, false, not, ◌&&◌, ◌||◌, ◌==◌, ℕ, ◌<◌, List, [], ◌∷◌, ◌++◌, length, Option, Some, None, map, inl, inr, arith}
-use Rattle.std.specs.Prelude.{◌⊎◌, bytes_eq, IfSome, Any, Contains, nat_lt, filter, fold, option_map, option_and_then, unwrap_or}
-use Rattle.std.specs.List.{list_all, list_any, filter_map, take_while}
+use Rattle.std.specs.Prelude.{◌⊎◌, All, bytes_eq, IfSome, Any, Contains, nat_lt, filter, fold, option_map, option_and_then, unwrap_or}
+use Rattle.std.specs.List.{list_all, list_any, filter_map, cons_option, take_while}
 use Rattle.std.specs.Option.{option_to_list}
 use Rattle.std.specs.Ordering.{nat_cmp, is_lt, ordering_then}
 use Rattle.std.specs.Cmp.{nat_cmp_total, unsigned_Decides}
 use Rattle.std.specs.Cmp.Lexicographic.{nat_list_cmp_total, slice_cmp}
 use Rattle.std.specs.FinMap.{get, values, get-insert}
-use Rattle.std.proofs.lemmas.Bool.{cases_Bool, false≢true, and_parts, ltb-true, ltb-false}
+use Rattle.std.proofs.lemmas.Bool.{cases_Bool, false≢true, and_parts, lt-ltb, ltb-true, ltb-false}
 use Rattle.std.proofs.lemmas.Bool.Decides.{nat_tests}
 use Rattle.std.proofs.lemmas.Cmp.{tied_itself}
 use Rattle.std.proofs.lemmas.Option.{same_Some, none-some, slice_get_within, get_or_from_slice_get}
@@ -29,7 +29,7 @@ use Rattle.adm_types.specs.declared.draws.Outcome.{Outcome}
 use Rattle.adm_draws.specs.Draws.{rises, lot_cmp, outcome_cmp, are_ordered, fresh_has_school, is_round_or_fill}
 use Rattle.adm_rank.specs.declared.keys.RankKey.{RankKey}
 use Rattle.adm_rank.specs.Ranking.{key_of, precedes}
-use Rattle.adm_match.specs.Market.{Code, Candidate, Market, preference_rank, assigned_rank, is_tenant, key_at, quota_of}
+use Rattle.adm_match.specs.Market.{Code, Candidate, Market, preference_rank, assigned_rank, is_tenant, key_at, quota_of, some_pair}
 use Rattle.adm_match.specs.Stability.{Allocation, count_at, is_guest, prefers, ranks_after, IsContent}
 use Rattle.adm_match.specs.Distinct.{Distinct}
 use Rattle.adm_match.proofs.Posed as problem
@@ -42,13 +42,13 @@ use Rattle.adm_round.specs.Round.{code_of_site, number_of, listed, wants, pair_a
 use Rattle.adm_round.specs.Ranks.{candidate_of, site_of, lot_at}
 use Rattle.adm_round.specs.Outcomes.{is_fresh, HasListedSchool, AllotmentFits}
 use Rattle.adm_round.proofs.Faultless.{its_schools, faultless}
-use Rattle.adm_round.proofs.ListedSchools.{code_self, code_swap, site_known, school_of_wish, on_list}
+use Rattle.adm_round.proofs.ListedSchools.{code_self, code_swap, site_known, school_of_wish, on_list, none_any}
 use Rattle.adm_register.specs.State.{State, is_plan}
 use Rattle.adm_register.specs.Change.{after}
 use Rattle.adm_register.specs.Wanted.{has_left, own_school}
 use Rattle.adm_register.specs.Wanted as register
 use Rattle.adm_register.proofs.Maps.{code_cmp-IsAntisymmetric}
-use Rattle.adm_register.proofs.RoundLemmas.{listed_in}
+use Rattle.adm_register.proofs.RoundLemmas.{listed_in, in_listed}
 use Rattle.adm_register.proofs.WaitLemmas.{wanted_parts}
 use Rattle.adm_cutoffs.specs.Reasons.{reason_beside}
 use Rattle.adm_cutoffs.specs.Cutoffs.{outcome_for, is_new_place, is_taken_in, key_by_lot, key_taken_in, later, last_of, last_key, cutoff_at, cutoffs_of, above, is_above, wants_more, refusal_by_lot, refusals_of}
@@ -60,11 +60,11 @@ use Rattle.adm_commands.specs.Commands.Round.{round_applicants, round_lots, roun
 use Rattle.adm_commands.proofs.RoundOffers.{IsRound, outcome, is_given, lists_given, its_outcome}
 use Rattle.adm_commands.proofs.RoundDraw.{round_draw, draw_fits}
 use Rattle.adm_fairness.specs.Cutoffs.{Cutoff, Open, Last, Closed, IsCutoff, IsLastKey, reason_by, refusal_at}
-use Rattle.adm_fairness.specs.Explained.{AreCutoffs, AreRefusals, IsExplained, RoundIsExplained}
-use Rattle.adm_fairness.proofs.Codes.{not_blocked, rank_in, rank_here, rank_later, rank_wishes, until, until_front, at_index}
+use Rattle.adm_fairness.specs.Explained.{AreCutoffs, IsRefusalOf, same_refused, AreRefusals, IsExplained, RoundIsExplained}
+use Rattle.adm_fairness.proofs.Codes.{not_blocked, rank_in, rank_here, rank_later, rank_wishes, length_wishes, listed_within, before_own, before_fresh, until, until_front, at_index}
 use Rattle.adm_fairness.proofs.Taking.{IsTaking, taking_of, wish_there}
-use Rattle.adm_fairness.proofs.FairRound.{RoundFacts, round_facts}
-use Rattle.adm_fairness.proofs.RoundPlaces.{wanted_here}
+use Rattle.adm_fairness.proofs.FairRound.{RoundFacts, round_facts, given_listed, until_wanted}
+use Rattle.adm_fairness.proofs.RoundPlaces.{wanted_here, rank_given}
 
 -- ---- the last of some keys
 
@@ -243,6 +243,39 @@ one_lot (z ∷ zs) up x y first second school child =
         | inr later_on ↦ one_lot zs parts.1 x y more later_on school child
       ]
     ]
+
+-- a lot of the same pair is not before another
+not_before : (x y : Lot) → x.school ≡ y.school → x.child ≡ y.child → is_lt (lot_cmp x y) ≡ true → ⊥
+not_before x y school child less =
+    false≢true (sym (not_before_itself y) ∙ ((λ i. is_lt (ordering_then (slice_cmp nat_cmp (sym school i) y.school) (nat_cmp (sym child i) y.child))) ∙ less))
+
+-- of what lots that rise give, each for its own pair, nothing is twice
+once_each : (f : Lot → Option Refusal) → ((lot : Lot) (row : Refusal) → f lot ≡ Some row → (row.child ≡ lot.child) × (row.school ≡ lot.school))
+    → (lots : List Lot) → rises lot_cmp lots ≡ true → some_pair same_refused (filter_map f lots) ≡ false
+once_each f of [] up = refl
+once_each f of (x ∷ xs) up = by (f x) refl (once_each f of xs rise.1)
+  where
+    rise : (list_all (λ w. is_lt (lot_cmp x w)) xs ≡ true) × (rises lot_cmp xs ≡ true)
+    rise = and_parts _ (rises lot_cmp xs) up
+
+    none : (row : Refusal) → f x ≡ Some row → list_any (same_refused row) (filter_map f xs) ≡ false
+    none row is = none_any (same_refused row) (filter_map f xs) (λ other at.
+        let from = from_filter_map f xs other at in
+        let first = of x row is in
+        let second = of from.0 other from.2 in
+        let less : is_lt (lot_cmp x from.0) ≡ true = passes_in (λ w. is_lt (lot_cmp x w)) xs from.0 rise.0 from.1 in
+        elim (cases_Bool (same_refused row other)) [
+          | inr apart ↦ apart
+          | inl same ↦
+              let both = and_parts (bytes_eq row.school other.school) (row.child == other.child) same in
+              let school : x.school ≡ from.0.school = sym first.1 ∙ ((bytes_eq-Decides row.school other.school).0 both.0 ∙ second.1) in
+              let child : x.child ≡ from.0.child = sym first.0 ∙ ((unsigned_Decides row.child other.child).0 both.1 ∙ second.0) in
+              absurd (not_before x from.0 school child less)
+        ])
+
+    by : (o : Option Refusal) → f x ≡ o → some_pair same_refused (filter_map f xs) ≡ false → some_pair same_refused (cons_option o (filter_map f xs)) ≡ false
+    by None is rest = rest
+    by (Some row) is rest = λ i. none row is i || rest i
 
 -- ---- a round
 
@@ -541,9 +574,6 @@ module _ {old : State} {numbers : List ℕ} {outcomes : List Outcome} (facts : I
     less : preference_rank (entrant c).list code < assigned_rank (entrant c).list (a (number_of c))
     less = ltb-true _ _ wished
 
-    given_listed : (school : Code) → a (number_of c) ≡ Some school → is_listed (listed c) school ≡ true
-    given_listed school given = subst (λ o. IfSome o (λ s. is_listed (listed c) s ≡ true)) given (is_given facts HasListedSchool (lists_given facts) c ct)
-
     within : preference_rank (entrant c).list code < length (entrant c).list
     within = omega (arith, less, rank_within (entrant c).list (a (number_of c)))
 
@@ -595,7 +625,7 @@ module _ {old : State} {numbers : List ℕ} {outcomes : List Outcome} (facts : I
           subst (λ cs. is_listed cs code ≡ true) (above_own place owned) in_above
       | inr fresh ↦
           let chosen : is_listed (filter stays (register.above place list)) school ≡ true =
-          ap (λ cs. is_listed cs school) (sym taking.1.wanted) ∙ wanted_here c.wanted c.own school (given_listed school is) fresh in
+          ap (λ cs. is_listed cs school) (sym taking.1.wanted) ∙ wanted_here c.wanted c.own school (given_listed facts day taking.0 c taking.1 school is) fresh in
           let both = and_parts (is_listed (register.above place list) school) (stays school) (wanted_parts old taking.0 school ∙ chosen) in
           let listed_is : listed c ≡ filter stays (register.above place list) ++ option_to_list c.own = ap (λ (cs : List Code). cs ++ option_to_list c.own) taking.1.wanted in
           let earlier = before_in stays (register.above place list) (option_to_list c.own) school code both.1 wanted_above
@@ -615,14 +645,20 @@ module _ {old : State} {numbers : List ℕ} {outcomes : List Outcome} (facts : I
         front_same None s there = refl
         front_same (Some row) s there = until_front (λ other. not (bytes_eq other row.place.school)) list s there
 
+    -- the reason by its lot there is that of the cutoff
+    why : (lot : Lot) → In lot lots → IsLotOf lot c → lot.school ≡ code → (cutoff : Cutoff) → IsCutoff m a code cutoff
+        → reason_beside (last_key new outcomes lots lot.school) (key_by_lot new lot) ≡ refusal_at (entrant c) code cutoff
+    why lot lt of at cutoff is =
+        let mine = key_of_lot lot lt c of in
+        let key_there : key_at (entrant c).list code ≡ Some mine.0 = subst (λ (s : Code). key_at (entrant c).list s ≡ Some mine.0) at mine.2 in
+        (λ i. reason_beside (last_key new outcomes lots (at i)) (mine.1 i)) ∙ (reason_is code cutoff is parts.1 mine.0
+        ∙ sym (λ i. cond (parts.0 i) None (reason_by cutoff (key_there i))))
+
     had : HasLot c code
     had = has_lot c ct code wanted
 
     of : IsLotOf had.lot c
     of = record { among = ct; wanted = ap (is_listed c.wanted) had.school ∙ wanted; number = had.child }
-
-    mine : (key : RankKey) × (key_by_lot new had.lot ≡ Some key) × (key_at (entrant c).list had.lot.school ≡ Some key)
-    mine = key_of_lot had.lot had.among c of
 
     -- the child of the lot wants its school more
     wants_it : wants_more new (outcome_for outcomes had.lot.child) had.lot.school ≡ true
@@ -637,23 +673,125 @@ module _ {old : State} {numbers : List ℕ} {outcomes : List Outcome} (facts : I
         → In (record { child = number_of c; school = code; by = refusal_at (entrant c) code cutoff }) (refusals_of new it)
     unfolding refusals_of
     refused cutoff is =
-        let key_there : key_at (entrant c).list code ≡ Some mine.0 = subst (λ (s : Code). key_at (entrant c).list s ≡ Some mine.0) had.school mine.2 in
-        let why : reason_beside (last_key new outcomes lots had.lot.school) (key_by_lot new had.lot) ≡ refusal_at (entrant c) code cutoff =
-        (λ i. reason_beside (last_key new outcomes lots (had.school i)) (mine.1 i)) ∙ reason_is code cutoff is parts.1 mine.0
-        ∙ sym ((λ i. cond (parts.0 i) None (reason_by cutoff (key_there i)))) in
+        let reason = why had.lot had.among of had.school cutoff is in
         let row : Refusal = record { child = number_of c; school = code; by = refusal_at (entrant c) code cutoff } in
         in_filter_map (refusal_by_lot new it) lots had.lot row had.among
         (ap (λ b. cond b (Some (record { child = had.lot.child; school = had.lot.school; by = reason_beside (last_key new outcomes lots had.lot.school) (key_by_lot new had.lot) })) None) wants_it
-        ∙ (λ i. Some (record { child = had.child i; school = had.school i; by = why i })))
+        ∙ (λ i. Some (record { child = had.child i; school = had.school i; by = reason i })))
 
-  pub are_refusals : AreRefusals m a (refusals_of new it)
-  are_refusals =
+  each_refused : All (λ (e : Candidate). (school : Code) (cutoff : Cutoff) → prefers a e school ≡ true → IsCutoff m a school cutoff
+      → Contains (refusals_of new it) (record { child = e.child; school = school; by = refusal_at e school cutoff })) m.entrants
+  each_refused =
       in_All (λ (e : Candidate). (school : Code) (cutoff : Cutoff) → prefers a e school ≡ true → IsCutoff m a school cutoff
       → Contains (refusals_of new it) (record { child = e.child; school = school; by = refusal_at e school cutoff })) m.entrants (λ e at.
       let c = from_map entrant (round_applicants old) e at in
       subst (λ (x : Candidate). (school : Code) (cutoff : Cutoff) → prefers a x school ≡ true → IsCutoff m a school cutoff
       → Contains (refusals_of new it) (record { child = x.child; school = school; by = refusal_at x school cutoff })) c.2
       (λ school cutoff wished is. contains (refusals_of new it) _ (refused c.0 c.1 school wished cutoff is)))
+
+  -- ---- no other refusals
+
+  -- the refusal of a lot's child at its school
+  abbrev row_by : Lot → Refusal
+  row_by lot = record { child = lot.child; school = lot.school; by = reason_beside (last_key new outcomes lots lot.school) (key_by_lot new lot) }
+
+  by_lot : (lot : Lot) (row : Refusal) → refusal_by_lot new it lot ≡ Some row → (wants_more new (outcome_for outcomes lot.child) lot.school ≡ true) × (row_by lot ≡ row)
+  by_lot lot row made = by (wants_more new (outcome_for outcomes lot.child) lot.school) refl made
+    where
+      by : (b : Bool) → wants_more new (outcome_for outcomes lot.child) lot.school ≡ b → cond b (Some (row_by lot)) None ≡ Some row
+          → (wants_more new (outcome_for outcomes lot.child) lot.school ≡ true) × (row_by lot ≡ row)
+      by true wants made = (wants, same_Some (row_by lot) row made)
+      by false wants made = absurd (none-some row made)
+
+  module _ (lot : Lot) (lt : In lot lots) (more : wants_more new (outcome_for outcomes lot.child) lot.school ≡ true) where
+    abbrev c : Applicant
+    c = (whose lot lt).0
+
+    its_lot : IsLotOf lot c
+    its_lot = (whose lot lt).1
+
+    abbrev code : Code
+    code = lot.school
+
+    taken : (application : Application) × IsTaking old application c
+    taken = taking_of old facts.well c its_lot.among
+
+    abbrev its_list : List Code
+    its_list = taken.0.list
+
+    abbrev its_place : Option PlaceRow
+    its_place = get old.places taken.0.child
+
+    abbrev its_stays : Code → Bool
+    its_stays other = not (has_left old.left taken.0.child other)
+
+    listed_above : is_listed (above (a (number_of c)) its_list) code ≡ true
+    listed_above =
+        let applied : get new.applications (number_of c) ≡ Some taken.0 = (λ i. get (applications i) (taken.1.number i)) ∙ taken.1.applied in
+        let there : outcome_for outcomes lot.child ≡ Some (outcome facts c) = ap (outcome_for outcomes) its_lot.number ∙ outcome_there c its_lot.among in
+        sym (ap (λ o. is_above o (a (number_of c)) code) applied) ∙ (sym (ap (λ o. wants_more new o code) there) ∙ more)
+
+    -- so it comes before what the child is given
+    before_given : (given : Option Code) → a (number_of c) ≡ given → rank_in (listed c) code < rank_given (listed c) given
+    before_given None is = listed_within (listed c) code (in_listed (listed c) code (in_left c.wanted (option_to_list c.own) code (listed_in c.wanted code its_lot.wanted)))
+    before_given (Some school) is = elim (cases_Bool (has c.own school)) [
+      | inl own ↦
+          let owned : c.own ≡ Some school = (has_tells c.own school).0 own in
+          let fit = All_in (IsListFit (sites old)) (round_applicants old) c facts.posed.lists_fit its_lot.among in
+          let apart : is_listed c.wanted school ≡ false = subst (λ o. IfSome o (λ s. is_listed c.wanted s ≡ false)) owned fit.own_apart in
+          subst (λ (o : Option Code). rank_in (c.wanted ++ option_to_list o) code < rank_in (c.wanted ++ option_to_list o) school) (sym owned)
+          (before_own c.wanted school code apart its_lot.wanted)
+      | inr fresh ↦
+          let swapped : above (Some school) its_list ≡ until school its_list = λ i. take_while (λ s. not (code_swap school s i)) its_list in
+          let front : is_listed (until school its_list) code ≡ true =
+          ap (λ cs. is_listed cs code) (sym swapped) ∙ subst (λ (o : Option Code). is_listed (above o its_list) code ≡ true) is listed_above in
+          let wants : is_listed c.wanted school ≡ true = wanted_here c.wanted c.own school (given_listed facts day taken.0 c taken.1 school is) fresh in
+          let both = and_parts (is_listed (register.above its_place its_list) school) (its_stays school)
+          (wanted_parts old taken.0 school ∙ (ap (λ cs. is_listed cs school) (sym taken.1.wanted) ∙ wants)) in
+          let still = (and_parts (is_listed (register.above its_place its_list) code) (its_stays code)
+          (wanted_parts old taken.0 code ∙ (ap (λ cs. is_listed cs code) (sym taken.1.wanted) ∙ its_lot.wanted))).1 in
+          let ahead : List Code = until school (register.above its_place its_list) in
+          let first : is_listed ahead code ≡ true = ap (λ cs. is_listed cs code) (until_wanted facts day taken.0 c taken.1 school both.0) ∙ front in
+          let here : is_listed (filter its_stays ahead) code ≡ true =
+          in_listed (filter its_stays ahead) code (in_filter its_stays ahead code (listed_in ahead code first) still) in
+          let order = before_fresh its_stays (register.above its_place its_list) (option_to_list c.own) school code both.1 both.0 here in
+          let lists : listed c ≡ filter its_stays (register.above its_place its_list) ++ option_to_list c.own = ap (λ (cs : List Code). cs ++ option_to_list c.own) taken.1.wanted in
+          subst (λ (cs : List Code). rank_in cs code < rank_in cs school) (sym lists) order
+    ]
+
+    -- and the child prefers it
+    prefers_it : prefers a (entrant c) code ≡ true
+    prefers_it = lt-ltb _ _ (omega (arith, before_given (a (number_of c)) refl, rank_wishes (entrant c).list code ∙ ap (λ cs. rank_in cs code) lists, rank (a (number_of c))))
+      where
+        lists : map school_of_wish (entrant c).list ≡ listed c
+        lists = its_schools (sites old) (round_applicants old) lots facts.posed c its_lot.among
+
+        rank : (o : Option Code) → assigned_rank (entrant c).list o ≡ rank_given (listed c) o
+        rank None = length_wishes (entrant c).list ∙ ap length lists
+        rank (Some s) = rank_wishes (entrant c).list s ∙ ap (λ cs. rank_in cs s) lists
+
+  only_refused : All (λ (row : Refusal). Any (IsRefusalOf m a row) m.entrants) (refusals_of new it)
+  unfolding refusals_of
+  only_refused = in_All (λ (row : Refusal). Any (IsRefusalOf m a row) m.entrants) (refusals_of new it) (λ row at.
+      let found = from_filter_map (refusal_by_lot new it) lots row at in
+      let made = by_lot found.0 row found.2 in
+      let who = whose found.0 found.1 in
+      let wished = prefers_it found.0 found.1 made.0 in
+      subst (λ (r : Refusal). Any (IsRefusalOf m a r) m.entrants) made.1
+      (Any_in (IsRefusalOf m a (row_by found.0)) m.entrants (entrant who.0) (in_map entrant (round_applicants old) who.0 who.1.among) (record {
+        child = who.1.number;
+        wished = wished;
+        reason = λ cutoff is. why who.0 who.1.among found.0.school wished found.0 found.1 who.1 refl cutoff is;
+      })))
+
+  once_refused : some_pair same_refused (refusals_of new it) ≡ false
+  unfolding refusals_of
+  once_refused = once_each (refusal_by_lot new it) (λ lot row made.
+      let is = (by_lot lot row made).1 in
+      (sym (ap (λ (r : Refusal). r.child) is), sym (ap (λ (r : Refusal). r.school) is))) lots lots_rise
+
+  pub are_refusals : AreRefusals m a (refusals_of new it)
+  are_refusals = record { each = each_refused; only = only_refused; once = once_refused }
 
 module _ (old new : State) (draw day : ℕ) (numbers : List ℕ) (kept : KeptByRound day numbers) (found : RoundFacts old new draw day numbers) where
   after_round : new ≡ after old (round.change_of old draw day numbers found.outcomes)

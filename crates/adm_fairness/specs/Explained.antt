@@ -1,11 +1,11 @@
--- What the view of a draw says of a round: the cutoffs of the problem that it solved, and why its entrants are refused.
+-- What the view of a draw says of a round: the cutoffs of the problem that it solved, and just who is refused where, and why.
 -- Azevedo and Leshno 2016; the reasons are this profile's.
-use Rattle.std.specs.Prelude.{◌≡◌, ℕ, true, false, List, Contains, Some, All, bytes_eq}
+use Rattle.std.specs.Prelude.{◌≡◌, ℕ, Bool, true, false, ◌&&◌, ◌==◌, List, Contains, Some, All, Any, bytes_eq}
 use Rattle.std.specs.List.{list_any}
 use Rattle.std.specs.FinMap.{get}
 use Rattle.adm_types.specs.declared.draws.Draw.{Draw}
 use Rattle.adm_types.specs.declared.commands.Command.TheVariants.{Round}
-use Rattle.adm_match.specs.Market.{Code, Market}
+use Rattle.adm_match.specs.Market.{Code, Candidate, Market, some_pair}
 use Rattle.adm_match.specs.Stability.{Allocation, IsBest, is_guest, prefers}
 use Rattle.adm_register.specs.State.{State}
 use Rattle.adm_register.specs.WellFormed.{WellFormed}
@@ -22,11 +22,24 @@ pub record AreCutoffs (m : Market) (a : Allocation) (rows : List CutoffRow) : Ty
   pub last : All (λ row. IsLastKey m a row.school row.key) rows
   pub others : (school : Code) → list_any (λ row. bytes_eq row.school school) rows ≡ false → All (λ entrant. is_guest a school entrant ≡ false) m.entrants
 
--- each entrant is refused at each school that it prefers, for the reason that the cutoff of the school gives
-abbrev pub AreRefusals : Market → Allocation → List Refusal → Type 0
-AreRefusals m a rows =
-    All (λ entrant. (school : Code) (cutoff : Cutoff) → prefers a entrant school ≡ true → IsCutoff m a school cutoff
-    → Contains rows (record { child = entrant.child; school = school; by = refusal_at entrant school cutoff })) m.entrants
+-- the refusal is of this entrant, which prefers the school, and its reason is the one that the cutoff of the school gives
+pub record IsRefusalOf (m : Market) (a : Allocation) (row : Refusal) (entrant : Candidate) : Type 0 where
+  pub child : row.child ≡ entrant.child
+  pub wished : prefers a entrant row.school ≡ true
+  pub reason : (cutoff : Cutoff) → IsCutoff m a row.school cutoff → row.by ≡ refusal_at entrant row.school cutoff
+
+-- whether two refusals are of one child at one school
+abbrev pub same_refused : Refusal → Refusal → Bool
+same_refused one other = bytes_eq one.school other.school && one.child == other.child
+
+-- Each entrant is refused at each school that it prefers, for the reason that the cutoff of the school gives; there is no other refusal,
+-- and none twice.
+pub record AreRefusals (m : Market) (a : Allocation) (rows : List Refusal) : Type 0 where
+  pub each :
+      All (λ entrant. (school : Code) (cutoff : Cutoff) → prefers a entrant school ≡ true → IsCutoff m a school cutoff
+      → Contains rows (record { child = entrant.child; school = school; by = refusal_at entrant school cutoff })) m.entrants
+  pub only : All (λ row. Any (IsRefusalOf m a row) m.entrants) rows
+  pub once : some_pair same_refused rows ≡ false
 
 -- the draw of this number explains the round by these lots: what its view says holds of the best allocation of the round's problem
 pub record IsExplained (old new : State) (number : ℕ) (lots : List ℕ) : Type 0 where

@@ -20,7 +20,7 @@ pub fn some_cutoff()
 {}
 
 /// After a round the view of its draw has the key of the last child that each school took in, and
-/// refuses each child at each school that it wants more, for the reason that this key gives.
+/// refuses just each child at each school that it wants more, once, for the reason that this key gives.
 pub fn round_is_explained()
     ensures { RoundIsExplained }
 {
