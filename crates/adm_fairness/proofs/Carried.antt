@@ -1,6 +1,6 @@
 -- What the commands that may come between two rounds leave as it was.
 use Rattle.std.proofs.Common.{◌≡◌, ◌∙◌, ap, sym, subst, refl, cond, Bool, true, false, ℕ, ◌-◌, ◌≤◌, List, [], ◌∷◌, Option, Some, None, map, inl, inr, arith}
-use Rattle.std.specs.Prelude.{bytes_eq, is_some, find, option_map, option_and_then, unwrap_or, nat_le}
+use Rattle.std.specs.Prelude.{bytes_eq, is_some, find, option_map, unwrap_or, nat_le}
 use Rattle.std.specs.List.{AllByRecursion}
 use Rattle.std.specs.Cmp.{nat_cmp_total}
 use Rattle.std.specs.Cmp.Lexicographic.{nat_list_cmp_total}
@@ -14,16 +14,15 @@ use Rattle.adm_types.specs.declared.rows.Child.{Child}
 use Rattle.adm_types.specs.declared.rows.PlaceRow.{PlaceRow}
 use Rattle.adm_types.specs.declared.rows.PlaceState.TheVariants.{Offered, Accepted}
 use Rattle.adm_types.specs.declared.rows.LeftPair.{LeftPair}
-use Rattle.adm_types.specs.declared.draws.Lot.{Lot}
 use Rattle.adm_types.specs.declared.commands.Command.{Command}
 use Rattle.adm_types.specs.declared.commands.Command.TheVariants as command
 use Rattle.adm_types.specs.declared.commands.Refusal.TheVariants as refusal
-use Rattle.adm_rank.specs.declared.keys.RankKey.{RankKey}
 use Rattle.adm_rank.specs.Class.{class_of}
 use Rattle.adm_rank.specs.Ranking.{key_of}
 use Rattle.adm_match.specs.declared.problem.Seats.{Seats}
 use Rattle.adm_match.specs.Market.{Code, quota_of}
-use Rattle.adm_round.specs.Ranks.{lot_at, seats_of}
+use Rattle.adm_round.specs.declared.applicants.Site.{Site}
+use Rattle.adm_round.specs.Ranks.{site_of, seats_of}
 use Rattle.adm_round.specs.Round.{code_of_site}
 use Rattle.adm_round.specs.Outcomes.{AllotmentFits}
 use Rattle.adm_register.specs.State.{State, is_plan}
@@ -48,11 +47,10 @@ use Rattle.adm_commands.proofs.PutAgain.{get-insert_same, gone}
 use Rattle.adm_commands.proofs.RoundEntrants.{site_is}
 use Rattle.adm_commands.proofs.Shows.{no_row}
 use Rattle.adm_fairness.specs.LaterRounds.{MayComeBetween}
-use Rattle.adm_fairness.specs.Rounds.{key_in}
 use Rattle.adm_fairness.proofs.Envy.{kept_well}
 use Rattle.adm_fairness.proofs.Fills.{same_or_other, other_stays}
 use Rattle.adm_fairness.proofs.RoundPlaces.{plans_same}
-use Rattle.adm_fairness.proofs.Taking.{quota_at}
+use Rattle.adm_fairness.proofs.Taking.{quota_at, school_at}
 use Rattle.adm_fairness.proofs.Waits.{other_kept, HoldsAt, holds_at, offered_at, same_above}
 
 -- the school is there, by the same number or a larger one
@@ -311,24 +309,12 @@ pub key_with_pan : (school : School) (pan lot : ℕ) (child : Child) → key_of 
 unfolding class_of
 key_with_pan school pan lot child = refl
 
-with_pan_same : (school : School) (pan lot : ℕ) (child : Option Child) → option_map (λ row. key_of (record school { pan = pan }) row lot) child ≡ option_map (λ row. key_of school row lot) child
-with_pan_same school pan lot None = refl
-with_pan_same school pan lot (Some row) = ap Some (key_with_pan school pan lot row)
-
--- by the same lot a child has the same key
-pub key_stays : (s t : State) → IsBuilt s t → (lots lots' : List Lot) (code : Code) (child : ℕ) (key : RankKey) → lot_at lots' code child ≡ lot_at lots code child
-    → key_in s lots code child ≡ Some key → key_in t lots' code child ≡ Some key
-key_stays s t built lots lots' code child key lot is = by (get s.schools code) refl
-  where
-    by : (found : Option School) → get s.schools code ≡ found → key_in t lots' code child ≡ Some key
-    by None none = absurd (none-some key (sym (ap (option_and_then (λ (school : School). option_map (λ (row : Child). key_of school row (lot_at lots code child)) (get s.children child))) none) ∙ is))
-    by (Some school) there =
-        let still = built.schools code school there in
-        let was : key_in s lots code child ≡ option_map (λ (row : Child). key_of school row (lot_at lots code child)) (get s.children child) =
-        ap (option_and_then (λ (x : School). option_map (λ (row : Child). key_of x row (lot_at lots code child)) (get s.children child))) there in
-        let now : key_in t lots' code child ≡ option_map (λ (row : Child). key_of (record school { pan = still.pan }) row (lot_at lots code child)) (get s.children child) =
-        λ i. option_and_then (λ (x : School). option_map (λ (row : Child). key_of x row (lot i)) (get (built.children i) child)) (still.is i) in
-        now ∙ (with_pan_same school still.pan (lot_at lots code child) (get s.children child) ∙ (sym was ∙ is))
+pub keys_still : (s t : State) → WellFormed s → WellFormed t → IsBuilt s t → (child : Child) (lot : ℕ) (code : Code) (site now : Site)
+    → site_of (sites s) code ≡ Some site → site_of (sites t) code ≡ Some now → key_of now.school child lot ≡ key_of site.school child lot
+keys_still s t well well' built child lot code site now at at' =
+    let still = built.schools code site.school (school_at s well code site at) in
+    let same : now.school ≡ record site.school { pan = still.pan } = same_Some now.school (record site.school { pan = still.pan }) (sym (school_at t well' code now at') ∙ still.is) in
+    ap (λ (z : School). key_of z child lot) same ∙ key_with_pan site.school still.pan lot child
 
 -- no school has fewer places
 pub more_places : (s t : State) → WellFormed s → WellFormed t → IsBuilt s t → (code : Code) → quota_of (map seats_of (sites s)) code ≤ quota_of (map seats_of (sites t)) code

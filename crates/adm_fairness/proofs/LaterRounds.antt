@@ -1,6 +1,6 @@
--- Rounds by the same lots, with withdrawals and raised numbers between them, give what one round anew would give.
+-- Rounds by lots of one order, with withdrawals and raised numbers between them, give what one round anew would give.
 use Rattle.std.proofs.Common.{◌≡◌, ◌∙◌, ap, sym, subst, refl, cond, Bool, true, false, not, ◌||◌, ℕ, ◌≤◌, List, ◌++◌, [], ◌∷◌, length, map, Option, Some, None, arith}
-use Rattle.std.specs.Prelude.{nat_le, filter, option_map}
+use Rattle.std.specs.Prelude.{All, nat_le, filter, option_map}
 use Rattle.std.specs.List.{AllZip, filter_map, slice_get}
 use Rattle.std.specs.Cmp.{nat_cmp_total}
 use Rattle.std.specs.FinMap.{get, values, nat_cmp-IsAntisymmetric}
@@ -15,7 +15,7 @@ use Rattle.adm_match.specs.Stability.{Allocation, IsBest}
 use Rattle.adm_match.proofs.Posed as problem
 use Rattle.adm_match.proofs.Distinct.{distinct}
 use Rattle.adm_round.specs.declared.applicants.Applicant.{Applicant}
-use Rattle.adm_round.specs.Round.{number_of, listed}
+use Rattle.adm_round.specs.Round.{number_of, listed, IsListFit}
 use Rattle.adm_round.specs.Ranks.{site_of, lot_at, wishes_for, candidate_of, seats_of}
 use Rattle.adm_round.specs.Outcomes.{AllotmentFits}
 use Rattle.adm_round.proofs.Faultless.{faultless}
@@ -36,14 +36,16 @@ use Rattle.adm_fairness.specs.LaterRounds.{FirstRound, LaterRound, IsHeldAfter, 
 use Rattle.adm_fairness.proofs.Again.{IsAgain, next, same_plans, same_sites, applicants_again, held_after}
 use Rattle.adm_fairness.proofs.Alike.{best_alike}
 use Rattle.adm_fairness.proofs.Beside.{BothGive, zip_given, zip_mapped, zip_there}
-use Rattle.adm_fairness.proofs.Carried.{IsBuilt, IsCarried, built_itself, built_on, carried, key_stays, more_places}
+use Rattle.adm_fairness.proofs.Carried.{IsBuilt, IsCarried, built_itself, built_on, carried, keys_still, more_places}
 use Rattle.adm_fairness.proofs.Codes.{at_index, in_index}
 use Rattle.adm_fairness.proofs.Envy.{kept_well}
 use Rattle.adm_fairness.proofs.FairRound.{RoundFacts, round_facts}
 use Rattle.adm_fairness.proofs.Front.{IsFront, front_on}
 use Rattle.adm_fairness.proofs.Resumed.{best_anew, distinct_left}
 use Rattle.adm_fairness.proofs.RoundPlaces.{rank_given}
-use Rattle.adm_fairness.proofs.SameLots.{KeepsKeys, given_rank, settled}
+use Rattle.adm_fairness.proofs.Reordered.{best_reordered}
+use Rattle.adm_fairness.proofs.SameLots.{KeepsKeys, settled}
+use Rattle.adm_fairness.proofs.SameOrder.{market_by, its_given, reordered, kept_order}
 use Rattle.adm_fairness.proofs.Settled.{IsSettled, IsResumed, not_worse}
 use Rattle.adm_fairness.proofs.Taking.{taking_of}
 use Rattle.adm_fairness.proofs.Zipped.{zip_back, zip_step, zip_on, zip_filtered, left_at, all_left, count_narrower}
@@ -113,8 +115,12 @@ module _ (law : AllotmentFits) (begun : FirstRound) (well_first : WellFormed beg
   abbrev m : Market
   m = round_market old numbers
 
+  -- the lots of the first round, and the problem of this one by them
+  abbrev first : Code → ℕ → ℕ
+  first = lot_at (round_lots old numbers)
+
   abbrev now : Market
-  now = round_market mid round.numbers
+  now = market_by (sites mid) (round_applicants mid) first
 
   abbrev was : Market
   was = remaining here (map seats_of (sites s)) m
@@ -191,14 +197,20 @@ module _ (law : AllotmentFits) (begun : FirstRound) (well_first : WellFormed beg
 
   -- ---- the problem of the round
 
-  keys_kept : KeepsKeys old mid
-  keys_kept = key_stays old mid (built_on old s mid going.built carries.0.built)
+  keys_kept : KeepsKeys (sites old) (sites mid)
+  keys_kept = keys_still old mid well_first carries.1 (built_on old s mid going.built carries.0.built)
+
+  fit : All (IsListFit (sites old)) (round_applicants old)
+  fit = (posed old numbers well_first none_s).lists_fit
+
+  fit_mid : All (IsListFit (sites mid)) (round_applicants mid)
+  fit_mid = (posed mid round.numbers carries.1 none_mid).lists_fit
 
   abbrev entrant : Applicant → Candidate
-  entrant = candidate_of (site_of (sites old)) (lot_at (round_lots old numbers))
+  entrant = candidate_of (site_of (sites old)) first
 
   abbrev entrant' : Applicant → Candidate
-  entrant' = candidate_of (site_of (sites mid)) (lot_at (round_lots mid round.numbers))
+  entrant' = candidate_of (site_of (sites mid)) first
 
   record IsEntrant (e f : Candidate) : Type 0 where
     pub child : f.child ≡ e.child
@@ -208,8 +220,8 @@ module _ (law : AllotmentFits) (begun : FirstRound) (well_first : WellFormed beg
   entrants : AllZip IsEntrant m.entrants now.entrants
   entrants = zip_mapped (IsLater round.stays a) IsEntrant entrant entrant' (round_applicants old) (round_applicants mid) later_mid (λ x z xt zt r. record {
     child = same_number x z r.child;
-    stays = λ stays. settled old mid numbers round.numbers well_first carries.1 none_s none_mid keys_kept held.same_lots a x z xt zt (r.stays stays);
-    gone = λ gone. ap (wishes_for (site_of (sites mid)) (lot_at (round_lots mid round.numbers)) z.child) (r.gone gone);
+    stays = λ stays. settled (sites old) (sites mid) keys_kept (round_applicants old) (round_applicants mid) fit fit_mid first a x z xt zt (r.stays stays);
+    gone = λ gone. ap (wishes_for (site_of (sites mid)) first z.child) (r.gone gone);
   })
 
   resumed : IsResumed was left now round.stays a
@@ -234,10 +246,19 @@ module _ (law : AllotmentFits) (begun : FirstRound) (well_first : WellFormed beg
   abbrev b : Allocation
   b = facts.facts.best.allocation
 
+  -- what is best by the lots of this round is so by those of the first
+  best_now : IsBest now b
+  best_now =
+      let order = kept_order mid carries.1 (round_lots old numbers) (round_lots mid round.numbers) held.same_order in
+      let lots : Code → ℕ → ℕ = lot_at (round_lots mid round.numbers) in
+      best_reordered (round_market mid round.numbers) now b
+      (reordered (sites mid) (round_applicants mid) fit_mid lots first (λ x y xt yt code x_wants y_wants site found. sym (order x y xt yt code x_wants y_wants site found)))
+      (reordered (sites mid) (round_applicants mid) fit_mid first lots order) facts.facts.best.best
+
   best_left : IsBest left b
   best_left =
       let apart = distinct m (problem.posed m (faultless (sites old) (round_applicants old) (round_lots old numbers) (posed old numbers well_first none_s))) in
-      best_anew was left now round.stays a resumed (distinct_left m round.stays (map seats_of (sites mid)) apart) b facts.facts.best.best
+      best_anew was left now round.stays a resumed (distinct_left m round.stays (map seats_of (sites mid)) apart) b best_now
 
   -- ---- the register after it
 
@@ -255,8 +276,8 @@ module _ (law : AllotmentFits) (begun : FirstRound) (well_first : WellFormed beg
   not_after x xt stays =
       let remains : Candidate → Bool = λ e. round.stays e.child in
       let k = at_index left.entrants (entrant x) (in_filter remains m.entrants (entrant x) (in_map entrant (round_applicants old) x xt) stays) in
-      let least : assigned_rank (entrant x).list (b (number_of x)) ≤ assigned_rank (entrant x).list (a (number_of x)) = not_worse was left now round.stays a resumed b facts.facts.best.best.stable k.0 (entrant x) k.1 in
-      let rank : (o : Option Code) → assigned_rank (entrant x).list o ≡ rank_given (listed x) o = given_rank old mid numbers round.numbers well_first carries.1 none_s none_mid x xt in
+      let least : assigned_rank (entrant x).list (b (number_of x)) ≤ assigned_rank (entrant x).list (a (number_of x)) = not_worse was left now round.stays a resumed b best_now.stable k.0 (entrant x) k.1 in
+      let rank : (o : Option Code) → assigned_rank (entrant x).list o ≡ rank_given (listed x) o = its_given (sites old) (round_applicants old) fit first x xt in
       omega (arith, least, rank (b (number_of x)), rank (a (number_of x)))
 
   later_next : AllZip (IsLater round.stays b) (round_applicants old) (round_applicants after')

@@ -30,7 +30,10 @@ pub mod Settled
 pub mod Resumed
 pub mod Front
 pub mod Again
+pub mod Reordered
+pub mod SameOrder
 pub mod SameLots
+pub mod HeldAgain
 pub mod Carried
 pub mod Alike
 pub mod LaterRounds

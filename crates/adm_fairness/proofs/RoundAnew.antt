@@ -15,7 +15,6 @@ use Rattle.std.proofs.lemmas.Option.{same_Some}
 use Rattle.adm_lists.proofs.Maps.{apart, entries_in_order, map_of_entries, get_rows}
 use Rattle.adm_lists.proofs.Members.{In, All_in, in_All, in_map, from_map, from_filter}
 use Rattle.adm_lists.proofs.Orders.{tied}
-use Rattle.adm_types.specs.Limits.{is_listed}
 use Rattle.adm_types.specs.declared.rows.School.{School}
 use Rattle.adm_types.specs.declared.rows.Child.{Child}
 use Rattle.adm_types.specs.declared.rows.Application.{Application}
@@ -33,19 +32,19 @@ use Rattle.adm_round.proofs.ListedSchools.{site_known}
 use Rattle.adm_register.specs.State.{State}
 use Rattle.adm_register.specs.Wanted.{own_school}
 use Rattle.adm_register.specs.WellFormed.{WellFormed}
-use Rattle.adm_register.proofs.RoundLemmas.{in_listed}
 use Rattle.adm_commands.specs.Commands.Round.{applicant_of, round_applicants, round_lots, round_market, sites}
 use Rattle.adm_commands.specs.Problem.{lots_fault}
 use Rattle.adm_commands.proofs.Posed.{posed, lots_pass, of_application}
 use Rattle.adm_commands.proofs.RoundEntrants.{site_is}
 use Rattle.adm_commands.proofs.Shows.{no_row}
 use Rattle.adm_fairness.specs.Anew.{remaining}
-use Rattle.adm_fairness.specs.Honesty.{KeepsCommonLots}
 use Rattle.adm_fairness.specs.LaterRounds.{stays_to_end, begun_anew, OneRoundAnew}
 use Rattle.adm_fairness.proofs.Carried.{IsBuilt, key_with_pan}
 use Rattle.adm_fairness.proofs.Codes.{at_index}
 use Rattle.adm_fairness.proofs.CutoffLemmas.{same_by_rank}
 use Rattle.adm_fairness.proofs.LaterRounds.{going_last, later_rounds_anew_law}
+use Rattle.adm_fairness.proofs.Reordered.{best_reordered}
+use Rattle.adm_fairness.proofs.SameOrder.{market_by, reordered, kept_order}
 
 -- ---- what a test leaves of a list, and of what its elements give
 
@@ -131,28 +130,24 @@ left_values rows stays own =
 -- ---- the problem of one round anew
 
 module _ (old end : State) (stays : ℕ → Bool) (numbers drawn : List ℕ) (built : IsBuilt old end) (well : WellFormed old) (well' : WellFormed (begun_anew stays old end))
-    (none_s : lots_fault old numbers ≡ None) (none : lots_fault (begun_anew stays old end) drawn ≡ None)
-    (lots : KeepsCommonLots old (begun_anew stays old end) (round_lots old numbers) (round_lots (begun_anew stays old end) drawn)) where
+    (none_s : lots_fault old numbers ≡ None) (none : lots_fault (begun_anew stays old end) drawn ≡ None) where
   abbrev whole : State
   whole = begun_anew stays old end
 
   abbrev first_lots : List Lot
   first_lots = round_lots old numbers
 
-  abbrev second_lots : List Lot
-  second_lots = round_lots whole drawn
-
   fits_first : IsPosed (sites old) (round_applicants old) first_lots
   fits_first = posed old numbers well none_s
 
-  fits : IsPosed (sites whole) (round_applicants whole) second_lots
+  fits : IsPosed (sites whole) (round_applicants whole) (round_lots whole drawn)
   fits = posed whole drawn well' none
 
   abbrev entrant : Applicant → Candidate
   entrant = candidate_of (site_of (sites old)) (lot_at first_lots)
 
   abbrev entrant' : Applicant → Candidate
-  entrant' = candidate_of (site_of (sites whole)) (lot_at second_lots)
+  entrant' = candidate_of (site_of (sites whole)) (lot_at first_lots)
 
   -- who takes part are those who stay
   applicants_left : round_applicants whole ≡ filter (λ x. stays (number_of x)) (round_applicants old)
@@ -167,43 +162,33 @@ module _ (old end : State) (stays : ℕ → Bool) (numbers drawn : List ℕ) (bu
 
   -- by the same lots the wishes are the same
   same_wishes : (child : Child) (codes : List Code) → ((code : Code) → In code codes → is_site (sites old) code ≡ true) → ((code : Code) → In code codes → is_site (sites whole) code ≡ true)
-      → ((code : Code) → In code codes → lot_at second_lots code child.no ≡ lot_at first_lots code child.no)
-      → wishes_for (site_of (sites whole)) (lot_at second_lots) child codes ≡ wishes_for (site_of (sites old)) (lot_at first_lots) child codes
-  same_wishes child [] known known' same = refl
-  same_wishes child (code ∷ codes) known known' same =
+      → wishes_for (site_of (sites whole)) (lot_at first_lots) child codes ≡ wishes_for (site_of (sites old)) (lot_at first_lots) child codes
+  same_wishes child [] known known' = refl
+  same_wishes child (code ∷ codes) known known' =
       let s = site_known (sites old) code (known code (inl refl)) in
       let t = site_known (sites whole) code (known' code (inl refl)) in
       let still = built.schools code s.site.school (ap (get old.schools) (sym s.at_code) ∙ (site_is old well s.site s.among).0) in
       let now : School = record s.site.school { pan = still.pan } in
       let school : t.site.school ≡ now = same_Some t.site.school now (sym (ap (get end.schools) (sym t.at_code) ∙ (site_is whole well' t.site t.among).0) ∙ still.is) in
-      let lot : lot_at second_lots (code_of_site t.site) child.no ≡ lot_at first_lots (code_of_site s.site) child.no =
-      ap (λ c. lot_at second_lots c child.no) t.at_code ∙ (same code (inl refl) ∙ ap (λ c. lot_at first_lots c child.no) (sym s.at_code)) in
-      let key : key_of t.site.school child (lot_at second_lots (code_of_site t.site) child.no) ≡ key_of s.site.school child (lot_at first_lots (code_of_site s.site) child.no) =
-      (λ i. key_of (school i) child (lot i)) ∙ key_with_pan s.site.school still.pan (lot_at first_lots (code_of_site s.site) child.no) child in
       let code_same : code_of_site t.site ≡ code_of_site s.site = t.at_code ∙ sym s.at_code in
-      let wish : wish_at (lot_at second_lots) child t.site ≡ wish_at (lot_at first_lots) child s.site = λ i. record { school = code_same i; key = key i } in
-      let rest = same_wishes child codes (λ c at. known c (inr at)) (λ c at. known' c (inr at)) (λ c at. same c (inr at)) in
-      ap (λ o. cons_option (option_map (wish_at (lot_at second_lots) child) o) (wishes_for (site_of (sites whole)) (lot_at second_lots) child codes)) t.found
+      let key : key_of t.site.school child (lot_at first_lots (code_of_site t.site) child.no) ≡ key_of s.site.school child (lot_at first_lots (code_of_site s.site) child.no) =
+      (λ i. key_of (school i) child (lot_at first_lots (code_same i) child.no)) ∙ key_with_pan s.site.school still.pan (lot_at first_lots (code_of_site s.site) child.no) child in
+      let wish : wish_at (lot_at first_lots) child t.site ≡ wish_at (lot_at first_lots) child s.site = λ i. record { school = code_same i; key = key i } in
+      let rest = same_wishes child codes (λ c at. known c (inr at)) (λ c at. known' c (inr at)) in
+      ap (λ o. cons_option (option_map (wish_at (lot_at first_lots) child) o) (wishes_for (site_of (sites whole)) (lot_at first_lots) child codes)) t.found
       ∙ ((λ i. wish i ∷ rest i)
       ∙ sym (ap (λ o. cons_option (option_map (wish_at (lot_at first_lots) child) o) (wishes_for (site_of (sites old)) (lot_at first_lots) child codes)) s.found))
 
   same_entrant : (x : Applicant) → In x (round_applicants old) → In x (round_applicants whole) → entrant' x ≡ entrant x
-  same_entrant x at at' =
-      let listed_lots : (code : Code) → is_listed (listed x) code ≡ true → lot_at second_lots code (number_of x) ≡ lot_at first_lots code (number_of x) =
-      λ code lists. All_in (λ (z : Applicant). number_of z ≡ number_of x → (c : Code) → is_listed (listed x) c ≡ true → is_listed (listed z) c ≡ true
-      → lot_at second_lots c (number_of x) ≡ lot_at first_lots c (number_of x)) (round_applicants whole) x
-      (All_in (λ (w : Applicant). All (λ (z : Applicant). number_of z ≡ number_of w → (c : Code) → is_listed (listed w) c ≡ true → is_listed (listed z) c ≡ true
-      → lot_at second_lots c (number_of w) ≡ lot_at first_lots c (number_of w)) (round_applicants whole)) (round_applicants old) x lots at) at' refl code lists lists in
-      λ i. record {
-        child = number_of x;
-        list = same_wishes x.child (listed x)
-            (λ code here. All_in (λ c. is_site (sites old) c ≡ true) (listed x) code (All_in (IsListFit (sites old)) (round_applicants old) x fits_first.lists_fit at).known here)
-            (λ code here. All_in (λ c. is_site (sites whole) c ≡ true) (listed x) code (All_in (IsListFit (sites whole)) (round_applicants whole) x fits.lists_fit at').known here)
-            (λ code here. listed_lots code (in_listed (listed x) code here)) i;
-        tenant = x.own;
-      }
+  same_entrant x at at' = λ i. record {
+    child = number_of x;
+    list = same_wishes x.child (listed x)
+        (λ code here. All_in (λ c. is_site (sites old) c ≡ true) (listed x) code (All_in (IsListFit (sites old)) (round_applicants old) x fits_first.lists_fit at).known here)
+        (λ code here. All_in (λ c. is_site (sites whole) c ≡ true) (listed x) code (All_in (IsListFit (sites whole)) (round_applicants whole) x fits.lists_fit at').known here) i;
+    tenant = x.own;
+  }
 
-  same_entrants : (round_market whole drawn).entrants ≡ filter (λ (e : Candidate). stays e.child) (round_market old numbers).entrants
+  same_entrants : map entrant' (round_applicants whole) ≡ filter (λ (e : Candidate). stays e.child) (round_market old numbers).entrants
   same_entrants =
       let left = filter (λ (x : Applicant). stays (number_of x)) (round_applicants old) in
       ap (map entrant') applicants_left
@@ -213,28 +198,35 @@ module _ (old end : State) (stays : ℕ → Bool) (numbers drawn : List ℕ) (bu
   same_sites : sites whole ≡ sites end
   same_sites = λ i. map (λ (school : School). record { school = school; quota = school.pan - sym (built.plans school.code) i }) (values end.schools)
 
-  pub same_market : round_market whole drawn ≡ remaining stays (map seats_of (sites end)) (round_market old numbers)
+  pub same_market : market_by (sites whole) (round_applicants whole) (lot_at first_lots) ≡ remaining stays (map seats_of (sites end)) (round_market old numbers)
   same_market = λ i. record { entrants = same_entrants i; seats = map seats_of (same_sites i) }
 
 pub one_round_anew_law : AllotmentFits → OneRoundAnew
-one_round_anew_law law begun later end whole drawn outcomes lead is well' none best lots =
+one_round_anew_law law begun later end whole drawn outcomes lead is well' none best keeps =
     let old = begun.register in
     let numbers = begun.numbers in
     let stays = stays_to_end later in
     let last = going_last law begun later end lead in
     let h : Allocation = λ child. own_school (get end.places child) in
     let b = best.allocation in
-    let m = round_market whole drawn in
-    let same = same_market old end stays numbers drawn last.1.built lead.well (subst WellFormed is well') (lots_pass old begun.draw begun.day numbers (no_row _ lead.accepted.1.0)) (subst (λ s. lots_fault s drawn ≡ None) is none)
-    (subst (λ s. KeepsCommonLots old s (round_lots old numbers) (round_lots s drawn)) is lots) in
-    let best_h : IsBest m h = subst (λ p. IsBest p h) (sym (ap (λ s. round_market s drawn) is ∙ same)) (later_rounds_anew_law law begun later end lead) in
-    let entrant : Applicant → Candidate = candidate_of (site_of (sites whole)) (lot_at (round_lots whole drawn)) in
+    let first : Code → ℕ → ℕ = lot_at (round_lots old numbers) in
+    let lots : Code → ℕ → ℕ = lot_at (round_lots whole drawn) in
+    let m = market_by (sites whole) (round_applicants whole) first in
+    let fit = (posed whole drawn well' none).lists_fit in
+    let order = kept_order whole well' (round_lots old numbers) (round_lots whole drawn) keeps in
+    let best_b : IsBest m b =
+    best_reordered (round_market whole drawn) m b
+    (reordered (sites whole) (round_applicants whole) fit lots first (λ x y xt yt code x_wants y_wants site found. sym (order x y xt yt code x_wants y_wants site found)))
+    (reordered (sites whole) (round_applicants whole) fit first lots order) best.best in
+    let same = same_market old end stays numbers drawn last.1.built lead.well (subst WellFormed is well') (lots_pass old begun.draw begun.day numbers (no_row _ lead.accepted.1.0)) (subst (λ s. lots_fault s drawn ≡ None) is none) in
+    let best_h : IsBest m h = subst (λ p. IsBest p h) (sym (ap (λ s. market_by (sites s) (round_applicants s) first) is ∙ same)) (later_rounds_anew_law law begun later end lead) in
+    let entrant : Applicant → Candidate = candidate_of (site_of (sites whole)) first in
     let each : All (λ (o : Outcome). o.school ≡ own_school (get end.places o.child)) (map (λ (x : Applicant). outcome_of x (b (number_of x))) (round_applicants whole)) =
     in_All (λ (o : Outcome). o.school ≡ own_school (get end.places o.child)) (map (λ (x : Applicant). outcome_of x (b (number_of x))) (round_applicants whole)) (λ o at.
     let x = from_map (λ (x : Applicant). outcome_of x (b (number_of x))) (round_applicants whole) o at in
     let k = at_index m.entrants (entrant x.0) (in_map entrant (round_applicants whole) x.0 x.1) in
-    let there = at_All (λ (e : Candidate). assigned_rank e.list (h e.child) ≤ assigned_rank e.list (b e.child)) m.entrants k.0 (entrant x.0) (best_h.none_better b best.best.stable) k.1 in
-    let back = at_All (λ (e : Candidate). assigned_rank e.list (b e.child) ≤ assigned_rank e.list (h e.child)) m.entrants k.0 (entrant x.0) (best.best.none_better h best_h.stable) k.1 in
-    let equal : b (number_of x.0) ≡ h (number_of x.0) = same_by_rank m h b k.0 (entrant x.0) best_h.stable.acceptable best.best.stable.acceptable k.1 (omega (arith, there, back)) in
+    let there = at_All (λ (e : Candidate). assigned_rank e.list (h e.child) ≤ assigned_rank e.list (b e.child)) m.entrants k.0 (entrant x.0) (best_h.none_better b best_b.stable) k.1 in
+    let back = at_All (λ (e : Candidate). assigned_rank e.list (b e.child) ≤ assigned_rank e.list (h e.child)) m.entrants k.0 (entrant x.0) (best_b.none_better h best_h.stable) k.1 in
+    let equal : b (number_of x.0) ≡ h (number_of x.0) = same_by_rank m h b k.0 (entrant x.0) best_h.stable.acceptable best_b.stable.acceptable k.1 (omega (arith, there, back)) in
     subst (λ (y : Outcome). y.school ≡ own_school (get end.places y.child)) x.2 equal) in
     subst (All (λ (o : Outcome). o.school ≡ own_school (get end.places o.child))) (sym best.given) each

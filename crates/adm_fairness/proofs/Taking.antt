@@ -66,6 +66,12 @@ module _ (old : State) (well : WellFormed old) where
       let same : one.0 ≡ application = same_Some one.0 application (sym one.1.applied ∙ (ap (get old.applications) numbers ∙ there)) in
       (found.0, subst (λ a. IsTaking old a found.0) same one.1)
 
+  -- the school of a site
+  pub school_at : (code : Code) (site : Site) → site_of (sites old) code ≡ Some site → get old.schools code ≡ Some site.school
+  school_at code site found =
+      let at = find_gives (λ (z : Site). bytes_eq (code_of_site z) code) (sites old) site found in
+      ap (get old.schools) (sym ((bytes_eq-Decides (code_of_site site) code).0 at.1)) ∙ (site_is old well site at.0).0
+
   -- the places of a school in the problem of a round
   pub quota_at : (code : Code) (school : School) → get old.schools code ≡ Some school → quota_of (map seats_of (sites old)) code ≡ quota old school
   quota_at code school there =

@@ -19,8 +19,7 @@ use Rattle.adm_commands.specs.Imports.{Reaches}
 use Rattle.adm_commands.specs.Problem.{lots_fault}
 use Rattle.adm_commands.specs.Steps.{Accepts}
 use Rattle.adm_fairness.specs.Anew.{remaining}
-use Rattle.adm_fairness.specs.Honesty.{KeepsCommonLots}
-use Rattle.adm_fairness.specs.Rounds.{KeepsWantedLots}
+use Rattle.adm_fairness.specs.Lots.{KeepsOrder}
 
 -- What may come between two rounds: an offer is accepted, or reminded of; an admission number is raised; and a child that does not stay
 -- declines its place, lets its offer lapse, or leaves a list. Nothing else.
@@ -62,7 +61,7 @@ pub record LaterRound : Type 0 where
   pub numbers : List ℕ
 
 -- The commands are accepted, each of those that may come between rounds. By then each child that does not stay has withdrawn, and nobody
--- who withdrew earlier stays. Then the round is held, with the lots of the first for each child at each school that it still wants.
+-- who withdrew earlier stays. Then the round is held, by lots of the order of the first.
 pub record IsHeldAfter (first : FirstRound) (here : ℕ → Bool) (before : State) (round : LaterRound) (after : State) : Type 0 where
   pub typed : AllByRecursion KeptByTypes round.commands
   pub between : AllByRecursion (MayComeBetween round.stays) round.commands
@@ -72,7 +71,7 @@ pub record IsHeldAfter (first : FirstRound) (here : ℕ → Bool) (before : Stat
   pub withdrawn : (child : ℕ) → round.stays child ≡ false → HasWithdrawn mid child
   pub kept : KeptByTypes (Round round.draw round.day round.numbers)
   pub accepted : Accepts mid (Round round.draw round.day round.numbers) after
-  pub same_lots : KeepsWantedLots first.register mid (lots_of_first first) (round_lots mid round.numbers)
+  pub same_order : KeepsOrder mid (lots_of_first first) (round_lots mid round.numbers)
 
 -- these rounds are held one after another, and lead to the last register
 abbrev pub AreHeldInTurn : FirstRound → (ℕ → Bool) → State → List LaterRound → State → Type 0
@@ -97,7 +96,7 @@ stays_last here (round ∷ later) = stays_last round.stays later
 abbrev pub stays_to_end : List LaterRound → ℕ → Bool
 stays_to_end later = stays_last (λ child. true) later
 
--- Rounds by the same lots, with withdrawals and raised numbers between them, give what one round anew would give: what each child that
+-- Rounds by lots of one order, with withdrawals and raised numbers between them, give what one round anew would give: what each child that
 -- stays has in the end is the best allocation of the problem of the first round without the children who withdrew, with the quotas of
 -- the end.
 abbrev pub LaterRoundsAnew : Type 0
@@ -111,13 +110,12 @@ LaterRoundsAnew =
 abbrev pub begun_anew : (ℕ → Bool) → State → State → State
 begun_anew stays old end = record old { applications = retain_keys old.applications stays; schools = end.schools }
 
--- So one round in that register, by the lots of the first for each child at each school of its list, gives each child what it has in the
--- end.
+-- So one round in that register, by lots of the order of the first, gives each child what it has in the end.
 abbrev pub OneRoundAnew : Type 0
 OneRoundAnew =
     (first : FirstRound) (later : List LaterRound) (end whole : State) (drawn : List ℕ) (outcomes : List Outcome)
     → RoundsLead first later end
     → whole ≡ begun_anew (stays_to_end later) first.register end → WellFormed whole
     → lots_fault whole drawn ≡ None → AreOutcomes whole drawn outcomes
-    → KeepsCommonLots first.register whole (lots_of_first first) (round_lots whole drawn)
+    → KeepsOrder whole (lots_of_first first) (round_lots whole drawn)
     → All (λ outcome. outcome.school ≡ own_school (get end.places outcome.child)) outcomes

@@ -1,8 +1,9 @@
 pub mod Rounds
 pub mod Code
+pub mod Lots
 pub mod Season
-pub mod Cutoffs
 pub mod Begun
+pub mod Cutoffs
 pub mod Explained
 pub mod Improvements
 pub mod Honesty

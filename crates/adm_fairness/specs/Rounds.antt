@@ -1,24 +1,20 @@
 -- What a round may not do, said of the register before it and the one after it.
 -- School Admissions Code 2021, section 1: places are given by the oversubscription criteria; Gale and Shapley 1962: no pair blocks.
-use Rattle.std.specs.Prelude.{◌≡◌, ◌⊎◌, ℕ, Bool, true, false, List, Option, Some, None, All, option_map, option_and_then}
+use Rattle.std.specs.Prelude.{◌≡◌, ◌⊎◌, ℕ, Bool, true, List, Option, Some, option_map, option_and_then}
 use Rattle.std.specs.FinMap.{get}
 use Rattle.adm_types.specs.declared.rows.Application.{Application}
 use Rattle.adm_types.specs.declared.draws.Lot.{Lot}
-use Rattle.adm_types.specs.declared.draws.Outcome.{Outcome}
 use Rattle.adm_types.specs.declared.commands.Command.TheVariants.{Round}
 use Rattle.adm_types.specs.Limits.{is_listed}
 use Rattle.adm_rank.specs.declared.keys.RankKey.{RankKey}
 use Rattle.adm_rank.specs.Ranking.{key_of}
 use Rattle.adm_match.specs.Market.{Code, both_precede}
-use Rattle.adm_round.specs.Round.{number_of}
 use Rattle.adm_round.specs.Ranks.{lot_at}
 use Rattle.adm_register.specs.State.{State}
 use Rattle.adm_register.specs.Rows.{vacancies}
-use Rattle.adm_register.specs.Wanted.{wanted_of, own_school}
+use Rattle.adm_register.specs.Wanted.{wanted_of}
 use Rattle.adm_register.specs.WellFormed.{WellFormed, is_unplanned_at}
-use Rattle.adm_commands.specs.Commands.{KeptByTypes}
-use Rattle.adm_commands.specs.Commands.Round.{takes_part, round_applicants, round_lots, AreOutcomes}
-use Rattle.adm_commands.specs.Problem.{lots_fault}
+use Rattle.adm_commands.specs.Commands.Round.{takes_part, round_lots}
 use Rattle.adm_commands.specs.Steps.{Accepts}
 
 -- the key of a child at a school by these lots, where both are in the register
@@ -49,21 +45,3 @@ RoundIsFair =
     → get old.applications application.child ≡ Some application → takes_part old application ≡ true
     → is_listed (wanted_of new application) code ≡ true
     → IsFairlyFull old new (round_lots old numbers) code application.child
-
--- each child that takes part in the rounds of both registers has by the second lots the same lot as by the first, at each school that it
--- wants in the second
-abbrev pub KeepsWantedLots : State → State → List Lot → List Lot → Type 0
-KeepsWantedLots old new first second =
-    All (λ x. All (λ y. number_of y ≡ number_of x
-    → (code : Code) → is_listed y.wanted code ≡ true → lot_at second code (number_of x) ≡ lot_at first code (number_of x)) (round_applicants new)) (round_applicants old)
-
--- A round that is held again by the same lots, with nothing changed, gives nothing new: where each application took part in the first,
--- each child has in the second the school that it has by then, or none.
-abbrev pub SameLotsSamePlaces : Type 0
-SameLotsSamePlaces =
-    (old new : State) (draw day : ℕ) (numbers drawn : List ℕ) (outcomes : List Outcome)
-    → WellFormed old → KeptByTypes (Round draw day numbers) → Accepts old (Round draw day numbers) new
-    → ((application : Application) → get old.applications application.child ≡ Some application → takes_part old application ≡ true)
-    → lots_fault new drawn ≡ None → AreOutcomes new drawn outcomes
-    → KeepsWantedLots old new (round_lots old numbers) (round_lots new drawn)
-    → All (λ outcome. (outcome.school ≡ own_school (get new.places outcome.child)) × (outcome.fresh ≡ false)) outcomes

@@ -10,8 +10,8 @@ pub fn rounds_anew()
     ensures { RoundsAnew }
 {}
 
-/// Rounds of a register by the same lots, with withdrawals and raised numbers between them, give each
-/// child that stays what one round anew would give it, without those who withdrew.
+/// Rounds of a register by lots of one order, with withdrawals and raised numbers between them, give
+/// each child that stays what one round anew would give it, without those who withdrew.
 pub fn later_rounds_anew()
     ensures { LaterRoundsAnew }
 {

@@ -23,7 +23,7 @@ pub use honesty::{
 pub use improvements::{no_loss_by_amend, no_loss_by_rank};
 pub use lattice::{best_is_last_choice, join_is_stable, meet_is_stable};
 pub use optimal::{none_fairer, not_all_better};
-pub use rounds::{round_is_fair, same_lots_same_places};
+pub use rounds::{round_is_fair, same_lots_same_places, same_order_same_places};
 pub use season::{
     envy_has_cause, every_envy_has_cause, no_new_envy, place_ends_fairly, plan_is_kept,
 };

@@ -1,4 +1,4 @@
-use Rattle.adm_fairness.proofs.SameLots.{same_lots_same_places_law}
+use Rattle.adm_fairness.proofs.HeldAgain.{same_lots_same_places_law}
 use Rattle.adm_fairness.proofs.rounds.same_lots_same_places.Goals as goal
 
 pub returns : goal.returns
