@@ -30,7 +30,7 @@ use Rattle.adm_program.specs.Served.{ServesAs, ServesOver, Visits}
 use Rattle.adm_host.specs.Texts.{PrintsAs, document_text}
 use Rattle.adm_files.specs.Runs.{LineStep, OpensAndRuns, Prints}
 use Rattle.adm_host.specs.Creation.{Creates, CreatesAs}
-use Rattle.adm_program.specs.Does.{Does, shown}
+use Rattle.adm_program.specs.Does.{Does, file_of, shown}
 use Rattle.adm_program.specs.Given.{Given}
 use Rattle.adm_host.specs.declared.document.Document.{Document}
 use Rattle.adm_host.specs.declared.document.Document.TheVariants as document
@@ -123,13 +123,13 @@ ran (Err f) e closed reported = subst (λ (y : Result Exit Fault). status y clos
 ran (Ok run) e closed reported = subst (λ (y : Result Exit Fault). status y closed ≢ 2) (sym reported) (run_exit run.failed (nat_lt 0 run.refused) closed)
 
 module _ {D : Type 0} {g : disk.Ghosts D} where
-  pub season_made : (image : Image) (a : Action) (file : Bor (List ℕ)) (phase : Phase) (year : ℕ) (days listed : List ℕ) (given : Given)
+  pub season_made : (held : List ℕ → Image) (a : Action) (file : Bor (List ℕ)) (phase : Phase) (year : ℕ) (days listed : List ℕ) (given : Given)
       (e : Result Exit Fault) (closed : Result (Files D) (Error × FileStore D g)) (s : SeasonFacts) → a ≡ action.Init file phase year days → listed ≡ days
       → given.input.new ≡ given.input.old → given.output.new ≡ given.output.old → (s.phase ≡ phase) × (s.year ≡ year) × IsRising listed s.holidays
-      → Creates image s e closed → Does image a given e closed
-  season_made image a file phase year days listed given e closed s is same read written facts made =
+      → Creates (held file.now) s e closed → Does (held (file_of a)) a given e closed
+  season_made held a file phase year days listed given e closed s is same read written facts made =
       let rising = subst (λ (l : List ℕ). IsRising l s.holidays) same facts.2 in
-      subst (λ (x : Action). Does image x given e closed) (sym is) (read, written, s, facts.0, facts.1, rising, made)
+      subst (λ (x : Action). Does (held (file_of x)) x given e closed) (sym is) (read, written, s, facts.0, facts.1, rising, made)
 
   created : (season : SeasonFacts) (found left : Held (FileStore D g)) (e : Result Exit Fault) (closed : Option Error) → CreatesAs season found left e
       → (status e closed ≡ 0) ⊎ (status e closed ≡ 1)

@@ -4,13 +4,13 @@ use Rattle.adm_program.proofs.run.run_action.Goals as goal
 
 pub returns-in-Ok-clause-ok : goal.returns-in-Ok-clause-ok
 returns-in-Ok-clause-ok g c =
-    rw c.in-Init.is (if_ok (λ ended made. season_made _ _ _ _ _ _ _ _ _ _ c.in-Ok.season refl c.as_slice.ensures refl refl c.in-Ok.ensures.season made) c.create.result c.create.ensures.ok)
+    if_ok (λ ended made. season_made (g.R.Registers.held c.args.files) _ _ _ _ _ _ _ _ _ c.in-Ok.season c.in-Init.is c.as_slice.ensures refl refl c.in-Ok.ensures.season made) c.create.result c.create.ensures.ok
 
 pub returns-in-Ok-clause-left : goal.returns-in-Ok-clause-left
 returns-in-Ok-clause-left g c = rw c.in-Init.is c.create.ensures.left
 
-pub returns-in-Err-clause-left : goal.returns-in-Err-clause-left
-returns-in-Err-clause-left g c = c.before_opening.ensures.left _
+pub returns-in-Init-clause-left : goal.returns-in-Init-clause-left
+returns-in-Init-clause-left g c = c.before_opening.ensures.left _
 
 pub returns-in-Do-clause-ok : goal.returns-in-Do-clause-ok
 returns-in-Do-clause-ok g c = rw c.in-Do.is c.do_lines.ensures.ok

@@ -23,7 +23,7 @@ returns-in-Err-clause-does g c =
       reads = c.in-Err.ensures.reads;
       follows = (
         record { unread = refl; unwritten = refl; untaken = refl; unlogged = refl; reported = c.refuse_arguments.ensures.reported; exits = c.code.ensures ∙ ap exit_code c.refuse_arguments.ensures.exit },
-        c.leave_unopened.ensures,
+        c.leave.ensures,
       );
     }
 
