@@ -1029,7 +1029,8 @@ Dear parent or carer,
 A place at Elm School is offered to Ann Abel. It is the second preference of your application.
 What you need to do
 Please tell us by 17 March 2025 whether you accept or decline this place. If you accept it you
-remain on the waiting list named below. If you decline it, it cannot be offered to you again.
+remain on the waiting list named below. If you decline it, it is not offered to you again unless
+you apply for it anew.
 How places were allotted
 A school with more applications than places ranks children by its published criteria, then by the
 straight-line distance from home to school, then by a lot drawn under independent supervision. It
