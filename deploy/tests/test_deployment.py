@@ -1,5 +1,6 @@
 """The lines of docs/DEPLOYMENT.md: that bash reads them, that each command has the options that are
 named, and those that need neither root nor systemd, run in a folder in place of the machine."""
+import datetime
 import gzip
 import os
 import pathlib
@@ -245,8 +246,12 @@ def test_a_copy_is_kept_under_a_name_that_is_free(at: Machine) -> None:
     at.write(f"{BACKUPS}/{COPY.replace('.db', '.tar')}", "people")
     [lines] = blocks_of("Keep a copy")
     folder = at.room / BACKUPS
-    assert at.run(lines) == (
-        0, f"kept: {folder}/before-round-1.db, with its people in before-round-1.tar\n")
+    # (the time of the file is that of the nightly copy)
+    os.utime(folder / COPY, (1741000000, 1741000000))
+    status, text = at.run(lines)
+    said = f"kept: {folder}/before-round-1.db, with its people in before-round-1.tar; TIME="
+    moment = datetime.datetime.fromtimestamp(1741000000).isoformat()
+    assert (status, text) == (0, f"{said}{moment}\n")
     kept = [folder / f"before-round-1.{it}" for it in ("db", "tar")]
     assert [it.read_text(encoding="utf-8") for it in kept] == ["the register", "people"]
     assert at.called() == [
@@ -293,11 +298,11 @@ def test_a_register_is_restored_and_what_it_lacks_sent_again(at: Machine) -> Non
     register = at.write(f"var/lib/admissions/{NAME}/reg.db", "damaged")
     at.write(f"{BACKUPS}/{COPY}", '{"child":0}\n')
     at.history(f"var/lib/admissions-office/{NAME}/history.jsonl", 1, 2)
-    restore, people = blocks_of("Restore on this machine")
+    restore, people, back = blocks_of("Restore on this machine")
     assert at.run(restore, COPY="nightly-x.db")[0] != 0 and at.called() == []
     assert at.run(restore) == (0, f"{at.room}/{BACKUPS}/{COPY}\n")
     assert at.called() == CLOSES
-    printed, send, _, copied = blocks_of("Send again what a copy lacks")
+    printed, send, copied = blocks_of("Send again what a copy lacks")
     status, text = at.run(printed + send)
     assert (status, text.split()[0], text.splitlines()[-1]) == (0, "2", "all are done")
     assert register.read_text(encoding="utf-8") == '{"child":0}\n' + "".join(
@@ -323,32 +328,64 @@ def test_a_register_is_restored_and_what_it_lacks_sent_again(at: Machine) -> Non
     at.write(f"{office}/office.db", "people of then")
     assert at.run(people)[0] == 1 and at.called() == []
     assert at.content(f"{office}/aside")["office.db"] == b"people of now"
+    # (those of now are brought back, once)
+    assert at.run(back)[0] == 0
+    assert at.content(office) == {
+        "history.jsonl": (at.room / office / "history.jsonl").read_bytes(),
+        "office.db": b"people of now", "office.db-wal": b"log of now"}
+    assert at.run(back)[0] != 0 and (at.room / office / "office.db").exists()
+    # (a set-up that fails leaves the office closed, too)
+    at.write("bin/admissions-setup", "#!/bin/bash\nexit 1\n")
+    assert (at.run(people)[0], at.called()) == (1, [OFFICE_ENDS, *CLOSES])
 
 
 def test_an_import_is_sent_again_between_the_commands(at: Machine) -> None:
-    """By the lines that replace one of the block, with the number that admissions-sent names."""
+    """By the numbers in the names of their files, each once; one whose file was removed is not."""
     register = at.write(f"var/lib/admissions/{NAME}/reg.db", "")
     path = at.history(f"var/lib/admissions-office/{NAME}/history.jsonl", 1)
-    record = History(str(path), lambda: "2025-03-03T10:00:00.000+00:00")
-    of = record.add("jane", SENDS, {"import": "rows\n"}).number
-    record.add("jane", ANSWER, {"of": of, "answer": {"done": True}})
-    record.close()
+    for rows in ("rows\n", "other rows\n", "wrong rows\n"):
+        record = History(str(path), lambda: "2025-03-03T10:00:00.000+00:00")
+        of = record.add("jane", SENDS, {"import": rows}).number
+        record.add("jane", ANSWER, {"of": of, "answer": {"done": True}})
+        record.close()
     at.history(path.relative_to(at.room).as_posix(), 2, 3)
-    printed, send, between, _ = blocks_of("Send again what a copy lacks")
+    printed, send, copied = blocks_of("Send again what a copy lacks")
     assert "after 1 of the printed commands" in at.run(printed)[1]
-    # (the page's example is after 57 of them)
-    lines, count = re.subn(r"(?m)^send .*\n", between.replace("57", "1"), send)
-    assert count == 1
+    folder = at.room / AGAIN / "rows"
+    assert sorted(it.name for it in folder.iterdir()) == ["1-2.csv", "1-3.csv", "1.csv"]
+    (folder / "1-3.csv").unlink()
     # (the command before the import fails, and nothing behind it is sent)
     at.write("fails", '"child":1')
-    assert at.run(lines) == (1, NOT_ALL)
+    assert at.run(send) == (1, NOT_ALL)
     assert register.read_text(encoding="utf-8") == ""
+    # (a command behind it fails: the import is done, and not repeated)
+    at.write("fails", '"child":3')
+    assert at.run(send) == (1, NOT_ALL)
+    assert at.run(copied)[0] == 1
     (at.room / "fails").unlink()
-    status, text = at.run(lines)
-    assert (status, text) == (0, "all are done\n")
+    assert at.run(send) == (0, "all are done\n")
     assert register.read_text(encoding="utf-8").splitlines() == [
-        '{"child":1,"cmd":"accept"}', "rows", '{"child":2,"cmd":"accept"}',
+        '{"child":1,"cmd":"accept"}', "rows", "other rows", '{"child":2,"cmd":"accept"}',
         '{"child":3,"cmd":"accept"}']
+    assert at.run(copied) == (0, "")
+
+
+def test_an_import_that_fails_behind_all_commands_is_not_sent(at: Machine) -> None:
+    """The office stays closed, and no copies are made."""
+    at.write(f"var/lib/admissions/{NAME}/reg.db", "")
+    at.write(f"{AGAIN}/commands", '{"child":1}\n')
+    at.write(f"{AGAIN}/rows/1.csv", "rows\n")
+    _, send, copied = blocks_of("Send again what a copy lacks")
+    program = at.room / "bin/admissions"
+    whole = program.read_text(encoding="utf-8")
+    at.write("bin/admissions", whole.replace('import) cat "$3" >> "$2" ;;', "import) exit 3 ;;"))
+    assert at.run(send) == (3, NOT_ALL)
+    assert at.called() == CLOSES
+    status, text = at.run(copied)
+    assert (status, "nothing was copied" in text, at.called()) == (1, True, [])
+    at.write("bin/admissions", whole)
+    assert at.run(send) == (0, "all are done\n")
+    assert at.run(copied) == (0, "") and not (at.room / AGAIN).exists()
 
 
 def test_sending_that_fails_keeps_the_office_closed_and_goes_on(at: Machine) -> None:
@@ -356,10 +393,11 @@ def test_sending_that_fails_keeps_the_office_closed_and_goes_on(at: Machine) -> 
     was emptied changes no number."""
     register = at.write(f"var/lib/admissions/{NAME}/reg.db", "")
     at.history(f"var/lib/admissions-office/{NAME}/history.jsonl", 1, 2, 3, 4)
-    printed, send, _, copied = blocks_of("Send again what a copy lacks")
+    printed, send, copied = blocks_of("Send again what a copy lacks")
     assert at.run(send)[0] == 1 and at.called() == []
     # (nor of a register that this machine does not have)
     at.write("run/again/primary-2026/commands", "")
+    (at.room / "run/again/primary-2026/rows").mkdir()
     assert at.run(send, NAME="primary-2026")[0] == 1 and at.called() == []
     assert at.run(printed)[0] == 0
     page = " ".join(PAGE.split())
@@ -420,7 +458,7 @@ def test_what_is_to_be_sent_is_printed_once_and_for_each_register_apart(at: Mach
 def test_a_machine_that_is_opened_by_nothing_says_that_all_is_sent(at: Machine) -> None:
     at.write(f"var/lib/admissions/{NAME}/reg.db", "")
     at.history(f"var/lib/admissions-office/{NAME}/history.jsonl", 1)
-    printed, send, _, _ = blocks_of("Send again what a copy lacks")
+    printed, send, _ = blocks_of("Send again what a copy lacks")
     assert at.run(printed)[0] == 0
     at.write("bin/systemctl", "#!/bin/bash\n[ $1 != start ]\n")
     assert at.run(send) == (1, "all is sent, and the office is closed\n")
@@ -429,15 +467,18 @@ def test_a_machine_that_is_opened_by_nothing_says_that_all_is_sent(at: Machine) 
 def test_an_earlier_release_opens_its_office_after_all_is_sent(at: Machine) -> None:
     """Set-up opens it, also one that fails; and it is closed at once."""
     [lines] = blocks_of("Go back to an earlier release")
-    assert at.run(lines)[0] != 0 and at.called() == []
     for end in ("db", "tar"):
-        at.write(f"mnt/kept/{NAME}/{BACKUPS}/before-upgrade.{end}", "a copy")
-    assert at.run(lines)[0] == 0
+        at.write(f"mnt/kept/{NAME}/{BACKUPS}/before-0.3.0.{end}", "a copy")
+    # (none is taken that was not named)
+    assert at.run(lines) == (1, "COPY is no name of a copy: nothing was made\n")
+    assert at.run(lines, COPY="before-0.2.0.db")[0] != 0 and at.called() == []
+    named = {"COPY": "before-0.3.0.db"}
+    assert at.run(lines, **named)[0] == 0
     setup, *closes = at.called()
-    assert setup.startswith(f"admissions-setup {NAME} --copy /mnt/kept/{NAME}/{BACKUPS}/before")
+    assert setup.startswith(f"admissions-setup {NAME} --copy /mnt/kept/{NAME}/{BACKUPS}/before-0")
     assert closes == [OFFICE_ENDS]
     at.write("bin/admissions-setup", "#!/bin/bash\nexit 1\n")
-    assert (at.run(lines)[0], at.called()) == (1, [OFFICE_ENDS])
+    assert (at.run(lines, **named)[0], at.called()) == (1, [OFFICE_ENDS])
 
 
 def test_a_move_makes_its_last_copy_once_the_office_is_closed(at: Machine) -> None:
@@ -510,14 +551,17 @@ def test_the_second_place_of_a_machine_in_use_is_not_switched_off(
 def test_a_rehearsal_is_cleared_where_it_was_and_nowhere_else(at: Machine) -> None:
     _, clear = blocks_of("Rehearse a takeover")
     path = at.write("etc/admissions/second-copy", "/mnt/copies\n")
-    assert at.run(clear)[0] == 1 and at.called() == []
+    identity = at.write("etc/admissions/second-copy-identity", "secret")
+    assert at.run(clear)[0] == 1 and at.called() == [] and identity.exists()
     path.write_text("none\n", encoding="utf-8")
     # (a question that was not answered, and another register that was rehearsed too)
     at.write("bin/admissions-retire", "#!/bin/bash\nexit 1\n")
     assert at.run(clear)[0] == 1 and path.read_text(encoding="utf-8") == "none\n"
+    assert identity.exists()
     at.write("bin/admissions-retire", f"#!/bin/bash\n{STANDS_IN['admissions-retire']}\n")
     other = at.write("var/lib/admissions/primary-2026/reg.db", "a register")
     assert at.run(clear)[0] == 0 and path.read_text(encoding="utf-8") == "none\n"
+    assert not identity.exists()
     other.unlink()
     assert at.run(clear)[0] == 0 and path.read_text(encoding="utf-8") == ""
     assert at.called() == 2 * [f"admissions-retire {NAME} --early rehearsal of a takeover"]
@@ -534,19 +578,39 @@ def test_a_wrong_takeover_is_deleted_on_the_machine_that_is_named(at: Machine) -
 def test_a_site_gets_another_name_and_keeps_its_key(at: Machine) -> None:
     """Also where it was begun and interrupted, and pasted again."""
     settings = f"etc/admissions/{NAME}"
-    [lines] = blocks_of("Another name of the site")
+    ask, page = blocks_of("Another name of the site")
     for it in ("key", "crt", "csr"):
         at.write(f"{settings}/site.{it}", it)
+    # (no name is taken that was not given)
+    assert at.run(page) == (1, "HOST is no name of a site: nothing was changed\n")
+    assert at.run(ask)[0] == 1 and at.called() == []
+    host = {"HOST": "admissions.authority.example"}
     at.write(f"{settings}/site-name", "old.example\n")
     (at.room / settings / "site.crt").rename(at.room / settings / "old.example.crt")
-    assert at.run(lines) == (0, "")
+    assert at.run(page, **host) == (0, "")
     wanted = {"site.key": b"key", "old.example.crt": b"crt", "old.example.csr": b"csr",
               "site-name": b"admissions.authority.example\n"}
     assert at.content(settings) == wanted
     assert at.called() == [f"admissions-setup {NAME}"]
     at.write(f"{settings}/site.crt", "of a CA")
-    assert at.run(lines) == (0, "")
+    assert at.run(page, **host) == (0, "")
     assert at.content(settings) == wanted | {"site.crt": b"of a CA"}
+
+
+def test_a_request_of_the_new_name_is_of_the_key_that_is_there(at: Machine) -> None:
+    """So that a CA can sign it before the name is changed."""
+    key = at.room / f"etc/admissions/{NAME}/site.key"
+    key.parent.mkdir(parents=True)
+    subprocess.run(["openssl", "genpkey", "-algorithm", "EC", "-pkeyopt",
+                    "ec_paramgen_curve:P-256", "-out", key], check=True, capture_output=True)
+    lines = blocks_of("Another name of the site")[0]
+    status, request = at.run(lines, HOST="new.example")
+    shown = subprocess.run(["openssl", "req", "-noout", "-text", "-pubkey"], input=request,
+                           capture_output=True, text=True, check=True).stdout
+    public = subprocess.run(["openssl", "pkey", "-in", key, "-pubout"], capture_output=True,
+                            text=True, check=True).stdout
+    assert (status, "DNS:new.example" in shown, public in shown) == (0, True, True)
+    assert [it.name for it in key.parent.iterdir()] == ["site.key"]
 
 
 # in place of the one that takes a certificate: it keeps what was there, and removes the request of
@@ -658,6 +722,9 @@ def test_a_register_is_moved_away_and_brought_back(at: Machine) -> None:
     away, back = blocks_of("Move a register away")
     assert at.run(away)[0] == 1 and [at.content(it) for it in names] == before
     (at.room / "mnt/kept").mkdir()
+    assert at.run(away, NAME="secondary-2052") == (
+        1, "no register secondary-2052 is here: nothing was moved\n")
+    assert at.called() == [] and not list((at.room / "mnt/kept").iterdir())
     at.write(f"{names[2]}.moved/of", "what an interrupted run has left")
     assert at.run(away)[0] == 0
     assert not [it for it in names if list(at.room.glob(f"{it}*"))] and not site.exists()
@@ -709,10 +776,16 @@ def test_each_person_gets_a_new_password(at: Machine) -> None:
     """Also behind one whose line reads what is typed."""
     lines = blocks_of("Somebody has broken in")[1]
     assert at.run(lines)[0] == 0
-    path = at.room / "run/passwords"
+    path = at.room / f"run/passwords-{NAME}"
+    before = path.read_bytes()
     assert path.read_text(encoding="utf-8").splitlines() == [
         f"{it} signs in at https://x/ with the password of-{it}" for it in ("jane", "robot")]
-    assert path.stat().st_mode & 0o777 == 0o600 and not (at.room / "run/people").exists()
+    assert path.stat().st_mode & 0o777 == 0o600
+    assert [it.name for it in (at.room / "run").iterdir()] == [path.name]
+    # (those that are not handed over yet stay, also where another register gets its own)
+    status, text = at.run(lines)
+    assert (status, "no password was drawn" in text, path.read_bytes()) == (1, True, before)
+    assert at.run(lines, NAME="primary-2026")[0] == 0 and path.read_bytes() == before
 
 
 LATER = "nightly-000013-2025-03-04T023000.db"
