@@ -237,17 +237,16 @@ def copied(office: Site) -> None:
     """
     folder = office.parts.copies.folder
     with office.parts.store.writing() as db:
-        db.execute("UPDATE copy SET number=2 WHERE number=1")
-        db.execute("UPDATE draw SET copy_before=2")
         for at, (purpose, who, asked_at) in enumerate(COPIES, 1):
             name = COPY.replace("000001", f"{at:06}")
             if at > 1:
                 shutil.copy(folder / COPY, folder / name)
             db.execute("INSERT INTO copy (number, purpose, asked, name, size, who) VALUES"
                        " (?, ?, ?, ?, 81920, ?) ON CONFLICT (number) DO UPDATE SET"
-                       " name=excluded.name, asked=excluded.asked, size=excluded.size,"
+                       " purpose=excluded.purpose, asked=excluded.asked, size=excluded.size,"
                        " who=excluded.who",
                        (at, purpose, asked_at, name, who))
+        db.execute("UPDATE draw SET copy_before=2")
 
 
 def late_added(office: Site) -> None:
