@@ -989,7 +989,7 @@ EXTENDS = "    adm_commands::propose: extends\n    adm_commands::propose: school
     ("README.md: All or nothing\n",
      "README.md: A lie\n  It\n    limit\nREADME.md: All or nothing\n",
      "no promise begins so: README.md: A lie"),
-    ("  Nor does a child with a place\n", "  Nor do others\n", "are not the first words of its 3"),
+    ("  Nor does a child with a place\n", "  Nor do others\n", "are not the first words of its 4"),
     ("    adm_command_laws::no_better_list\n", "    limit\n    adm_command_laws::no_better_list\n",
      "or 'limit' beside one"),
     ("    adm_command_laws::no_better_list\n", "", "no clause, or 'limit'"),
