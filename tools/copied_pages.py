@@ -6,19 +6,24 @@ from collections.abc import Callable
 from html import escape
 from pathlib import Path
 
-# beside README.md, CONTRIBUTING.md and docs/*.md
+# beside README.md, CHANGELOG.md, CONTRIBUTING.md, COPYING and docs/*.md
 LISTS = ("bench/RESULTS.md", "crates.txt", "debian/ported.tsv", "tools/claims.txt",
          "tools/expected", "tools/mutants", "tools/notation_words.json", "tools/proved_source.py",
          "tools/test", "tools/unit", "tools/verdict_words.json")
 # what is no text to look for names in: marks, and what is within these
 MARKED = re.compile(r"(?s)(<(a|pre|title|style|svg)\b.*?</\2>|<[^>]*>)")
-LINK = re.compile(r"\[([^\]\n]*)\]\(([^)\s#]*)(#[^)\s]*)?\)")
+# (its words may go over an end of line, and not over an empty line)
+LINK = re.compile(r"\[((?:[^\]\n]|\n(?!\n))*)\]\(([^)\s#]*)(#[^)\s]*)?\)")
+# (a picture is not copied: its words are)
+PICTURE = re.compile(r"!\[([^\]]*)\]\([^)]*\)")
+# in a page of Markdown: a block of code; a heading
+BLOCK, HEADING = re.compile(r"(?ms)(^```.*?^```$)"), re.compile(r"(?m)^(#.*)$")
 
 
 def names() -> list[str]:
     """The files that are copied."""
-    return ["README.md", "CONTRIBUTING.md", *sorted(str(it) for it in Path("docs").glob("*.md")),
-            *LISTS]
+    pages = sorted(str(it) for it in Path("docs").glob("*.md"))
+    return ["README.md", "CHANGELOG.md", "CONTRIBUTING.md", "COPYING", *pages, *LISTS]
 
 
 def page_of(name: str) -> str:
@@ -49,7 +54,7 @@ def with_links(text: str, name: str, root: str = "") -> str:
             return found[0]
         return f'<a href="{root}{page_of(target)}{found[3] or ""}">{found[1]}</a>'
 
-    return LINK.sub(link, escape(text, quote=False))
+    return LINK.sub(link, PICTURE.sub(r"(a picture: \1)", escape(text, quote=False)))
 
 
 def text_of(name: str, anchor_of: Callable[[str], str]) -> str:
@@ -57,10 +62,12 @@ def text_of(name: str, anchor_of: Callable[[str], str]) -> str:
     text = Path(name).read_text(encoding="utf-8")
     if not name.endswith(".md"):
         return escape(text, quote=False)
-    lines, is_code = [], False
-    for line in text.split("\n"):
-        is_code ^= line.startswith("```")
-        shown = escape(line, quote=False) if is_code else with_links(line, name)
-        is_heading = line.startswith("#") and not is_code
-        lines.append(f'<strong id="{anchor_of(line)}">{shown}</strong>' if is_heading else shown)
-    return "\n".join(lines)
+    shown = []
+    for at, part in enumerate(BLOCK.split(text)):
+        # (each block of code is between two parts of prose, and each heading likewise)
+        for within, it in enumerate(HEADING.split(part) if at % 2 == 0 else []):
+            line = with_links(it, name)
+            shown.append(f'<strong id="{anchor_of(it)}">{line}</strong>' if within % 2 else line)
+        if at % 2:
+            shown.append(escape(part, quote=False))
+    return "".join(shown)

@@ -146,8 +146,11 @@ class Planted:
         bare = self.reference.blank(text, "//")
         head = HEAD_END.search(bare, part.start)
         one = self.reference.Item(crate=crate, anchor="", bound=[])
-        return list(self.project.read_clauses(
-            one, text, bare, head.start() if head else len(bare), None))
+        found = list(self.project.read_clauses(
+            one, text, bare, head.start() if head else len(bare), self.reference.Scope(text)))
+        for it in found:
+            it.names = list(dict.fromkeys(used for _, _, used in self.project.named(it)))
+        return found
 
     def attacked(self, crate: str, edits: list[Edit]) -> Iterator[dict[str, Any]]:
         """What the edits of a mutant attack, each once: functions; if there is none, items; of
