@@ -271,7 +271,7 @@ export const words = {
   },
   "RowDiffers": {
    "means": "the register has the child of the row with other data: the file was changed, a number is used twice, or the child was entered in another way, such as on the screen Register",
-   "do": "if the number is another child's, give the row another number; if it is the same child, correct its data (amend), and withdraw the row on the screen Applications, or leave it in a file for import as it was imported; its schools and its day cannot be corrected"
+   "do": "if the number is another child's, give the row another number; if it is the same child, correct its data (amend), and withdraw the row on the screen Applications (in a file for the command import, leave it as it was imported); its schools and its day cannot be corrected"
   },
   "AlreadyReminded": {
    "means": "the offer of {school} to {child} has a reminder already",
