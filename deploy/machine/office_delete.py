@@ -6,14 +6,15 @@ application has asked.
 The request is the day of deletion as a number, as 20260131, in the file
 `requests/delete` in the application's folder. It must be the one in
 /etc/admissions/NAME/deletion-day (see office-deletion-day), and must have come
-by the clock of this machine; otherwise nothing is done. The desk, the backups
-and the drills of the register NAME are stopped and do not start again. All
-files in /var/lib/admissions/NAME and /var/backups/admissions/NAME are deleted:
-the register with its log, what was kept beside it, all copies, with the people
-and the history. The record stays in /etc/admissions/NAME/deleted. The answer is
-in `requests/delete.done`: how many files and bytes, and what remains to be
-deleted by hand at the second place; or an error. Where this command is killed,
-the request stays, and is done to its end.
+by the clock of this machine; otherwise nothing is done. The desk, the backups,
+the second copies and the drills of the register NAME are stopped and do not
+start again. All files in /var/lib/admissions/NAME and
+/var/backups/admissions/NAME are deleted: the register with its log, what was
+kept beside it, all copies, with the people and the history. The record stays in
+/etc/admissions/NAME/deleted. The answer is in `requests/delete.done`: how many
+files and bytes, and what remains to be deleted by hand at the second place; or
+an error. Where this command is killed, the request stays, and is done to its
+end.
 
 example:
   office-delete secondary-2025
@@ -105,13 +106,15 @@ def now() -> str:
 
 def stop(register: Register) -> None:
     """Stops for good what uses the files of a register: a backup that ends, or is stopped, starts
-    the second copy and the desk, so these follow it.
+    the second copy and the desk, so these follow it. One that has failed is forgotten, as it
+    concerns nothing any more.
     """
     name, systemctl = register.name, tool("systemctl", "systemd")
-    timers = [f"admissions-{it}@{name}.timer" for it in ("backup", "drill")]
-    call(systemctl, "disable", "--now", *timers)
-    for it in ("backup", "second-copy", "drill"):
+    jobs = ("backup", "second-copy", "drill")
+    call(systemctl, "disable", "--now", *(f"admissions-{it}@{name}.timer" for it in jobs))
+    for it in jobs:
         call(systemctl, "stop", f"admissions-{it}@{name}.service")
+        call(systemctl, "reset-failed", f"admissions-{it}@{name}.service", may_fail=True)
     call(systemctl, "disable", "--now", office_requests.unit_of(register))
 
 

@@ -26,6 +26,9 @@ from register_files import Refused
 NAME = "Zoë Searched-For"
 # as UTF-8, and as JSON that is ASCII alone
 FORMS = (NAME.encode(), json.dumps(NAME)[1:-1].encode())
+NAMES = ("secondary-2025", "primary-2026")
+# what has a timer
+JOBS = ("backup", "second-copy", "drill")
 TODAY, LAST = datetime.date(2026, 1, 10), datetime.date(2025, 12, 31)
 TEXT = f'{{"cmd":"add_child","name":"{NAME}"}}\n'.encode()
 
@@ -145,7 +148,11 @@ def register_fixture(
     """A machine with two registers, of which each has a file of every kind."""
     for name in ("log", "mnt", "sites"):
         (machine / name).mkdir()
-    for register in ("secondary-2025", "primary-2026"):
+    wanted = machine / "units/timers.target.wants"
+    wanted.mkdir(parents=True)
+    for register in NAMES:
+        for job in JOBS:
+            (wanted / f"admissions-{job}@{register}.timer").symlink_to("/usr/lib/systemd/system")
         for folder, made in FILES.items():
             for name, make in made.items():
                 path = machine / folder / register / name
@@ -168,6 +175,8 @@ def register_fixture(
     def called(*arguments: object, **more: typing.Any) -> typing.Any:
         if arguments[0] == "systemctl":
             calls.append(tuple(map(str, arguments[1:])))
+            for unit in calls[-1] if calls[-1][0] == "disable" else ():
+                (wanted / unit).unlink(missing_ok=True)
             return None
         return call(*arguments, **more)
 
@@ -226,11 +235,26 @@ def test_the_units_are_stopped_before_the_first_file_is_gone(
     assert run() == 0
     assert seen and set(seen) == {len(calls)}
     words = [word for call in calls for word in call]
-    named = [f"admissions-{it}@{register.name}.timer" for it in ("backup", "drill")]
-    for unit in (f"admissions@{register.name}.service", *named, *status.office_units(register)):
+    for unit in (f"admissions@{register.name}.service", *status.office_units(register)):
         assert unit in words
-    assert {call[:2] for call in calls if "stop" not in call} == {("disable", "--now")}
+    assert {call[:2] for call in calls if call[0] not in ("stop", "reset-failed")} == {
+        ("disable", "--now")}
     assert not any("primary" in word for word in words)
+
+
+def test_no_timer_starts_a_unit_of_the_register_afterwards(
+    register: registers.Register, machine: pathlib.Path, calls: list[tuple[str, ...]]
+) -> None:
+    """Nor that of copies by the hour, which an administrator has enabled; and no unit that had
+    failed is still named by systemd."""
+    wanted = machine / "units/timers.target.wants"
+    assert {it.name for it in wanted.iterdir()} == {
+        f"admissions-{it}@{name}.timer" for it in JOBS for name in NAMES}
+    assert run() == 0
+    assert {it.name for it in wanted.iterdir()} == {
+        f"admissions-{it}@primary-2026.timer" for it in JOBS}
+    failed = {word for call in calls if call[0] == "reset-failed" for word in call[1:]}
+    assert failed == {f"admissions-{it}@{register.name}.service" for it in JOBS}
 
 
 def test_what_remains_at_the_second_place_is_named_and_deleted_later(

@@ -837,16 +837,20 @@ def test_no_unit_that_a_deletion_stops_starts_another(monkeypatch: pytest.Monkey
     desk, backup, second = (
         f"admissions{it}@{NAME}.service" for it in ("", "-backup", "-second-copy"))
     for it in ("admissions@.service", *(f"admissions-{it}@.{kind}" for it, kind in (
-            ("backup", "timer"), ("backup", "service"), ("second-copy", "service"),
-            ("drill", "timer"), ("drill", "service")))):
+            ("backup", "timer"), ("backup", "service"), ("second-copy", "timer"),
+            ("second-copy", "service"), ("drill", "timer"), ("drill", "service")))):
         assert (units / it).exists()
         running.add(it.replace("@", f"@{NAME}"))
     assert {"OnFailure=admissions@%i.service",
             "OnSuccess=admissions@%i.service admissions-second-copy@%i.service"} <= set(
         (units / "admissions-backup@.service").read_text("utf-8").splitlines())
 
-    def call(*given: object) -> None:
-        assert given[0] == "systemctl" and given[1] in ("disable", "stop")
+    def call(*given: object, may_fail: bool = False) -> None:
+        assert given[0] == "systemctl"
+        if given[1] == "reset-failed":
+            assert may_fail and not running.intersection(given)
+            return
+        assert given[1] in ("disable", "stop")
         started = {desk, second} if backup in running.intersection(given) else set()
         running.difference_update(map(str, given))
         running.update(started)
