@@ -5,12 +5,13 @@
 It stops and disables the units of the register NAME, and deletes its files:
 the register with its log, all copies, the office's application with people,
 history, letters and files of children, logs of earlier versions, the site,
-its key and its settings. The last day of its waiting lists must have passed;
---early deletes it before that, for a reason that is kept. With --second-place
-its folder at the second place is deleted too; otherwise the command names
-what remains there. What stays is the record, /etc/admissions/NAME/deleted:
-when, by whom, how many files and bytes, and what remains. It has nothing of a
-child.
+its key and its settings, and the right to the network that --accounts of
+admissions-setup gave its application. The last day of its waiting lists must
+have passed; --early deletes it before that, for a reason that is kept. With
+--second-place its folder at the second place is deleted too; otherwise the
+command names what remains there. What stays is the record,
+/etc/admissions/NAME/deleted: when, by whom, how many files and bytes, and what
+remains. It has nothing of a child.
 
 The command shows what it will delete, with the names of this machine and of the
 site, and asks for the name of the register; without a terminal --yes confirms.
@@ -34,7 +35,7 @@ import tempfile
 
 from register_files import Refused
 
-from . import deletion, files, office_delete, people, second_copy, sites
+from . import deletion, files, office_delete, people, second_copy, setup, sites
 from .programs import USER, call, is_booted, tool
 from .registers import Register, named, stored
 from .status import office_units
@@ -77,7 +78,8 @@ def anything(register: Register) -> bool:
     settings = register.settings
     beside = [it for it in settings.iterdir() if it != deletion.record_place(register)] if (
         settings.is_dir()) else []
-    places = (register.folder, register.copies, *folders_of(register), *site_of(register))
+    places = (register.folder, register.copies, *folders_of(register), *site_of(register),
+              setup.outside_of(register))
     return bool(beside) or any(map(os.path.lexists, places))
 
 
@@ -149,6 +151,7 @@ def retired(register: Register, given: argparse.Namespace) -> dict[str, str]:
     for it in (register.folder, register.copies, *folders_of(register)):
         if it.is_dir():
             it.rmdir()
+    keep_in(register)
     remove_site(register)
     for it in register.settings.iterdir():
         if it != deletion.record_place(register):
@@ -167,6 +170,15 @@ def stop(register: Register) -> None:
     if is_booted():
         call(tool("systemctl", "systemd"), "disable", "--now", *office_units(register))
         office_delete.stop(register)
+
+
+def keep_in(register: Register) -> None:
+    """Takes back the right of its application to the network, which a later register of this name
+    would have."""
+    if os.path.lexists(setup.outside_of(register)):
+        setup.keep_in(register)
+        if is_booted():
+            call(tool("systemctl", "systemd"), "daemon-reload")
 
 
 def remove_site(register: Register) -> None:

@@ -528,22 +528,34 @@ def set_accounts(register: Register, name: str) -> int:
     """Signs people in by the accounts of the authority, or no more; and lets the application out
     into the network only for that."""
     text = "" if name == answers.NONE else pathlib.Path(answers.file(name)).read_text("utf-8")
-    unit = f"admissions-office@{register.name}.service"
-    path = UNITS / f"{unit}.d" / "accounts.conf"
+    path = outside_of(register)
     with files.lock():
         people.set_provider(register, text)
         if text:
             path.parent.mkdir(exist_ok=True)
             files.write(path, OUTSIDE, 0o644)
         else:
-            path.unlink(missing_ok=True)
+            keep_in(register)
         if is_booted():
             control = tool("systemctl", "systemd")
             call(control, "daemon-reload")
-            call(control, "try-restart", unit)
+            call(control, "try-restart", f"admissions-office@{register.name}.service")
     print(f"{register.name}: people sign in by the accounts of the authority" if text
           else f"{register.name}: people sign in with their passwords alone")
     return 0
+
+
+def outside_of(register: Register) -> pathlib.Path:
+    """The file that lets the application of a register out into the network."""
+    return UNITS / f"admissions-office@{register.name}.service.d" / "accounts.conf"
+
+
+def keep_in(register: Register) -> None:
+    """Removes that file, and its folder where an administrator has no other file in it."""
+    path = outside_of(register)
+    path.unlink(missing_ok=True)
+    if path.parent.is_dir() and not any(path.parent.iterdir()):
+        path.parent.rmdir()
 
 
 def office_units(register: Register) -> list[str]:

@@ -19,7 +19,7 @@ from collections.abc import Iterator
 
 import pytest
 from machine import (
-    deletion, files, office_delete, programs, registers, retire, second_copy, sites, status
+    deletion, files, office_delete, programs, registers, retire, second_copy, setup, sites, status
 )
 from register_files import Refused
 
@@ -166,6 +166,7 @@ def register_fixture(
     monkeypatch.setattr(sites, "ENABLED", machine / "sites")
     monkeypatch.setattr(sites, "AVAILABLE", machine / "available")
     monkeypatch.setattr(sites, "MODEL", machine / "sites/admissions")
+    monkeypatch.setattr(setup, "UNITS", machine / "units")
     monkeypatch.setattr(deletion, "today", lambda: TODAY)
     monkeypatch.setattr(retire, "USER", pwd.getpwuid(os.geteuid()).pw_name)
     monkeypatch.setattr(
@@ -255,6 +256,44 @@ def test_no_timer_starts_a_unit_of_the_register_afterwards(
         f"admissions-{it}@primary-2026.timer" for it in JOBS}
     failed = {word for call in calls if call[0] == "reset-failed" for word in call[1:]}
     assert failed == {f"admissions-{it}@{register.name}.service" for it in JOBS}
+
+
+ACCOUNTS = {"title": "Council account", "issuer": "https://id.example", "client": "admissions",
+            "secret": "of the two"}
+
+
+def test_a_later_register_of_the_name_has_no_right_to_the_network(
+    register: registers.Register, machine: pathlib.Path, calls: list[tuple[str, ...]],
+    monkeypatch: pytest.MonkeyPatch,
+) -> None:
+    """That which the accounts of the authority gave its application, with their secret, which is in
+    its file. What an administrator has changed of the unit stays, and so does another register's
+    right."""
+    given = machine / "accounts.json"
+    given.write_text(json.dumps(ACCOUNTS), encoding="utf-8")
+    with monkeypatch.context() as patch:
+        patch.setattr(setup, "is_booted", lambda: False)
+        for it in map(registers.Register, NAMES):
+            for path in it.office.glob("office.db*"):
+                path.unlink()
+            assert setup.set_accounts(it, str(given)) == 0
+    own, other = (setup.outside_of(registers.Register(it)) for it in NAMES)
+    assert own.exists() and other.exists()
+    assert any(b"of the two" in it.read_bytes() for it in register.office.glob("office.db*"))
+    changed = own.with_name("override.conf")
+    changed.write_text("[Service]\nMemoryMax=4G\n", encoding="ascii")
+    assert run("--second-place") == 0
+    assert calls[-1] == ("daemon-reload",)
+    assert (own.exists(), changed.exists(), other.exists()) == (False, True, True)
+    assert not [it for it in machine.rglob("*") if register.name in str(it) and it.is_file()
+                and b"of the two" in it.read_bytes()]
+    # (as an earlier release has left it)
+    changed.unlink()
+    own.write_text(setup.OUTSIDE, encoding="ascii")
+    before = deletion.record_of(register)
+    assert run("--second-place") == 0 and not own.parent.exists()
+    after = deletion.record_of(register)
+    assert {**after, "ended": ""} == {**before, "ended": ""}
 
 
 def test_what_remains_at_the_second_place_is_named_and_deleted_later(
