@@ -61,6 +61,11 @@ def warning(register: Register) -> str | None:
     )
 
 
+def command(register: Register) -> str:
+    """What takes a certificate that a CA has signed for the key that is there."""
+    return f"admissions-setup {register.name} --certificate FILE --key {paths(register)[0]}"
+
+
 def is_self_signed(certificate: pathlib.Path) -> bool:
     names = openssl(
         "x509", "-in", certificate, "-noout", "-subject", "-issuer", "-nameopt", "RFC2253"
@@ -169,14 +174,18 @@ def public_key(*arguments: object) -> str:
     return openssl(*arguments).stdout.strip()
 
 
-def days_left(certificate: pathlib.Path) -> int:
-    """How many whole days a certificate is still valid, negative after its end."""
+def end_of(certificate: pathlib.Path) -> datetime.datetime:
+    """The moment until which a certificate is valid."""
     text = (
         openssl("x509", "-in", certificate, "-noout", "-enddate", "-dateopt", "iso_8601")
         .stdout.strip()
         .partition("=")[2]
     )
-    end = datetime.datetime.strptime(text, "%Y-%m-%d %H:%M:%SZ").replace(
+    return datetime.datetime.strptime(text, "%Y-%m-%d %H:%M:%SZ").replace(
         tzinfo=datetime.timezone.utc
     )
-    return (end - datetime.datetime.now(datetime.timezone.utc)).days
+
+
+def days_left(certificate: pathlib.Path) -> int:
+    """How many whole days a certificate is still valid, negative after its end."""
+    return (end_of(certificate) - datetime.datetime.now(datetime.timezone.utc)).days

@@ -15,9 +15,10 @@ example:
 
 exit status: 0 all is well, or the numbers are written; 1 something needs
 attention; 2 wrong arguments, or no such register; 3 an office cannot work: its
-register cannot be read, or its server or its site does not answer. With --line
-they are those of such plugins: 0 all is well; 1 (WARNING) something needs
-attention; 2 (CRITICAL) an office cannot work, or an option is wrong; 3
+register cannot be read, its server or its site does not answer, or its
+certificate is not of the site's key, or ends within a day or has ended. With
+--line they are those of such plugins: 0 all is well; 1 (WARNING) something
+needs attention; 2 (CRITICAL) an office cannot work, or an option is wrong; 3
 (UNKNOWN) it could not look, and the line says why.
 """
 import argparse
@@ -485,9 +486,14 @@ def certificate_of(register: Register) -> State:
         return True, "it has no site"
     if problem := certificates.key_problem(register):
         raise Failed(problem)
+    days = certificates.days_left(certificate)
+    if days <= 0:
+        ends = "has ended" if days < 0 else "ends"
+        moment = certificates.end_of(certificate).astimezone()
+        raise Failed(f"{register.host}, {ends} at {moment:%Y-%m-%d %H:%M}, and browsers let nobody"
+                     f" in after that: {certificates.command(register)}")
     if problem := certificates.name_problem(certificate, register.host):
         return False, problem
-    days = certificates.days_left(certificate)
     is_own = certificates.is_self_signed(certificate)
     end = datetime.date.today() + datetime.timedelta(days=days)
     unsigned = "; no authority has signed it" if is_own else ""

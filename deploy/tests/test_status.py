@@ -3,6 +3,7 @@ import argparse
 import collections
 import contextlib
 import datetime
+import json
 import os
 import pathlib
 import shutil
@@ -20,6 +21,7 @@ from office.web.store import Store
 from office_files import add_people, history, record
 from register_files import Refused
 
+NAME = "secondary-2025"
 MB = 1_000_000
 Usage = collections.namedtuple("Usage", "total used free")
 
@@ -116,7 +118,7 @@ def test_whether_copies_are_encrypted_is_said(
 
 @pytest.mark.parametrize(
     "days, is_own, is_well",
-    [(21, False, True), (20, False, False), (-1, False, False), (80, True, False)],
+    [(21, False, True), (20, False, False), (1, False, False), (80, True, False)],
 )
 def test_the_days_of_a_certificate(
     days: int,
@@ -488,6 +490,48 @@ def made_certificate(folder: pathlib.Path, host: str, *kind: str) -> None:
          f"subjectAltName=DNS:{host}", "-keyout", folder / "site.key", "-out", folder / "site.crt",
          *(kind or ("-newkey", "ec", "-pkeyopt", "ec_paramgen_curve:P-256"))],
         check=True, capture_output=True)
+
+
+@pytest.mark.parametrize("host", ["admissions.example", "other.example"])
+@pytest.mark.parametrize("days, ends", [(2, ""), (1, "ends"), (0, "has ended")])
+def test_a_certificate_has_failed_from_its_last_day_on(
+    days: int, ends: str, host: str, register: registers.Register,
+    capsys: pytest.CaptureFixture[str], monkeypatch: pytest.MonkeyPatch,
+) -> None:
+    """In each form of the report, whatever else is wrong of it; the command that takes another is
+    named."""
+    made_certificate(register.settings, host)
+    key, made = (register.settings / f"site.{it}" for it in ("key", "crt"))
+    new = register.settings / "new.crt"
+    subprocess.run(["openssl", "x509", "-in", made, "-signkey", key, "-days", str(days), "-out",
+                    new], check=True, capture_output=True)
+    new.rename(made)
+    monkeypatch.setattr(os, "geteuid", lambda: 0)
+    found = findings_of(register, "--json", capsys)
+    part = json.loads(found)["registers"][0]["parts"]["certificate"]
+    assert part["state"] == ("failed" if ends else "attention")
+    line, text = (findings_of(register, it, capsys) for it in ("--line", ""))
+    # (what has failed is before what needs attention)
+    assert (line.index(f"{NAME} certificate: ") < line.index(f"{NAME} copy: ")) == bool(ends)
+    numbers = findings_of(register, "--metrics", capsys)
+    state = f'admissions_part_state{{register="{NAME}",part="certificate"}}'
+    assert f"{state} {2 if ends else 1}" in numbers.splitlines()
+    if ends:
+        end = certificates.end_of(made).astimezone()
+        assert part["text"] == (
+            f"admissions.example, {ends} at {end:%Y-%m-%d %H:%M}, and browsers let nobody in after"
+            f" that: admissions-setup {NAME} --certificate FILE --key {key}")
+        assert f"  FAILED    certificate: {part['text']}" in text.splitlines()
+
+
+def findings_of(
+    register: registers.Register, form: str, capsys: pytest.CaptureFixture[str]
+) -> str:
+    """What admissions-status prints in this form."""
+    reader = argparse.ArgumentParser()
+    status.arguments(reader)
+    status.main(reader.parse_args([register.name, *([form] if form else [])]))
+    return capsys.readouterr().out
 
 
 @pytest.mark.parametrize("kind", [(), ("-newkey", "rsa:2048")])
