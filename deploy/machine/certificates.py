@@ -40,7 +40,7 @@ def make(register: Register, host: str) -> typing.Iterator[str]:
         yield f"made the key {key}"
     if not request.exists():
         files.write(request, openssl("req", "-new", "-key", key, *name).stdout, 0o644)
-        yield f"made the request {request}: let an authority sign it"
+        yield f"made the request {request}: let a CA sign it"
     if not certificate.exists():
         files.write(
             certificate,
@@ -52,12 +52,12 @@ def make(register: Register, host: str) -> typing.Iterator[str]:
 
 def warning(register: Register) -> str | None:
     """One line where browsers will not trust the certificate."""
-    key, certificate, request = paths(register)
+    _, certificate, request = paths(register)
     if not is_self_signed(certificate):
         return None
     return (
-        f"WARNING: no authority has signed {certificate}, so browsers warn of the site."
-        f" Let one sign {request}, and put its answer there; the key is {key}"
+        f"WARNING: {certificate}: no CA has signed it, so browsers warn of the site. Let one sign"
+        f" {request}, put its answer into FILE, and type: {command(register)}"
     )
 
 

@@ -134,7 +134,7 @@ def arguments(reader: argparse.ArgumentParser) -> None:
     add(
         "--certificate",
         metavar="FILE",
-        help="the certificate of the site, with those between it and its authority",
+        help="the certificate of the site, with those between it and the root of its CA",
     )
     add("--key", metavar="FILE", help="its key")
     add(

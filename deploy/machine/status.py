@@ -496,6 +496,6 @@ def certificate_of(register: Register) -> State:
         return False, problem
     is_own = certificates.is_self_signed(certificate)
     end = datetime.date.today() + datetime.timedelta(days=days)
-    unsigned = "; no authority has signed it" if is_own else ""
+    unsigned = "; no CA has signed it" if is_own else ""
     is_well = days >= CERTIFICATE_DAYS and not is_own
     return is_well, f"{register.host}, {days} days, until {end}{unsigned}"

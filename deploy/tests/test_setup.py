@@ -18,9 +18,9 @@ import tempfile
 import typing
 
 import pytest
-from conftest import document
+from conftest import ROOT, document
 from machine import (
-    answers, certificates, files, holidays, people, registers, settings_copy, setup,
+    answers, certificates, files, holidays, people, registers, settings_copy, setup, status,
 )
 from office.web import authority
 from register_files import Refused
@@ -785,6 +785,36 @@ def test_what_an_authority_has_signed_is_taken_with_the_key_of_the_site(
     assert certificate.with_name("site.crt.before").read_bytes() == before[1]
     assert certificates.take(register, given.certificate, given.key) is False
     assert certificate.with_name("site.crt.before").read_bytes() == before[1]
+
+
+def test_the_warning_of_a_certificate_has_the_command_that_takes_the_answer_of_a_ca(
+    register: registers.Register, machine: pathlib.Path, write_as_me: None,
+) -> None:
+    """As docs/DEPLOYMENT.md shows it. Typed with the answer, it leaves nothing to be warned of."""
+    made = list(certificates.make(register, "admissions.example"))
+    warning = certificates.see(register, "admissions.example")
+    assert warning and "no CA has signed it" in warning and "authority" not in warning
+    page = (ROOT / "docs/DEPLOYMENT.md").read_text(encoding="utf-8").replace("2027", "2025")
+    for line in (*made, warning):
+        shown = line.replace(f"{machine}/etc/", "/etc/admissions/")
+        assert page.splitlines().count(shown) == 2, shown
+    assert status.certificate_of(register)[1].endswith("; no CA has signed it")
+    key, _, request = certificates.paths(register)
+    answer = machine / "answer.crt"
+    for command in (
+        ["req", "-x509", "-newkey", "ec", "-pkeyopt", "ec_paramgen_curve:P-256", "-nodes", "-subj",
+         "/CN=CA", "-keyout", machine / "ca.key", "-out", machine / "ca.crt"],
+        ["x509", "-req", "-in", request, "-CA", machine / "ca.crt", "-CAkey", machine / "ca.key",
+         "-copy_extensions", "copy", "-days", "300", "-out", answer],
+    ):
+        subprocess.run(["openssl", *command], check=True, capture_output=True)
+    words = warning.rpartition(": ")[2].replace("FILE", str(answer)).split()
+    assert words[0] == "admissions-setup"
+    given = given_to_setup(*words[1:], "--site", "admissions.example", "--yes")
+    setup.confirmed(register, given)
+    assert list(setup.make_settings(register, given)) == [f"took the certificate {answer}"]
+    assert certificates.see(register, "admissions.example") is None
+    assert status.certificate_of(register)[0] and key.with_name("site.crt.before").exists()
 
 
 @pytest.mark.parametrize(
