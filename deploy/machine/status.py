@@ -39,8 +39,8 @@ from register_files import Refused
 from office.days import DELETION_NOTICE
 
 from . import (
-    certificates, copies, deletion, files, findings, histories, metrics, office_store, sealed,
-    second_copy, standby,
+    certificates, copies, deletion, files, findings, histories, metrics, office_requests,
+    office_store, sealed, second_copy, standby,
 )
 from .desk import site_status_of, status_of
 from .drill import NOT_TRIED, OPENED, REPORT as DRILL
@@ -149,7 +149,7 @@ def finding_of(name: str, part: Callable[[Register], State], register: Register)
 
 
 def deleted_of(register: Register) -> State:
-    """What the office has deleted, and what of it remains."""
+    """What was deleted, and what of it remains."""
     found = deletion.record_of(register)
     if "ended" not in found:
         how = f"journalctl -u admissions-office-delete@{register.name}"
@@ -157,7 +157,20 @@ def deleted_of(register: Register) -> State:
     remains = found.get("remains")
     rest = f"; {remains} at the second place remains: delete it by hand" if remains else ""
     text = f"on {found['ended']}, its day being {found.get('day')}: {found.get('files')} files"
-    return True, f"{text} of {found.get('bytes')} bytes{rest}"
+    text = f"{text} of {found.get('bytes')} bytes{rest}"
+    if left := left_of(register):
+        how = f"admissions-retire {register.name}"
+        return False, f"{text}; {', '.join(map(str, left))} may have data of children: {how}"
+    return True, text
+
+
+def left_of(register: Register) -> list[pathlib.Path]:
+    """The folders of the application that have something of a season which the office has deleted:
+    as those in which root has put something aside, or where its deletion has not ended."""
+    if not register.office.is_dir():
+        return []
+    folders = (it for it in sorted(register.office.iterdir()) if it.name != office_requests.FOLDER)
+    return [it for it in folders if not it.is_symlink() and it.is_dir() and any(it.iterdir())]
 
 
 def deletion_of(register: Register) -> State:

@@ -116,6 +116,16 @@ def test_a_register_that_was_deleted_has_a_line(
         Level.OK, f"on 2026-02-01T10:00:01+00:00, its day being 2026-01-31: 12 files of 345"
         f" bytes{rest}")}
     assert deletion.registers_of_record() == [register]
+    # (what the application may not delete is not overlooked; an answer of the machine is no such)
+    for name in ("aside/office.db", "changed/history.jsonl", "requests/delete.done"):
+        path = register.office / name
+        path.parent.mkdir()
+        path.write_text("Ada Abel", encoding="ascii")
+    (register.office / "archive").mkdir()
+    level, text = status.report(register)["deleted"]
+    assert (level, text.partition(f" bytes{rest}; ")[2]) == (
+        Level.ATTENTION, f"{register.office}/aside, {register.office}/changed may have data of"
+        " children: admissions-retire secondary-2025")
     deletion.record_place(register).write_text("no record", encoding="ascii")
     assert status.report(register)["deleted"].level is Level.ATTENTION
 

@@ -21,6 +21,7 @@ import pytest
 from machine import (
     deletion, files, office_delete, programs, registers, retire, second_copy, setup, sites, status
 )
+from machine.findings import Level
 from register_files import Refused
 
 NAME = "Zoë Searched-For"
@@ -98,6 +99,7 @@ FILES: dict[str, dict[str, typing.Callable[[pathlib.Path], None]]] = {
         "office.db": database, "office.db-journal": text, "history.jsonl": ascii_text,
         "history.jsonl.new": text, "letters/1/letters.json": text, "previews/a.pdf": text,
         "archive/season.zip": season, "gazetteer/given": text, "requests/delete.done": text,
+        "aside/office.db": database, "changed/history.jsonl": ascii_text,
     },
     "log": {"asked.log": text, "asked.log.1": text, "asked.log.2.gz": packed},
     "etc": {"site-name": site_name, "site.key": text, "site.crt": text, "old/roles": text,
@@ -294,6 +296,23 @@ def test_a_later_register_of_the_name_has_no_right_to_the_network(
     assert run("--second-place") == 0 and not own.parent.exists()
     after = deletion.record_of(register)
     assert {**after, "ended": ""} == {**before, "ended": ""}
+
+
+def test_what_the_deletion_of_the_office_may_not_delete_is_named_until_it_is_deleted(
+    register: registers.Register, machine: pathlib.Path
+) -> None:
+    """What root has put aside in the folder of the application."""
+    office_delete.delete(register, TODAY)
+    for it in register.office.iterdir():
+        if it.is_dir() and it.name not in ("aside", "changed"):
+            office_delete.empty(it)
+    level, text = status.report(register)["deleted"]
+    assert (level, f"{register.office}/aside, {register.office}/changed may have" in text) == (
+        Level.ATTENTION, True)
+    assert text.endswith(f": admissions-retire {register.name}")
+    assert run("--second-place") == 0
+    assert not [it for it in with_name(machine) if register.name in it]
+    assert status.report(register)["deleted"].level is Level.OK
 
 
 def test_what_remains_at_the_second_place_is_named_and_deleted_later(

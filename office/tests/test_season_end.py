@@ -13,6 +13,7 @@ import os
 import pathlib
 import re
 import sqlite3
+import stat
 import zipfile
 from collections.abc import Callable, Iterator
 from typing import Any
@@ -351,6 +352,35 @@ def test_no_file_of_the_season_stays(alone: Parts) -> None:
         "archive": 0, "letters": 0, "previews": 0, "gazetteer": 0, "requests": 1}
 
 
+def test_what_root_has_put_aside_is_left_to_root(
+    tmp_path: pathlib.Path, monkeypatch: pytest.MonkeyPatch
+) -> None:
+    """As by the lines of docs/DEPLOYMENT.md that restore people or replace a history: folders that
+    the application cannot open. The deletion ends without them, and names them on the screen and
+    in the history.
+    """
+    folder = tmp_path / "office"
+    monkeypatch.setattr(Copies, "asked", lambda *given: {"number": given[2], "files": "2"})
+    with site(tmp_path, "http://127.0.0.1:9") as office:
+        jane = Person(office, "jane", "officer")
+        office.parts.end.store(End(), phase=season_end.DELETING, day=DAY.isoformat(),
+                               asked_by="hal", confirmed_by="jane")
+        for name in ("aside/office.db", "changed/history.jsonl", "archive/a.zip", "previews/a.pdf"):
+            (folder / name).parent.mkdir(mode=0o700, exist_ok=True)
+            (folder / name).write_text("Ada Abel")
+        with another_user(folder, "aside", "changed"):
+            with pytest.raises(PermissionError):
+                list((folder / "aside").iterdir())
+            jane.press("go-on")
+            page = jane.page()
+        assert f"The season {NAME} was deleted" in page
+        assert "the files of the application is still there: <code>aside, changed</code>" in page
+        assert office.parts.history.entries[0].about["left"] == ["aside", "changed"]
+        assert {it.relative_to(folder).as_posix() for it in folder.rglob("*")
+                if it.is_file() and b"Ada Abel" in it.read_bytes()} == {
+                    "aside/office.db", "changed/history.jsonl"}
+
+
 def test_what_was_deleted_stays_in_no_log(alone: Parts) -> None:
     """Where another program reads the store meanwhile, its log keeps what was there: the deletion
     has not ended then, and goes on later.
@@ -364,6 +394,31 @@ def test_what_was_deleted_stays_in_no_log(alone: Parts) -> None:
     alone.end.forget()
     for path in alone.config.folder.glob("office.db*"):
         assert b"Ada Abel" not in path.read_bytes(), path
+
+
+@contextlib.contextmanager
+def another_user(folder: pathlib.Path, *closed: str) -> Iterator[None]:
+    """The application is another user than the owner of these folders in its own: where root runs
+    the tests, one without rights, and else nobody can open them.
+    """
+    is_root = os.geteuid() == 0
+    changed = list(folder.parents) if is_root else [folder / it for it in closed]
+    modes = {it: stat.S_IMODE(it.stat().st_mode) for it in changed}
+    for path in (folder, *folder.rglob("*")) if is_root else ():
+        if path.relative_to(folder).parts[:1] not in [(it,) for it in closed]:
+            os.chown(path, 65534, 65534)
+    for path, mode in modes.items():
+        if not is_root or not mode & 0o001:
+            path.chmod(mode | 0o011 if is_root else 0)
+    if is_root:
+        os.seteuid(65534)
+    try:
+        yield
+    finally:
+        os.seteuid(os.getuid())
+        for path, mode in modes.items():
+            if stat.S_IMODE(path.stat().st_mode) != mode:
+                path.chmod(mode)
 
 
 def archived(parts: Parts) -> End:

@@ -71,7 +71,8 @@ class Open:
 class End:
     """How far the end of the season is. Its version grows with each step: who decides names the one
     that they saw. The archive is by its file, its bytes and SHA-256 sum, and the day of deletion
-    also by the entry of the history from before the machine was asked for it.
+    also by the entry of the history from before the machine was asked for it. Left are the folders
+    that the application could not empty.
     """
 
     version: int = 0
@@ -97,6 +98,7 @@ class End:
     phase: str = ""
     counts: dict[str, int] = dataclasses.field(default_factory=dict)
     machine: dict[str, str] = dataclasses.field(default_factory=dict)
+    left: list[str] = dataclasses.field(default_factory=list)
     deleted: str = ""
 
     @property
@@ -389,17 +391,17 @@ class SeasonEnd:
             assert found.date
             answer = self.parts.copies.asked(DELETE, number_of(found.date))
             machine = {name: str(it) for name, it in answer.items() if name != "number"}
-            self.forget()
-            found = dataclasses.replace(found, machine=machine)
+            found = dataclasses.replace(found, machine=machine, left=self.forget())
             first = self.parts.history.entries[0]
             if first.what != DELETED_SEASON:
                 first = self.parts.history.begin_anew(
                     found.confirmed_by, DELETED_SEASON, record_of(found))
             self.store(found, phase=DELETED, deleted=first.at)
 
-    def forget(self) -> None:
+    def forget(self) -> list[str]:
         """Removes what the application has of the season: its rows, and all files in its folders:
-        the archive, letters that were made, what was previewed, and gazetteers.
+        the archive, letters that were made, what was previewed, and gazetteers. Returns the names
+        of the folders that it may not empty, as those in which root has put something aside.
         """
         store, copies = self.parts.store, self.parts.copies
         self.parts.desk.copy = copies.read = None
@@ -416,9 +418,14 @@ class SeasonEnd:
         if is_busy:
             raise Refused("the machine copies what the application keeps, and it could not be"
                           " deleted wholly: go on in some minutes")
-        for folder in self.parts.config.folder.iterdir():
+        left = []
+        for folder in sorted(self.parts.config.folder.iterdir()):
             if folder.is_dir() and folder != copies.requests:
-                empty(folder)
+                try:
+                    empty(folder)
+                except PermissionError:
+                    left.append(folder.name)
+        return left
 
 
 def empty(folder: pathlib.Path) -> None:
@@ -463,5 +470,5 @@ def record_of(found: End) -> dict[str, Any]:
         "asked_by": found.asked_by, "asked": found.asked, "confirmed_by": found.confirmed_by,
         "day": found.day, "reason": found.reason, "counts": found.counts,
         "archive": found.archive, "digest": found.digest, "kept": found.kept,
-        "machine": found.machine,
+        "machine": found.machine, "left": found.left,
     }
