@@ -801,12 +801,12 @@ def test_the_warning_of_a_certificate_has_the_command_that_takes_the_answer_of_a
     assert status.certificate_of(register)[1].endswith("; no CA has signed it")
     key, _, request = certificates.paths(register)
     answer = machine / "answer.crt"
-    for command in (
+    commands: list[list[str | pathlib.Path]] = [
         ["req", "-x509", "-newkey", "ec", "-pkeyopt", "ec_paramgen_curve:P-256", "-nodes", "-subj",
          "/CN=CA", "-keyout", machine / "ca.key", "-out", machine / "ca.crt"],
         ["x509", "-req", "-in", request, "-CA", machine / "ca.crt", "-CAkey", machine / "ca.key",
-         "-copy_extensions", "copy", "-days", "300", "-out", answer],
-    ):
+         "-copy_extensions", "copy", "-days", "300", "-out", answer]]
+    for command in commands:
         subprocess.run(["openssl", *command], check=True, capture_output=True)
     words = warning.rpartition(": ")[2].replace("FILE", str(answer)).split()
     assert words[0] == "admissions-setup"
