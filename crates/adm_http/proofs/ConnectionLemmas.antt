@@ -4,9 +4,9 @@ use Rattle.std.specs.Prelude.{codes, is_err, MatchResult}
 use Rattle.std.specs.Io.KnownBytes.{Appends, Keeps}
 use Rattle.std.proofs.KnownBytes.{Appends-nil, Appends-trans}
 use Rattle.adm_http.specs.declared.body_answer.BodyAnswer.{BodyAnswer}
-use Rattle.adm_http.specs.Reading.{Request, HasRead, Served, IsUnanswered, is_connection_fault, is_read_fault}
+use Rattle.adm_http.specs.Reading.{Request, HasRead, Served, IsUnanswered, is_read_fault, is_write_fault}
 use Rattle.adm_http.specs.Responses.{Responds}
-use Rattle.adm_http.specs.Connections.{EndedConnection, Traffic, IsIdle, Takes, TakesNext, Ends, Exchanges, ServesOpen, Errors, PrintsExactly, PrintsAccepts, accept_lines, connection_fault_line, outcome_line, Moment, ServesTurn, ServesEach, AnswersOne, AnswersUpTo}
+use Rattle.adm_http.specs.Connections.{EndedConnection, Traffic, IsIdle, Takes, TakesNext, Ends, Exchanges, ServesOpen, ended, Errors, PrintsExactly, PrintsAccepts, accept_lines, connection_fault_line, outcome_line, Moment, ServesTurn, ServesEach, AnswersOne, AnswersUpTo}
 use Rattle.adm_http.specs.declared.routes.Purpose.{Purpose}
 use Rattle.adm_http.specs.declared.routes.Resource.{Resource}
 use Rattle.adm_http.specs.declared.request_handler.ShowResult.{ShowResult}
@@ -71,14 +71,10 @@ exchanges (Some t) (Some m) (Some new) failed unread ended takes ends = (
   ends.3,
 )
 
--- a write that failed is a failure, whatever was before
-pub write_failed : (was : Bool) → true ≡ (was || true)
-write_failed true = refl
-write_failed false = refl
-
--- a connection ended so, where whether it failed is known otherwise
-pub ended_so : (old new : Option Traffic) (written : List ℕ) (a b : Bool) → a ≡ b → Ends old new (record { written = written; has_failed = a }) → Ends old new (record { written = written; has_failed = b })
-ended_so old new written a b same ends = subst (λ (failed : Bool). Ends old new (record { written = written; has_failed = failed })) same ends
+-- a connection ended so, where whether a read and the write failed is known otherwise
+pub ended_so : (old new : Option Traffic) (written : List ℕ) (a b c d : Bool) → a ≡ b → c ≡ d → Ends old new (ended written a c) → Ends old new (ended written b d)
+ended_so old new written a b c d same also ends =
+    subst (λ (failed : Bool). Ends old new (ended written b failed)) also (subst (λ (failed : Bool). Ends old new (ended written failed c)) same ends)
 
 -- ---- a request
 
@@ -89,12 +85,11 @@ module _ {S : Type 0} (runs : Purpose → S → List ℕ → BodyAnswer → S �
   unanswered r was written Write none kept = absurd none
   unanswered r was written Memory none kept = (none.0, none.1, kept, none.2)
 
-  -- of a connection that no response was made to, a read has failed exactly at the error Read
-  pub failed_unanswered : (r : Request S) (was now : Bool) (fault : ServeFault) → IsUnanswered runs shows r fault → now ≡ (was || is_read_fault {A = ℕ} (Err fault))
-      → now ≡ (was || is_connection_fault {A = ℕ} (Err fault))
-  failed_unanswered r was now Read none fails = fails
-  failed_unanswered r was now Write none fails = absurd none
-  failed_unanswered r was now Memory none fails = fails
+  -- where no response was made, no write has failed
+  pub unwritten : (r : Request S) (fault : ServeFault) → IsUnanswered runs shows r fault → false ≡ is_write_fault {A = ℕ} (Err fault)
+  unwritten r Read none = refl
+  unwritten r Write none = absurd none
+  unwritten r Memory none = refl
 
   -- the turn of a connection that had not failed, from the writer of errors before its own error was printed
   served_turn : (old new : Moment S) (mid : Option Traffic) (between : Errors) (unread : Option (List ℕ)) (had_failed : Bool) (result : Result ℕ ServeFault) → TakesNext old.traffic mid (Some unread) old.errors between
@@ -107,8 +102,9 @@ module _ {S : Type 0} (runs : Purpose → S → List ℕ → BodyAnswer → S �
         left = served.0;
         written = served.1;
         result = result;
-        exchanged = exchanges old.traffic mid new.traffic takes.0 unread (record { written = served.1; has_failed = is_connection_fault result }) takes.1
-            (ended_so mid new.traffic served.1 (had_failed || is_connection_fault result) (is_connection_fault result) (ap (λ (b : Bool). b || is_connection_fault result) unfailed) served.3);
+        exchanged = exchanges old.traffic mid new.traffic takes.0 unread (ended served.1 (is_read_fault result) (is_write_fault result)) takes.1
+            (ended_so mid new.traffic served.1 (had_failed || is_read_fault result) (is_read_fault result) (is_write_fault result) (is_write_fault result)
+            (ap (λ (b : Bool). b || is_read_fault result) unfailed) refl served.3);
         served = served.2;
         printed = prints_more old.errors between new.errors (accept_lines takes.0) (outcome_line result) takes.2 printed;
       })

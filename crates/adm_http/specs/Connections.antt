@@ -3,7 +3,7 @@ use Rattle.std.specs.Prelude.{◌≡◌, ℕ, zero, suc, ◌+◌, ◌⊎◌, ◌
 use Rattle.std.specs.Io.KnownBytes.{Appends}
 use Rattle.adm_http.specs.declared.body_answer.BodyAnswer.{BodyAnswer}
 use Rattle.adm_wire.specs.declared.streams.Output as output
-use Rattle.adm_http.specs.Reading.{Served, is_connection_fault}
+use Rattle.adm_http.specs.Reading.{Served, is_read_fault, is_write_fault}
 use Rattle.adm_http.specs.Responses.{Responds}
 use Rattle.adm_http.specs.declared.routes.Purpose.{Purpose}
 use Rattle.adm_http.specs.declared.routes.Resource.{Resource}
@@ -11,14 +11,15 @@ use Rattle.adm_http.specs.declared.request_handler.ShowResult.{ShowResult}
 use Rattle.adm_http.specs.declared.serve.ServeFault.{ServeFault}
 use Rattle.adm_http.specs.declared.serve.ServeFault.TheVariants.{Read, Write, Memory}
 
--- a connection that was taken and ended: what was written to it, and whether it failed, as it was read or as its response was written
+-- a connection that was taken and ended: what was written to it, whether a read of it failed, and whether the write of its response did
 pub record EndedConnection : Type 0 where
   pub written : List ℕ
-  pub has_failed : Bool
+  pub read_failed : Bool
+  pub write_failed : Bool
 
 -- the connection that was ended so
-abbrev pub ended : List ℕ → Bool → EndedConnection
-ended written has_failed = record { written = written; has_failed = has_failed }
+abbrev pub ended : List ℕ → Bool → Bool → EndedConnection
+ended written read_failed write_failed = record { written = written; read_failed = read_failed; write_failed = write_failed }
 
 -- the bytes of each connection that is still to be taken, in this order; those that were taken and ended, in their order; how many accepts have failed; and whether
 -- one connection is taken and not ended
@@ -135,7 +136,7 @@ module _ {S : Type 0} (runs : Purpose → S → List ℕ → BodyAnswer → S �
     pub desk : new.desk ≡ old.desk
     pub printed : PrintsExactly old.errors new.errors (accept_lines failed)
 
-  -- The turn of a connection: its own bytes were read and answered to it. It failed, as the connections know, exactly where the result is Read or Write. A line is printed of each accept that
+  -- The turn of a connection: its own bytes were read and answered to it. A read of it failed exactly where the result is Read, and the write of its response exactly where it is Write. A line is printed of each accept that
   -- failed and of the connection's error, and nothing else.
   pub record ServesOne (old new : Moment S) : Type 0 where
     pub failed : ℕ
@@ -143,7 +144,7 @@ module _ {S : Type 0} (runs : Purpose → S → List ℕ → BodyAnswer → S �
     pub left : Option (List ℕ)
     pub written : List ℕ
     pub result : Result ℕ ServeFault
-    pub exchanged : Exchanges old.traffic new.traffic failed unread (record { written = written; has_failed = is_connection_fault result })
+    pub exchanged : Exchanges old.traffic new.traffic failed unread (ended written (is_read_fault result) (is_write_fault result))
     pub served : Served runs shows (record { before = old.desk; after = new.desk; unread = unread; left = left }) (Some []) (Some written) result
     pub printed : PrintsExactly old.errors new.errors (accept_lines failed ++ outcome_line result)
 
@@ -163,4 +164,4 @@ module _ {S : Type 0} (runs : Purpose → S → List ℕ → BodyAnswer → S �
   ServesOpen old new unread had_failed result =
       (left : Option (List ℕ)) × (written : List ℕ)
       × Served runs shows (record { before = old.desk; after = new.desk; unread = unread; left = left }) (Some []) (Some written) result
-      × Ends old.traffic new.traffic (record { written = written; has_failed = had_failed || is_connection_fault result })
+      × Ends old.traffic new.traffic (ended written (had_failed || is_read_fault result) (is_write_fault result))

@@ -1,7 +1,7 @@
 -- Where reading a request stops, and what serving one leaves.
 use Rattle.std.specs.Prelude.{◌≡◌, ℕ, ◌+◌, ◌<◌, ◌≤◌, ◌⊎◌, ◌||◌, Bool, true, false, List, ◌++◌, length, take, drop, Option, Result, Ok, Err, ⊤}
 use Rattle.std.specs.Io.KnownBytes.{Consumes, Appends, Keeps, IsAtEnd}
-use Rattle.adm_http.specs.Heads.{IsJudgement}
+use Rattle.adm_http.specs.Heads.{IsJudgement, most_body}
 use Rattle.adm_http.specs.Responses.{Responds}
 use Rattle.adm_http.specs.declared.heads.Verdict.{Verdict}
 use Rattle.adm_http.specs.declared.heads.Verdict.TheVariants.{Reject, NotAllowed, Show, Run}
@@ -120,5 +120,5 @@ MayNeedMore bytes = (judgement : Judgement) × IsJudgement bytes judgement × ¬
 -- there are fewer bytes than this many, and they may be judged as not settled until there are, whatever follows
 pub record MayNeedMoreUpTo (total : ℕ) (bytes : List ℕ) : Type 0 where
   pub fewer : length bytes < total
-  pub limit : total ≤ 1056768
+  pub limit : total ≤ 8192 + most_body
   pub on : (more : List ℕ) → length (bytes ++ more) < total → MayNeedMore (bytes ++ more)

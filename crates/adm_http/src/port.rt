@@ -1,5 +1,5 @@
 // The connections to a port of this machine, and how long each may take.
-ghost use Rattle.std.specs.Prelude.{None};
+ghost use Rattle.std.specs.Prelude.{None, true};
 
 use crate::arrivals::{Arrivals, SECONDS_OF_REQUEST};
 use crate::connections::{Connections, NotTaken, Ports};
@@ -93,6 +93,9 @@ impl<'a> Connections for Port<'a> {
 
 impl Ports for Port<'_> {
     ghost traffic_at = { λ _ _. None };
+
+    // of a port of the system nobody knows whether it is free
+    ghost may_refuse = { λ _ _. true };
 
     fn listen(&mut self, port: u16) -> Result<(), NotTaken> {
         match TcpListener::bind(self.rt, (Ipv4Addr::LOCALHOST, port)) {

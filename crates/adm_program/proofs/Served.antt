@@ -31,9 +31,9 @@ module _ {D : Type 0} {g : disk.Ghosts D} where
       subst (λ (t : Option Traffic). ServesEach (RunsBody file_state) Shows count (record { desk = old; traffic = t; errors = visits.log_before }) (record { desk = new; traffic = visits.new; errors = visits.log_after })) is it
 
   -- no connection could be waited for
-  pub not_ready : (desk : DeskState (Held (FileStore D g))) (port count : ℕ) (visits : Visits) (output : Stream) (f : Fault) → IsListenFault f → output.new ≡ output.old → AreUntaken visits → IsUnlogged visits
+  pub not_ready : (desk : DeskState (Held (FileStore D g))) (port count : ℕ) (visits : Visits) (output : Stream) (f : Fault) → IsListenFault (visits.may_refuse port) f → output.new ≡ output.old → AreUntaken visits → IsUnlogged visits
       → ServesAs desk desk port count visits output (Err f)
-  not_ready desk port count visits output fault.Listen is same untaken unlogged = (refl, same, untaken, unlogged)
+  not_ready desk port count visits output fault.Listen is same untaken unlogged = (refl, same, untaken, unlogged, is)
   not_ready desk port count visits output fault.Memory is same untaken unlogged = (refl, same, inl untaken, unlogged)
   not_ready desk port count visits output f is same untaken unlogged = absurd is
 

@@ -23,14 +23,14 @@ pub record Around : Type 0 where
 abbrev pub RowFiles : Type 0 → Type 0
 RowFiles S = record { remaining : S → Option (List ℕ); has_failed : S → Bool; bytes_at : S → List ℕ → Option (List ℕ) }
 
--- the ghosts of what takes a port: the connections that come, and those that come to each port once it is taken
+-- the ghosts of what takes a port: the connections that come, those that come to each port once it is taken, and whether a port may be refused
 abbrev pub Ports : Type 0 → Type 0
-Ports S = record { traffic : S → Option Traffic; traffic_at : S → ℕ → Option Traffic }
+Ports S = record { traffic : S → Option Traffic; traffic_at : S → ℕ → Option Traffic; may_refuse : S → ℕ → Bool }
 
 -- the connections to ports, and the log of what goes wrong with them, of a run
 abbrev pub visits : {S L : Type 0} → Ports S → S → S → output.Ghosts L → L → L → Visits
 visits g old new l log log_new =
-    record { old = g.traffic old; coming = g.traffic_at old; new = g.traffic new; log_before = errors_of l log; log_after = errors_of l log_new }
+    record { old = g.traffic old; coming = g.traffic_at old; may_refuse = g.may_refuse old; new = g.traffic new; log_before = errors_of l log; log_after = errors_of l log_new }
 
 -- what a run is given, by the files of rows, the ports with the log, the input and the output, each before the run and after it
 abbrev pub given : {F P L I O : Type 0} → RowFiles F → F → F → Ports P → P → P → output.Ghosts L → L → L → input.Ghosts I → I → I → output.Ghosts O → O → O → Given
@@ -43,7 +43,7 @@ abbrev pub around : {F P I O E : Type 0} → RowFiles F → F → F → Ports P 
 around f rows rows_new p ports ports_new i input input_new o output output_new e errors errors_new log log_new = record {
   given = record {
     rows = files f rows rows_new;
-    visits = record { old = p.traffic ports; coming = p.traffic_at ports; new = p.traffic ports_new; log_before = log; log_after = log_new };
+    visits = record { old = p.traffic ports; coming = p.traffic_at ports; may_refuse = p.may_refuse ports; new = p.traffic ports_new; log_before = log; log_after = log_new };
     input = reader i input input_new;
     output = writer o output output_new;
   };

@@ -1,5 +1,5 @@
 -- How serving connections to a port ends.
-use Rattle.std.specs.Prelude.{◌≡◌, ◌⊎◌, ◌++◌, ℕ, List, codes, decimal, Option, Result, Ok, Err, if◌then◌else◌}
+use Rattle.std.specs.Prelude.{◌≡◌, ◌⊎◌, ◌++◌, ℕ, Bool, List, codes, decimal, IsTrue, Option, Result, Ok, Err, if◌then◌else◌}
 use Rattle.std.specs.Io.KnownBytes.{Appends}
 use Rattle.sqlite_disk.specs.declared.Disk as disk
 use Rattle.sqlite_disk.specs.declared.Files.{Files}
@@ -25,11 +25,12 @@ use Rattle.adm_host.specs.declared.fault.Fault.TheVariants as fault
 abbrev pub serving_text : ℕ → List ℕ
 serving_text port = codes "serving on 127.0.0.1:" ++ (decimal port ++ codes "\n")
 
--- The connections of a run, where they are known: what comes before a port is taken, what comes to each port, and after the run what still comes and those that were ended. And
--- the log, to which the errors of connections are printed: what it holds before the run and after it, where that is known, and whether it has failed.
+-- The connections of a run, where they are known: what comes before a port is taken, what comes to each port, which port may be refused, and after the run what still comes and those
+-- that were ended. And the log, to which the errors of connections are printed: what it holds before the run and after it, where that is known, and whether it has failed.
 pub record Visits : Type 0 where
   pub old : Option Traffic
   pub coming : ℕ → Option Traffic
+  pub may_refuse : ℕ → Bool
   pub new : Option Traffic
   pub log_before : Errors
   pub log_after : Errors
@@ -50,11 +51,11 @@ module _ {D : Type 0} {g : disk.Ghosts D} where
       (record { desk = new; traffic = visits.new; errors = visits.log_after })
 
   -- How serving ended, from the desk as it was to the desk as it is: the line was printed and each turn served the next connection to the port or none, and a
-  -- store that failed makes the exit; or the port could not be taken, the line not printed or memory ran out, and no connection was taken and nothing logged.
+  -- store that failed makes the exit; or the port, which may be refused, could not be taken, the line not printed or memory ran out, and no connection was taken and nothing logged.
   abbrev pub ServesAs : DeskState (Held (FileStore D g)) → DeskState (Held (FileStore D g)) → ℕ → ℕ → Visits → Stream → Result Exit Fault → Type 0
   ServesAs old new port count visits output (Ok e) = Appends output.old output.new (serving_text port)
       × TakesTurns count old new port visits × (e ≡ (if new.failed then exit.Failed else exit.Done))
-  ServesAs old new port count visits output (Err fault.Listen) = (new ≡ old) × (output.new ≡ output.old) × AreUntaken visits × IsUnlogged visits
+  ServesAs old new port count visits output (Err fault.Listen) = (new ≡ old) × (output.new ≡ output.old) × AreUntaken visits × IsUnlogged visits × IsTrue (visits.may_refuse port)
   ServesAs old new port count visits output (Err f) = (new ≡ old) × Puts {A = Exit} (serving_text port) output (Err f) × (AreUntaken visits ⊎ (visits.new ≡ visits.coming port)) × IsUnlogged visits
 
   -- connections to the port are served over the desk, and then its own connection is closed
@@ -70,8 +71,8 @@ module _ {D : Type 0} {g : disk.Ghosts D} where
 
 -- ---- for a private clause
 
--- why no connection could be waited for
-abbrev pub IsListenFault : Fault → Type 0
-IsListenFault fault.Listen = Unit {0}
-IsListenFault fault.Memory = Unit {0}
-IsListenFault f = ⊥
+-- why no connection could be waited for, by whether the port may be refused
+abbrev pub IsListenFault : Bool → Fault → Type 0
+IsListenFault may fault.Listen = IsTrue may
+IsListenFault may fault.Memory = Unit {0}
+IsListenFault may f = ⊥

@@ -35,11 +35,11 @@ fn put_serving<O: Output>(alloc: Global, port: u16, output: &mut O) -> Result<()
 }
 
 /// The routes of requests, and the port of this machine alone to which they come is taken. The `Err` is
-/// Listen where it cannot be taken, or Memory.
+/// Listen where it cannot be taken and is not known to be free, or Memory.
 fn listen<P: Ports>(alloc: Global, ports: &mut P, port: u16) -> Result<Routes, Fault>
     ensures taken { OnOk result (P.traffic ports.new ≡ P.traffic_at ports.old port) }
     ensures idle { OnOk result (IsIdle (P.traffic ports.new)) }
-    ensures err { IfErr result IsListenFault }
+    ensures err { IfErr result (IsListenFault (P.may_refuse ports.old port)) }
     ensures left { OnErr result (P.traffic ports.new ≡ P.traffic ports.old) }
 {
     let Ok(routes) = Routes::new(alloc) else {

@@ -1,5 +1,5 @@
 -- What the status 200 says of a command, and which commands took effect where exchanges came one after another.
-use Rattle.std.proofs.Common.{◌≡◌, ◌≢◌, ◌≤◌, ◌⊎◌, ◌∙◌, inl, inr, refl, ap, sym, subst, arith, ℕ, zero, suc, List, [], ◌∷◌, ◌++◌, take, drop, length, true, Option, Some, None, append-nil}
+use Rattle.std.proofs.Common.{◌≡◌, ◌≢◌, ◌∙◌, inl, inr, refl, ap, sym, subst, arith, ℕ, zero, suc, List, [], ◌∷◌, ◌++◌, take, drop, length, true, Option, Some, None, append-nil}
 use Rattle.std.specs.Prelude.{codes}
 use Rattle.std.specs.List.{AllByRecursion}
 use Rattle.std.proofs.lemmas.Bool.{false≢true}
@@ -16,7 +16,7 @@ use Rattle.adm_csv.specs.declared.fault.Fault.{Fault}
 use Rattle.adm_csv.specs.declared.fault.Fault.TheVariants as row_fault
 use Rattle.adm_wire.specs.declared.fault.WireFault.{WireFault}
 use Rattle.adm_wire.specs.declared.fault.WireFault.TheVariants as fault
-use Rattle.adm_desk.specs.Acknowledged.{acknowledged, in_flight}
+use Rattle.adm_desk.specs.Acknowledged.{acknowledged}
 use Rattle.adm_desk.specs.DeskState.{DeskState}
 use Rattle.adm_desk.specs.Lines.{answer_text}
 use Rattle.adm_desk.specs.declared.answer.Answer.{Answer}
@@ -177,10 +177,10 @@ module _ {C : Type 0} (disk : C → Disk) where
 
   -- the first of exchanges, by its command and the answer
   first_took : (old mid new : DeskState C) (e : Exchange) (more : List Exchange) (s : ServesExchange disk old e mid) → ServesExchanges disk mid more new
-      → ((done : List Command) → IsEffect (commands_of more) done → TookEffect more done) → (o : Option (Command × Answer)) → AnswersTo e.request s.is.response o → Moves disk o old mid
+      → ((done : List Command) → IsEffect (commands_of more) done → TookEffect more done) → (o : Option (Command × Answer)) → e.answered ≡ o → AnswersTo e.request s.is.response o → Moves disk o old mid
       → (done : List Command) → IsEffect (with_answered o (commands_of more)) done → TookEffect (e ∷ more) done
-  first_took old mid new e more s rest later None answers it done is = inr (inl (lacks_none e s.is.size s.is.response s.is.written answers, later done is))
-  first_took old mid new e more s rest later (Some (c, Done reply)) answers it done is = elim is [
+  first_took old mid new e more s rest later None which answers it done is = inr (inl (lacks_none e s.is.size s.is.response s.is.written answers, later done is))
+  first_took old mid new e more s rest later (Some (c, Done reply)) which answers it done is = elim is [
     | inl same ↦ inl (c, acknowledged (commands_of more), has, later (acknowledged (commands_of more)) (inl refl), same)
     | inr (last, flew, same) ↦
         inl (c, acknowledged (commands_of more) ++ last ∷ [], has, later (acknowledged (commands_of more) ++ last ∷ []) (inr (last, flew, refl)), same)
@@ -188,18 +188,23 @@ module _ {C : Type 0} (disk : C → Disk) where
     where
       has : HasEffect e c
       has = record { sent = answers.0; begins = (answer_text (Done reply), s.is.size, s.is.written ∙ ap (take s.is.size) answers.1) }
-  first_took old mid new e more s rest later (Some (c, Refused refusal row)) answers it done is =
+  first_took old mid new e more s rest later (Some (c, Refused refusal row)) which answers it done is =
       inr (inl (lacks_other e s.is.size s.is.response (Refused refusal row) other_409 s.is.written answers.1, later done is))
-  first_took old mid new e more s rest later (Some (c, Memory)) answers it done is =
+  first_took old mid new e more s rest later (Some (c, Memory)) which answers it done is =
       inr (inl (lacks_other e s.is.size s.is.response Memory other_503 s.is.written answers.1, later done is))
-  first_took old mid new e more s rest later (Some (c, Failed)) answers it done is =
+  first_took old mid new e more s rest later (Some (c, Failed)) which answers it done is =
       let lacks = lacks_other e s.is.size s.is.response Failed other_503 s.is.written answers.1 in
       let none = all_lack mid new more it.0 rest in
       elim is [
         | inl same ↦ inr (inl (lacks, subst (TookEffect more) (sym (same ∙ none.1)) (none_took more none.0)))
         | inr (last, flew, same) ↦ inr (inr (
           last,
-          record { sent = subst (λ (command : Command). SendsCommand e.request command) (same_Some c last flew) answers.0; lacks = lacks; none_later = none.0 },
+          record {
+            sent = subst (λ (command : Command). SendsCommand e.request command) (same_Some c last flew) answers.0;
+            failed = which ∙ ap (λ (command : Command). Some (command, Failed)) (same_Some c last flew);
+            lacks = lacks;
+            none_later = none.0;
+          },
           same ∙ ap (λ (xs : List Command). xs ++ last ∷ []) none.1,
         ))
       ]
@@ -207,4 +212,4 @@ module _ {C : Type 0} (disk : C → Disk) where
   -- the commands that took effect, by the bytes of the exchanges
   pub took : (old new : DeskState C) (served : List Exchange) → ServesExchanges disk old served new → (done : List Command) → IsEffect (commands_of served) done → TookEffect served done
   took old new [] it done is = no_effect done is
-  took old new (e ∷ served) (mid, s, rest) done is = first_took old mid new e served s rest (took mid new served rest) e.answered s.is.command s.moves done is
+  took old new (e ∷ served) (mid, s, rest) done is = first_took old mid new e served s rest (took mid new served rest) e.answered refl s.is.command s.moves done is

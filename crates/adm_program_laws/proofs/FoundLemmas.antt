@@ -1,15 +1,12 @@
 -- The register that is found after a run of `serve`.
 use Rattle.std.proofs.Common.{◌⊎◌, inl, inr, refl, sym, subst, arith, ℕ, List, [], Ok}
 use Rattle.std.proofs.Math.Logic.{∥∥₁_map}
-use Rattle.std.specs.Borrow.{Bor}
 use Rattle.sqlite_disk.specs.declared.Disk.{Ghosts}
-use Rattle.sqlite_wal.specs.Recovery.{Image}
 use Rattle.sqlite_wal.proofs.LogLemmas.{SeenMayStay}
 use Rattle.adm_types.specs.declared.commands.Command.{Command}
 use Rattle.adm_register.specs.State.{State as Register}
 use Rattle.adm_rows.specs.Represents.{OneRegister}
 use Rattle.adm_words.specs.declared.actions.Action.TheVariants as action
-use Rattle.adm_desk.specs.Files.{IsFileOf}
 use Rattle.adm_desk.specs.declared.answer.Answer.{Answer}
 use Rattle.adm_program.specs.Arguments.{FollowsFrom}
 use Rattle.adm_program.specs.Served.{Visits}
@@ -35,10 +32,11 @@ served_by status port count visits answered (inl none) = record {
   are = record {
     few = omega arith;
     exchanged = elim none.untaken [ inl untaken ↦ inr (refl, untaken) | inr same ↦ inl (no_exchange (visits.coming port) visits.new same) ];
+    each = tt;
   };
   took = λ done is. no_effect done (subst (λ (xs : List (Command × Answer)). IsEffect xs done) none.none is);
 }
-served_by status port count visits answered (inr it) = record { served = it.served; are = record { few = it.few; exchanged = inl it.exchanged }; took = it.effects }
+served_by status port count visits answered (inr it) = record { served = it.served; are = record { few = it.few; exchanged = inl it.exchanged; each = it.each }; took = it.effects }
 
 module _ {D : Type 0} (g : Ghosts D) (seen : SeenMayStay g) (one : OneRegister) where
   pub answered_is_found_lem : AnsweredIsFound g

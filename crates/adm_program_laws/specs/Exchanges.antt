@@ -14,11 +14,12 @@ use Rattle.adm_desk.specs.Acknowledged.{KeepsAcknowledged}
 use Rattle.adm_desk.specs.DeskState.{DeskState, Handles}
 use Rattle.adm_desk.specs.Lines.{answer_text}
 use Rattle.adm_desk.specs.declared.answer.Answer.{Answer}
+use Rattle.adm_desk.specs.declared.answer.Answer.TheVariants.{Failed}
 use Rattle.adm_desk.specs.declared.answer.LineAnswer.TheVariants.{Faulty}
-use Rattle.adm_http.specs.Connections.{EndedConnection, Moment, ServesEach, Traffic}
+use Rattle.adm_http.specs.Connections.{EndedConnection, Moment, ServesEach, Traffic, ended}
 use Rattle.adm_http.specs.Heads.{IsJudgement}
 use Rattle.adm_http.specs.Purposes.{HasRows, RunsBody}
-use Rattle.adm_http.specs.Reading.{is_connection_fault}
+use Rattle.adm_http.specs.Reading.{is_connection_fault, is_read_fault, is_write_fault}
 use Rattle.adm_http.specs.Replies.{status_of_command}
 use Rattle.adm_http.specs.Responses.{Responds, of_answer}
 use Rattle.adm_http.specs.Shows.{Shows}
@@ -143,7 +144,7 @@ pub record AreRecorded (served : List Exchange) : Type 0 where
 
 -- the connection of an exchange, as it was ended
 abbrev pub ended_of : Exchange → EndedConnection
-ended_of e = record { written = e.written; has_failed = is_connection_fault e.ended }
+ended_of e = ended e.written (is_read_fault e.ended) (is_write_fault e.ended)
 
 -- the request is a beginning of what the connection sent
 abbrev pub SentFirst : Exchange → List ℕ → Type 0
@@ -175,9 +176,10 @@ pub record HasEffect (e : Exchange) (command : Command) : Type 0 where
   pub sent : SendsCommand e.request command
   pub begins : BeginsStatus200 e.written
 
--- the command of the request took effect, though it was in flight: the status 200 was written neither to it nor to a command after it
+-- the command of the request took effect, though it was in flight, for which the desk answered Failed: the status 200 was written neither to it nor to a command after it
 pub record HasLastEffect (e : Exchange) (later : List Exchange) (command : Command) : Type 0 where
   pub sent : SendsCommand e.request command
+  pub failed : e.answered ≡ Some (command, Failed)
   pub lacks : LacksStatus200 e
   pub none_later : AllByRecursion LacksStatus200 later
 

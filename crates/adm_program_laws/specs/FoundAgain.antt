@@ -1,6 +1,7 @@
 -- What `serve` answered with the status 200 is found again: after its end, and after a crash.
 use Rattle.std.specs.Prelude.{◌≡◌, ◌≤◌, ◌⊎◌, ℕ, List, [], length, Ok}
 use Rattle.std.specs.Borrow.{Bor}
+use Rattle.std.specs.List.{AllByRecursion}
 use Rattle.sqlite_disk.specs.declared.Disk as disk
 use Rattle.sqlite_wal.specs.Recovery.{Image}
 use Rattle.sqlite_store.specs.declared.store.FileStore.{FileStore}
@@ -13,13 +14,15 @@ use Rattle.adm_desk.specs.Files.{IsFileOf}
 use Rattle.adm_desk.specs.DeskState.{DeskState}
 use Rattle.adm_files.specs.Opened.{IsOpened}
 use Rattle.adm_program.specs.Served.{AreUntaken, Visits}
-use Rattle.adm_program_laws.specs.Exchanges.{AreExchanged, Exchange, IsFoundServed}
+use Rattle.adm_program_laws.specs.Exchanges.{AreExchanged, Exchange, IsAnswered, IsFoundServed}
 use Rattle.adm_program_laws.specs.SuccessiveRuns.{ProgramRun, RunsOver}
 
--- The exchanges of a run of `serve`: one for each connection to the port that was taken, in order, and at most so many; or none, where the run ended before it took one.
+-- The exchanges of a run of `serve`: one for each connection to the port that was taken, in order, and at most so many, each with its request, its command and its response; or none, where
+-- the run ended before it took one.
 pub record AreServed (port count : ℕ) (visits : Visits) (served : List Exchange) : Type 0 where
   pub few : length served ≤ count
   pub exchanged : AreExchanged (visits.coming port) visits.new served ⊎ ((served ≡ []) × AreUntaken visits)
+  pub each : AllByRecursion IsAnswered served
 
 module _ {D : Type 0} (g : disk.Ghosts D) where
   -- The files hold a register that has each command to which the status 200 was written, and whoever opens them finds such a register.

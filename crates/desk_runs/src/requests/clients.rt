@@ -1,4 +1,4 @@
-// Connections in memory: what each client sends, when it breaks off, what was written to it, and whether its connection failed.
+// Connections in memory: what each client sends, when it breaks off, what was written to it, and whether a read of it or the write failed.
 ghost use Rattle.std.specs.Prelude.{◌≡◌, ◌+◌, ◌≤◌, ◌++◌, ◌∷◌, [], Some, true, false, IfOk, map, length, vec_len, vec_capacity, if◌then◌else◌};
 ghost use Rattle.adm_http.specs.Connections.{EndedConnection, Traffic};
 
@@ -62,11 +62,12 @@ impl Input for Visit<'_> {
     }
 }
 
-/// What was written to a client, and whether its connection failed.
+/// What was written to a client, whether a read of its connection failed, and whether the write did.
 #[derive(Drop)]
 struct Ended {
     written: Vec<u8>,
-    has_failed: bool,
+    read_failed: bool,
+    write_failed: bool,
 }
 
 /// Clients, one after the other. No accept fails.
@@ -109,7 +110,7 @@ impl<'a> Connections for Clients<'a> {
 
     ghost traffic = { λ s. Some (record {
       coming = map (λ c. c.sends.items) s.coming.now;
-      answered = map (λ ended. record { written = ended.written.items; has_failed = ended.has_failed }) s.answers.items;
+      answered = map (λ one. record { written = one.written.items; read_failed = one.read_failed; write_failed = one.write_failed }) s.answers.items;
       failed_accepts = 0;
       is_open = s.is_open;
     }) };
@@ -132,13 +133,15 @@ impl<'a> Connections for Clients<'a> {
         if stored.is_ok() && count == output.len() {
             self.end(Ended {
                 written,
-                has_failed: connection.reader.has_failed,
+                read_failed: connection.reader.has_failed,
+                write_failed: false,
             });
             Ok(())
         } else {
             self.end(Ended {
                 written,
-                has_failed: true,
+                read_failed: connection.reader.has_failed,
+                write_failed: true,
             });
             Err(WriteFailed)
         }
@@ -147,7 +150,8 @@ impl<'a> Connections for Clients<'a> {
     fn close(&mut self, connection: Visit<'a>) {
         self.end(Ended {
             written: Vec::new(self.alloc),
-            has_failed: connection.reader.has_failed,
+            read_failed: connection.reader.has_failed,
+            write_failed: false,
         });
     }
 }

@@ -1,5 +1,6 @@
-use Rattle.std.proofs.Common.{◌≡◌, ◌-◌, vec_len}
+use Rattle.std.proofs.Common.{◌≡◌, ◌+◌, ◌-◌, vec_len}
 use Rattle.std.specs.Io.KnownBytes.{Consumes}
+use Rattle.adm_http.specs.Heads.{most_body}
 use Rattle.adm_http.specs.Reading.{IsNotFarPast}
 use Rattle.adm_http.proofs.serve.read_request.Given as goal
 
@@ -11,4 +12,4 @@ invariant-loop-len g l = record {
 }
 
 abbrev pub decreases-loop-len : goal.decreases-loop-len
-decreases-loop-len g l = 1056768 - vec_len l.input
+decreases-loop-len g l = (8192 + most_body) - vec_len l.input

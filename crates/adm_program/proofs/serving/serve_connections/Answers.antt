@@ -11,7 +11,7 @@ use Rattle.adm_program.proofs.serving.serve_connections.Goals as goal
 -- connections were served
 pub returns-in-Ok-put_serving-clause-serves : goal.returns-in-Ok-put_serving-clause-serves
 returns-in-Ok-put_serving-clause-serves g c =
-    let visits : Visits = record { old = g.P.Connections.traffic c.args.ports.now; coming = g.P.Ports.traffic_at c.args.ports.now; new = g.P.Connections.traffic c.serve_on-status.new.connections; log_before = errors_of g.L.Output c.args.log.now; log_after = errors_of g.L.Output c.serve_on-status.new.errors } in
+    let visits : Visits = record { old = g.P.Connections.traffic c.args.ports.now; coming = g.P.Ports.traffic_at c.args.ports.now; may_refuse = g.P.Ports.may_refuse c.args.ports.now; new = g.P.Connections.traffic c.serve_on-status.new.connections; log_before = errors_of g.L.Output c.args.log.now; log_after = errors_of g.L.Output c.serve_on-status.new.errors } in
     let output : Stream = record { old = g.O.Output.contents c.args.output.now; new = g.O.Output.contents c.put_serving.new.output; has_failed = g.O.Output.has_failed c.put_serving.new.output } in
     let exit = exit_served c.serve_on-status.new.desk.failed c.serve_on-status.result c.of_served.result c.serve_on-status.ensures.status c.of_served.ensures in
     let turns = takes_turns c.args.count c.args.port c.args.desk c.serve_on-status.new.desk _ visits c.in-Ok.ensures.taken c.serve_on-status.ensures.serves in
@@ -26,7 +26,7 @@ returns-in-Ok-put_serving-clause-serves g c =
 -- the line was not printed
 pub returns-in-Ok-clause-serves : goal.returns-in-Ok-clause-serves
 returns-in-Ok-clause-serves g c =
-    let visits : Visits = record { old = g.P.Connections.traffic c.args.ports.now; coming = g.P.Ports.traffic_at c.args.ports.now; new = g.P.Connections.traffic c.listen.new.ports; log_before = errors_of g.L.Output c.args.log.now; log_after = errors_of g.L.Output c.args.log.now } in
+    let visits : Visits = record { old = g.P.Connections.traffic c.args.ports.now; coming = g.P.Ports.traffic_at c.args.ports.now; may_refuse = g.P.Ports.may_refuse c.args.ports.now; new = g.P.Connections.traffic c.listen.new.ports; log_before = errors_of g.L.Output c.args.log.now; log_after = errors_of g.L.Output c.args.log.now } in
     let output : Stream = record { old = g.O.Output.contents c.args.output.now; new = g.O.Output.contents c.put_serving.new.output; has_failed = g.O.Output.has_failed c.put_serving.new.output } in
     let ends = not_printed (Unit {0}) c.args.desk c.args.port c.args.count visits output c.in-Err-put_serving.fault c.in-Err-put_serving.ensures c.in-Ok.ensures.taken refl in
     record {
@@ -38,7 +38,7 @@ returns-in-Ok-clause-serves g c =
 -- no connection could be waited for
 pub returns-clause-serves : goal.returns-clause-serves
 returns-clause-serves g c =
-    let visits : Visits = record { old = g.P.Connections.traffic c.args.ports.now; coming = g.P.Ports.traffic_at c.args.ports.now; new = g.P.Connections.traffic c.listen.new.ports; log_before = errors_of g.L.Output c.args.log.now; log_after = errors_of g.L.Output c.args.log.now } in
+    let visits : Visits = record { old = g.P.Connections.traffic c.args.ports.now; coming = g.P.Ports.traffic_at c.args.ports.now; may_refuse = g.P.Ports.may_refuse c.args.ports.now; new = g.P.Connections.traffic c.listen.new.ports; log_before = errors_of g.L.Output c.args.log.now; log_after = errors_of g.L.Output c.args.log.now } in
     let output : Stream = record { old = g.O.Output.contents c.args.output.now; new = g.O.Output.contents c.args.output.now; has_failed = g.O.Output.has_failed c.args.output.now } in
     let ends = not_ready c.args.desk c.args.port c.args.count visits output c.in-Err.fault c.in-Err.ensures.err refl c.in-Err.ensures.left refl in
     record {
