@@ -6,6 +6,7 @@ import pytest
 from applications import ROUND, Browser, Site, office_over, town
 from pages import Page
 
+from office.web.history import SENDS, Entry
 from office.web.screens import activity
 
 
@@ -50,6 +51,18 @@ def test_it_is_found_by_person_child_and_day(office: Site) -> None:
     today = datetime.date.today()
     assert rows(rita, f"?day={today}") == rows(rita)
     assert rows(rita, f"?day={today - datetime.timedelta(1)}") == []
+
+
+def test_an_import_and_changes_of_a_row_are_found_by_the_child() -> None:
+    """An import of the rows that it has, and what was changed of a row in the table before."""
+    rows = "child,name,east,north,looked_after,flags,siblings,day,preferences\n"
+    rows += "12,Fay 3,1,2,no,,,2024-10-20,A;B\n"
+    stored = Entry(2, "2024-11-04T10:00:00+00:00", "jane", SENDS, {"import": rows})
+    changed = Entry(1, "2024-11-03T10:00:00+00:00", "bo", "corrected an application",
+                    {"row": "row 4 of a.csv", "number": "12", "east": "2, before 1"})
+    for entry in (stored, changed):
+        assert activity.is_meant(entry, "", "", "12") and activity.is_meant(entry, "", "", "")
+        assert not any(activity.is_meant(entry, "", "", it) for it in ("1", "3", "2", "x", "112"))
 
 
 def test_of_many_the_last_are_shown_and_all_are_counted(

@@ -378,6 +378,11 @@ def test_an_import_is_the_first_entry_of_a_child(office: Site) -> None:
         assert [it[1:] for it in table[1:]] == [
             ["jane", f"imported, with the application of {said}", "done"]]
     assert Page(rita.get("/children/1").text).tables["history"][1][1] == ""
+    # (what a first correction changes of the row is said, and nothing else)
+    moved = {**child(12, "Abel, Fay", 2), "cmd": "amend", "east": 7, "present": ""}
+    assert office.browser("jane").command(moved).json == {"done": True}
+    table = Page(rita.get("/children/12").text).tables["history"]
+    assert table[1][2] == "data corrected: East, in metres 1 → 7"
 
 
 def test_an_import_is_read_as_the_register_reads_it(office: Site) -> None:

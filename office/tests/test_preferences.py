@@ -124,7 +124,7 @@ def test_an_application_that_is_stored_is_not_changed_and_the_ways_are_said(
 ) -> None:
     """The register refuses a second one, so there is no form that would be refused."""
     jane = before.browser("jane")
-    assert "Change the preferences" in Page(jane.get("/children/3").text).text
+    assert "The family wants other schools" in Page(jane.get("/children/3").text).text
     page = Page(jane.get("/children/3/application").text)
     assert [it[1] for it in page.tables["list"][1:]] == ["A Alpha", "B Beta"]
     assert "keeps it as it was stored" in page.by_id["why-not"]

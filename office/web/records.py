@@ -137,6 +137,7 @@ def of_child(history: History, register: Register, number: int) -> list[Record]:
             words = words.replace(";", ", ") + said_of_point(points_in(it).get(str(number)))
             words += first_by(it)
             found.append(Record(it.at, it.who, words, came, is_done))
+            before = row if is_done else before
     found += [of_draw(register, at, number, draws.get(at)) for at, outcomes
               in register.outcomes.items() if number in outcomes]
     return sorted(found, key=lambda it: it.at, reverse=True)

@@ -10,7 +10,7 @@ from ..guard import needs, parts, person
 from ..history import ANSWER, RESTORED, SENDS, SETTLED, Entry
 from ..notes import ON_RECORD
 from ..people import NOTES, READ
-from ..records import ends_of, first_by
+from ..records import ends_of, first_by, row_in
 
 screen = flask.Blueprint("activity", __name__, url_prefix="/activity")
 SHOWN = 200
@@ -21,11 +21,20 @@ def day_of(it: Entry) -> str:
     return datetime.datetime.fromisoformat(it.at).astimezone().date().isoformat()
 
 
+def is_of(it: Entry, child: str) -> bool:
+    """Whether an entry is of one child: a command or a note, a change of its row in the table of
+    Applications, or an import that has the row.
+    """
+    if "import" in it.about:
+        return child.isdecimal() and row_in(it.about["import"], int(child)) is not None
+    about = it.about.get("command", it.about)
+    return child in (str(about.get("child", "")), str(it.about.get("number", "")))
+
+
 def is_meant(it: Entry, who: str, day: str, child: str) -> bool:
     """Whether an entry is one of those that were asked for."""
-    number = str(it.about.get("command", it.about).get("child", ""))
     return it.what not in (ANSWER, SETTLED) and (not who or it.who == who) and (
-        not day or day_of(it) == day) and (not child or number == child)
+        not day or day_of(it) == day) and (not child or is_of(it, child))
 
 
 def seen() -> list[Entry]:
