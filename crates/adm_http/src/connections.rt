@@ -1,5 +1,5 @@
 // Connections, taken one after the other, and their port, through traits whose contracts see their bytes.
-ghost use Rattle.std.specs.Prelude.{◌≡◌, ℕ, [], Bool, false, true, Option, option_map, take, IfSome, IsTrue, MatchResult, OnOk, OnErr};
+ghost use Rattle.std.specs.Prelude.{◌≡◌, ℕ, [], Bool, false, true, Option, option_map, take, IfSome, IsTrue, OnOk, OnErr};
 ghost use Rattle.adm_http.specs.Connections.{Traffic, TakesNext, Ends, IsIdle, IsOpen, ended, errors_of};
 
 use adm_wire::{Input, Output, WriteFailed};
@@ -26,9 +26,10 @@ pub trait Connections {
     /// beginning was written.
     fn respond(&mut self, connection: Self::Connection, output: &[u8]) -> Result<(), WriteFailed>
         requires { IsOpen (traffic self.old) }
-        ensures { MatchResult result
-            (λ _. Ends (traffic self.old) (traffic self.new) (ended output.now (Self.Connection.has_failed connection) false))
-            (λ _. (n : ℕ) × Ends (traffic self.old) (traffic self.new) (ended (take n output.now) (Self.Connection.has_failed connection) true)) };
+        ensures ok { OnOk result (Ends (traffic self.old) (traffic self.new)
+            (ended output.now (Self.Connection.has_failed connection) false)) }
+        ensures err { OnErr result ((n : ℕ) × Ends (traffic self.old) (traffic self.new)
+            (ended (take n output.now) (Self.Connection.has_failed connection) true)) };
 
     /// Ends the connection without a response.
     fn close(&mut self, connection: Self::Connection)

@@ -6,7 +6,7 @@ use Rattle.adm_http.proofs.listen.serve_connection.Goals as goal
 pub returns-in-Ok : goal.returns-in-Ok
 returns-in-Ok g c =
     let answered = c.in-Ok.ensures.ok in
-    let ended = c.in-Err-respond.ensures in (
+    let ended = c.in-Err-respond.ensures.err in (
       g.N.Connection.Input.remaining c.answer_request.new.reader,
       take ended.0 c.deref.result.now,
       (answered.0, c.in-Ok.output.items, answered.1, answered.2, (ended.0, ap (λ (bytes : List ℕ). take ended.0 bytes) c.deref.ensures.value)),
