@@ -8,7 +8,8 @@
 #   make reference     the definitions, public functions, clauses, mutants and files, as linked pages and one text, at out/reference; needs python3-jinja2, graphviz
 #   make evidence  what an auditor takes away, at out/evidence: each sentence promised, its clauses, what they assume, and verdicts; LOG=.. names logs of `make test`
 #                 and `make mutants`; needs git, python3-jinja2, graphviz
-#   make mutants  the planted bugs that the gate does not try, each of which the proof must reject
+#   make check-release  everything else that tests it, one suite after another, going on where it was ended; a table says what each alone finds; as root
+#   make mutants  all planted bugs, each of which the proof must reject
 #   make sweep    each request of the built program for memory refused, in turn: its answers and files are judged; some minutes
 #   make refusals  the same of a script over disks in memory, judged by rules that share no code with the program, and of the calls that need none
 #   make killed-opens  an open after a crash, and opens that are refused, killed at each of their calls to the system; a minute
@@ -32,7 +33,7 @@ EXAMPLES := first_path applications season
 
 LOOKED_AT := $(addprefix examples/applications/,schools.jsonl children.jsonl applications.jsonl)
 
-.PHONY: look build demo cases test reference evidence mutants sweep refusals killed-opens audits races costs bench bench-more deploy-check pictures install package release needs-demo needs-cases needs-sweep needs-refusals needs-office office
+.PHONY: look build demo cases test check-release reference evidence mutants sweep refusals killed-opens audits races costs bench bench-more deploy-check pictures install package release needs-demo needs-cases needs-sweep needs-refusals needs-office office
 
 look:
 	@tools/needs look
@@ -53,7 +54,10 @@ needs-demo needs-cases needs-sweep needs-refusals needs-office:
 	@tools/needs $(@:needs-%=%)
 
 test:
-	@tools/test $(EXAMPLES)
+	@tools/test
+
+check-release:
+	@tools/test release
 
 reference:
 	@tools/reference

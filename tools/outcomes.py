@@ -22,15 +22,14 @@ OUTCOME = re.compile(r"rt: must-fail (\S+)\.edit: (.*)")
 WORD = re.compile(r"([a-z-]+)=\S+")
 # the toolchain, as `rt version` prints it
 TOOLCHAIN = re.compile(r"\S+ logic [0-9a-f]{16}")
-# a part of the gate, as tools/test calls it, and as it prints what that ended with
-CALLED = re.compile(r"""(?m)^ *part (?:"\$\(.*?\)+\+?"|\S+) (.*)$""")
-PART = re.compile(r"(\S+): (\d+) passed, (\d+) failed")
+# a part of the gate, as tools/test prints what it ended with
+PART = re.compile(r"part (.+): (\d+) passed, (\d+) failed")
 TOTAL = re.compile(r"\d+ passed, \d+ failed")
 RAN = re.compile(r"rt: (\w+)(?:: (its tests passed)| (ran, and wrote what its file stdout has))")
 NOT_PASSED = re.compile(r"case (\w+): (NOT as expected.*|it has no step)")
 # how long a run took, as tools/test and tools/mutants print it
-TIMES = re.compile(r"(rt ci|All of it|tools/mutants[^:]*: mutants tried: \d+),? (?:took|in) (\d+)"
-                   r" seconds(?: of wall-clock time.*)?")
+TIMES = re.compile(r"(All of it|tools/mutants[^:]*: mutants tried: \d+),? (?:took|in) (\d+)"
+                   r" seconds of wall-clock time(?:, and (\d+) of CPU time)?")
 # from what a verdict was made, by what its text has; the first that fits
 MADE = (
     (rf"^{UNSEEN}$", UNSEEN),
@@ -92,7 +91,6 @@ class Logs:
             self.read(path.name, lines)
             for one in proofs(path.name).proved(lines):
                 self.proved[one.crate] = f"{one.verdict} ({path.name})"
-            self.read_parts(path.name, lines)
 
     def about(self, name: str, lines: list[str]) -> None:
         """Takes what a log is: its sum, how it ended, and the toolchain that it names."""
@@ -109,9 +107,9 @@ class Logs:
         })
 
     def read(self, name: str, lines: list[str]) -> None:
-        """Takes what a log has of mutants, tests and times, and of crates that were kept."""
+        """Takes what a log has of mutants, parts, tests and times, and of crates that were kept."""
         tried: dict[str, str] = {}
-        for line, after in zip(lines, (*lines[1:], "")):
+        for line in lines:
             if found := re.fullmatch(r"rt: (\w+) (is kept: .*)", line):
                 self.proved[found[1]] = f"{found[2]} ({name})"
             elif found := OUTCOME.fullmatch(line):
@@ -122,25 +120,17 @@ class Logs:
             elif found := NOT_PASSED.fullmatch(line):
                 self.cases[found[1]] = f"{found[2]} ({name})"
             elif found := TIMES.fullmatch(line):
-                cpu = int(after) if line.endswith("of CPU time:") and after.isdigit() else None
+                cpu = int(found[3]) if found[3] else None
                 self.times.append({"log": name, "what": found[1], "seconds": int(found[2]),
                                    "cpu_seconds": cpu})
-        self.mutants.update(tried)
-
-    def read_parts(self, name: str, lines: list[str]) -> None:
-        """Takes what the parts of the gate ended with, in the order in which tools/test calls
-        them."""
-        left = CALLED.findall(Path("tools/test").read_text(encoding="utf-8"))
-        for found in filter(None, map(PART.fullmatch, lines)):
-            while left and left[0].split()[0] != found[1]:
-                del left[0]
-            if left:
-                self.parts.append({"part": left.pop(0), "passed": int(found[2]),
+            elif found := PART.fullmatch(line):
+                self.parts.append({"part": found[1], "passed": int(found[2]),
                                    "failed": int(found[3]), "log": name})
+        self.mutants.update(tried)
 
     def of_case(self, name: str) -> str:
         """What the logs say of a case: the gate runs all of them, and names those that failed."""
-        ran = [it["log"] for it in self.parts if it["part"].startswith("tools/cases ")]
+        ran = [it["log"] for it in self.parts if it["part"].startswith("tools/cases")]
         return self.cases.get(name, f"passed ({ran[-1]})" if ran else UNTRIED)
 
     def of_run(self, name: str) -> str:

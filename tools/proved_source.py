@@ -48,6 +48,19 @@ def sum_of(root: Path, crates: Iterable[str]) -> str:
     return hashlib.sha256("\n".join([*found, sum_of_files(root, files)]).encode()).hexdigest()
 
 
+def below(root: Path, name: str) -> list[str]:
+    """All crates of the repository that a crate is built from."""
+    lines = (root / TABLE).read_text(encoding="utf-8").splitlines()
+    rows = {it.partition(":")[0]: it.partition("#")[0].partition(":")[2].split() for it in lines}
+    found: set[str] = set()
+    waiting = [name]
+    while waiting:
+        more = {it for it in rows.get(waiting.pop(), []) if it in rows} - found
+        found |= more
+        waiting += more
+    return sorted(found)
+
+
 def sum_of_all(root: Path) -> str:
     """The sum of all crates and mutants, but for what checks and builds leave."""
     found = [path for name in ("crates", "mutants") for path in (root / name).rglob("*")

@@ -129,7 +129,7 @@ def test_each_sentence_leads_to_its_clauses_where_they_are(pack: Pack) -> None:
             assert path.is_file()
             # (those of the reference are judged where it is made)
             assert not anchor or "/" in target or f'id="{anchor}"' in pages[path.name]
-    assert len(found["mutants"]) == len([*copy.glob("crates/*/must-fail/*.edit"),
+    assert len(found["mutants"]) == len([*copy.glob("mutants/*/gate/*.edit"),
                                          *copy.glob("mutants/*/*.edit")])
     assert {it["case"] for it in found["cases"]} == {it.name for it in copy.glob("cases/*")}
     # nobody checked anything in this copy
@@ -296,21 +296,19 @@ def test_a_log_counts_for_the_source_that_it_is_of(copy: pathlib.Path) -> None:
     assert "is no log of this source" in refusal(copy, log)
 
 
-GATE = """tools/lint: 2 passed, 0 failed
+GATE = """part tools/lint: 2 passed, 0 failed
 {source}{rank}
 rt: must-fail adm_types/closes_a_day_early.edit: refused, as it must be
 rt: match_runs ran, and wrote what its file stdout has
 rt: adm_tests: its tests passed
-tools/proofs: 109 passed, 0 failed
-rt ci took 4000 seconds
+part tools/proofs: 109 passed, 0 failed
 case lots: NOT as expected (lines with + are of this run)
-tools/cases: 51 passed, 1 failed
-tools/python-tests: 700 passed, 0 failed
+part tools/cases: 51 passed, 1 failed
+part tools/cases: 1 failed
+part tools/python-tests office: 700 passed, 0 failed
 {source}rt: twin adm_types/closes_a_day_early.edit: NOT REFUSED: it is proved
-rt: must-fail adm_types/closes_a_day_early.edit: NOT REFUSED: as older tools named a twin
-tools/mutants: 1 passed, 0 failed
-All of it took 4500 seconds of wall-clock time; of CPU time:
-15000
+part tools/mutants --twins: 1 passed, 0 failed
+All of it took 4500 seconds of wall-clock time, and 15000 of CPU time
 860 passed, 1 failed
 """
 
@@ -322,11 +320,9 @@ def test_a_log_of_the_gate_says_what_came_out_of_tests_and_how_long_it_took(
     source = run(copy, "tools/proved_source.py").stdout
     log.write_text(GATE.format(source=source, rank=gate_of("adm_rank")))
     found = made(copy, log)
-    parts = [(it["part"].split()[:2], it["passed"], it["failed"]) for it in found["parts"]]
-    # (the tests of office come after the cases, and those of deploy before)
-    assert parts == [
-        (["tools/lint"], 2, 0), (["tools/proofs"], 109, 0), (["tools/cases", '"$program"'], 51, 1),
-        (["tools/python-tests", "office"], 700, 0), (["tools/mutants", "--twins"], 1, 0)]
+    parts = [(it["part"], it["passed"], it["failed"]) for it in found["parts"]]
+    assert parts == [("tools/lint", 2, 0), ("tools/proofs", 109, 0), ("tools/cases", 51, 1),
+                     ("tools/python-tests office", 700, 0), ("tools/mutants --twins", 1, 0)]
     assert {it["outcome"] for it in found["mutants"]} == {"refused, as it must be",
                                                           "not tried here"}
     cases = {it["case"]: it["outcome"] for it in found["cases"]}
@@ -339,7 +335,7 @@ def test_a_log_of_the_gate_says_what_came_out_of_tests_and_how_long_it_took(
     searches = {it["search"]: it["outcome"] for it in found["searches"]}
     assert searches["match_runs"].startswith("ran, ")
     times = {it["what"]: (it["seconds"], it["cpu_seconds"]) for it in found["times"]["logs"]}
-    assert times == {"rt ci": (4000, None), "All of it": (4500, 15000)}
+    assert times == {"All of it": (4500, 15000)}
     [about] = found["logs"]
     digest = hashlib.sha256(log.read_bytes()).hexdigest()
     assert about == {"log": "gate.log", "last_line": "860 passed, 1 failed", "ended": True,
@@ -866,6 +862,7 @@ def test_one_mutant_is_tried_whether_the_gate_tries_it_or_not(copy: pathlib.Path
     assert done.returncode == 1 and source.startswith("source ")
     assert lines == ["rt must-fail adm_types adm_rank"] + [
         f"crates/{it.replace('/', '/must-fail/')}.edit" for it in (other, gate)]
+    assert not (copy / "tools/rejected").read_text().count(gate)
     assert re.fullmatch(rf"tools/mutants {gate} {other}: mutants tried: 2, in \d+ seconds of"
                         " wall-clock time", time) and outcomes.TIMES.fullmatch(time)
     # a twin has no outcome by the name of its mutant

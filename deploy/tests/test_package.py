@@ -15,7 +15,7 @@ from conftest import ROOT
 from machine import setup
 from office import libraries
 
-GATE = "rt: adm_types proved\nrt ci took 3310 seconds\n57 passed, 0 failed\n"
+GATE = "rt: adm_types proved\nAll of it took 3310 seconds of wall-clock time, and 9000 of CPU time\n57 passed, 0 failed\n"
 
 
 @pytest.fixture(name="package")
