@@ -57,7 +57,8 @@ def page() -> tuple[markupsafe.Markup, markupsafe.Markup]:
     text = TABLE.sub(lambda it: captioned(text[:it.start()]), text).replace(
         "</table>", "</table></div>").replace("<th>", '<th scope="col">')
     # (it comes from the product itself, and from nobody who uses it)
-    return markupsafe.Markup(reader.toc), markupsafe.Markup(text)
+    contents: str = getattr(reader, "toc")
+    return markupsafe.Markup(contents), markupsafe.Markup(text)
 
 
 @screen.get("/help")
