@@ -4,7 +4,6 @@ import re
 from pathlib import Path
 
 ROOT = Path(__file__).resolve().parent.parent
-# (crates has one script, the model beside word_runs)
 NO_SOURCE = {".git", "out", "bin", "crates", "__pycache__"}
 
 

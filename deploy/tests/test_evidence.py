@@ -331,7 +331,7 @@ def test_a_log_of_the_gate_says_what_came_out_of_tests_and_how_long_it_took(
     ran = {it["crate"]: it["outcome"] for it in found["tests_of_crates"]}
     assert ran["match_runs"] == "ran, and wrote what its file stdout has (gate.log)"
     assert ran["adm_tests"] == "its tests passed (gate.log)"
-    assert ran["word_runs"] == "not tried here"
+    assert ran["desk_runs"] == "not tried here"
     searches = {it["search"]: it["outcome"] for it in found["searches"]}
     assert searches["match_runs"].startswith("ran, ")
     times = {it["what"]: (it["seconds"], it["cpu_seconds"]) for it in found["times"]["logs"]}
