@@ -11,7 +11,6 @@
 #   make check-release  everything else that tests it, one suite after another, going on where it was ended; a table says what each alone finds; as root
 #   make mutants  all planted bugs, each of which the proof must reject
 #   make sweep    each request of the built program for memory refused, in turn: its answers and files are judged; some minutes
-#   make refusals  the same of a script over disks in memory, judged by rules that share no code with the program, and of the calls that need none
 #   make killed-opens  an open after a crash, and opens that are refused, killed at each of their calls to the system; a minute
 #   make audits   admissions-audit on the rounds and fills of 200 random registers, on files changed by hand, and on all allocations of small ones
 #   make office   the tests of the office's commands (office/tests) alone, with the built program; needs python3-pytest, python3-pytest-xdist, poppler-utils, and what cases need
@@ -33,7 +32,7 @@ EXAMPLES := first_path applications season
 
 LOOKED_AT := $(addprefix examples/applications/,schools.jsonl children.jsonl applications.jsonl)
 
-.PHONY: look build demo cases test check-release reference evidence mutants sweep refusals killed-opens audits races costs bench bench-more deploy-check pictures install package release needs-demo needs-cases needs-sweep needs-refusals needs-office office
+.PHONY: look build demo cases test check-release reference evidence mutants sweep killed-opens audits races costs bench bench-more deploy-check pictures install package release needs-demo needs-cases needs-sweep needs-office office
 
 look:
 	@tools/needs look
@@ -50,7 +49,7 @@ cases: needs-cases build
 	@tools/cases bin/admissions $(notdir $(wildcard cases/*))
 
 # Checked before a build that takes an hour: what the goal needs after it
-needs-demo needs-cases needs-sweep needs-refusals needs-office:
+needs-demo needs-cases needs-sweep needs-office:
 	@tools/needs $(@:needs-%=%)
 
 test:
@@ -70,10 +69,6 @@ mutants:
 
 sweep: needs-sweep build
 	tools/sweep bin/admissions
-
-refusals: needs-refusals
-	cd crates/memory_runs && rt run < stdin | cmp - stdout
-	tools/refusals crates/memory_runs/out/memory_runs
 
 killed-opens: build
 	tools/killed-opens bin/admissions

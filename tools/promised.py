@@ -27,7 +27,6 @@ COMMANDS: list[tuple[str, Callable[[str], str]]] = [
     (r"make [\w-]+", lambda it: it),
     (r"bench/\w+/run", lambda it: f"{it} bin/admissions"),
     (r"deploy/[\w-]+", lambda it: it),
-    (r"tools/refusals", lambda it: "make refusals"),
     (r"\w+_runs", lambda it: f"cd crates/{it} && rt run"),
 ]
 
