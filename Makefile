@@ -12,6 +12,8 @@
 #   make mutants  all planted bugs, each of which the proof must reject
 #   make sweep    each request of the built program for memory refused, in turn: its answers and files are judged; some minutes
 #   make killed-opens  an open after a crash, and opens that are refused, killed at each of their calls to the system; a minute
+#   make laws     the rounds of all small problems and of drawn ones by a search over all allocations, what match_runs must print of them, and each law of a
+#                 round tried on them; some minutes
 #   make audits   admissions-audit on the rounds and fills of 200 random registers, on files changed by hand, and on all allocations of small ones
 #   make office   the tests of the office's commands (office/tests) alone, with the built program; needs python3-pytest, python3-pytest-xdist, poppler-utils, and what cases need
 #   make races    a restore beside which a program starts at 300 random moments; restore and backup with a program started before each operation, killed, failing, without power; some minutes
@@ -32,7 +34,7 @@ EXAMPLES := first_path applications season
 
 LOOKED_AT := $(addprefix examples/applications/,schools.jsonl children.jsonl applications.jsonl)
 
-.PHONY: look build demo cases test check-release reference evidence mutants sweep killed-opens audits races costs bench bench-more deploy-check pictures install package release needs-demo needs-cases needs-sweep needs-office office
+.PHONY: look build demo cases test check-release reference evidence mutants sweep killed-opens laws audits races costs bench bench-more deploy-check pictures install package release needs-demo needs-cases needs-sweep needs-office office
 
 look:
 	@tools/needs look
@@ -75,6 +77,10 @@ killed-opens: build
 
 office: needs-office build
 	tools/python-tests office $(PROGRAM)
+
+laws:
+	python3 bench/laws/search.py outcomes | cmp - crates/match_runs/stdout
+	python3 bench/laws/search.py laws
 
 audits: build
 	bench/audit/run bin/admissions office/command

@@ -1,13 +1,26 @@
 #!/usr/bin/env python3
-"""The counts of the laws that crates/match_runs prints, by a search over all allocations alone.
+"""The rounds of all small problems and of drawn ones, by a search over all allocations alone: search.py outcomes | search.py laws
 
-    python3 bench/laws/search.py | diff <(sed -n '/^small/,$p' crates/match_runs/stdout) -
+outcomes  prints what crates/match_runs must print: of each block of problems how many there are, how many children have a place, how many
+          entries of their lists are gone through, and a checksum of what each child has; and the same of every list of the two schools that
+          a child of a small problem could hand in, and of changes of the drawn ones.
+laws      tries each law of a round on these problems: with more places, without a child, with a shorter list, with another list, with lists
+          stated by a group, beside all other allocations, and with each child as tenant of what it has. It prints how often, and ends with
+          status 1 where one does not hold or was not tried. It takes some minutes.
 
 It shares no code with the program and knows no deferred acceptance: the best allocation is the stable one that no other stable one beats
-for any child. It takes some minutes.
+for any child.
 """
+import sys
 from functools import lru_cache
 from itertools import permutations, product
+
+SMALL, DRAWN, BLOCK = 9, 2000, 500
+OPTIONS = [("", ""), ("A", ""), ("B", ""), ("AB", ""), ("BA", ""), ("A", "A"), ("B", "B"), ("AB", "B"), ("BA", "A")]
+# the lists of the two schools of a small problem
+LISTS = ["", "A", "B", "AB", "BA"]
+# what each family has of the rules that its problems broke
+broken: list[str] = []
 
 
 class Entrant(tuple):
@@ -180,16 +193,25 @@ class Counts:
 
     def print(self):
         print(f"{self.kind}: problems {self.problems}, stable allocations {self.stable}, with several {self.several}, placed {self.placed}")
-        print(f"{self.kind}: not best 0, unstable 0, uneven {self.uneven}")
+        self.judge("several stable allocations, schools that fill unevenly", self.several, self.uneven)
         for name, law in self.laws.items():
             print(f"{self.kind}, {name}: tried {law.tried}, better {law.better}, worse {law.worse}")
+            # (of another list: no child has by it a school that it wants more; of the other changes: nobody has one that it wants less)
+            self.judge(name, law.tried, law.better if name == "another list" else law.worse)
         group = self.groups
+        self.judge("lists of a group", group.tried, group.all_better)
         print(f"{self.kind}, lists of a group: tried {group.tried}, better {group.better}, worse {group.worse}, all better {group.all_better}")
         others = self.others
         print(
             f"{self.kind}, others: fair {others.fair}, fairer {others.fairer}, better for each {others.better_for_each}, moved {others.moved}"
         )
+        self.judge("fair allocations", others.fair, others.fairer + others.better_for_each + others.moved)
         print(f"{self.kind}, stable together: {others.joined}, not stable {others.torn}, rather had {others.rather}")
+        self.judge("stable together", others.joined, others.torn + others.rather)
+
+    def judge(self, law, tried, wrong):
+        if tried == 0 or wrong:
+            broken.append(f"{self.kind}, {law}: tried {tried}, wrong {wrong}")
 
 
 def replaced(entrants, index, other):
@@ -200,18 +222,22 @@ def with_quota(quotas, school, quota):
     return tuple((s, quota if s == school else q) for s, q in quotas)
 
 
+def small_problem(options, quotas, rankings):
+    """One of three entrants and two schools: a number of OPTIONS for each entrant, and a quota and the entrants' places for each school."""
+    chosen = [OPTIONS[number] for number in options]
+    entrants = tuple(entrant(chosen[i][0], chosen[i][1], {"A": rankings[0][i], "B": rankings[1][i]}) for i in range(3))
+    return entrants, tuple(zip("AB", quotas))
+
+
 def small():
     """Each problem of three entrants and two schools with quotas 0 to 2, the second and the third entrant in one order alone."""
     counts, groups = Counts("small"), Numbers(12)
-    options = [("", ""), ("A", ""), ("B", ""), ("AB", ""), ("BA", ""), ("A", "A"), ("B", "B"), ("AB", "B"), ("BA", "A")]
-    for first, second, third in product(range(9), repeat=3):
-        if second > third:
+    for options in product(range(9), repeat=3):
+        if options[1] > options[2]:
             continue
-        chosen = [options[number] for number in (first, second, third)]
-        for quota_a, quota_b in product(range(3), repeat=2):
-            quotas = (("A", quota_a), ("B", quota_b))
-            for at_a, at_b in product(permutations(range(3)), repeat=2):
-                entrants = tuple(entrant(*chosen[i], {"A": at_a[i], "B": at_b[i]}) for i in range(3))
+        for numbers in product(range(3), repeat=2):
+            for rankings in product(permutations(range(3)), repeat=2):
+                entrants, quotas = small_problem(options, numbers, rankings)
                 counts.problem(entrants, quotas)
                 for school, quota in quotas:
                     counts.laws["more places"].count(entrants, quotas, entrants, with_quota(quotas, school, quota + 1))
@@ -221,7 +247,7 @@ def small():
                     for length in range(len(own.list)):
                         cut = Entrant((own.list[:length], "", own.ranks))
                         counts.laws["a shorter list"].count(entrants, quotas, replaced(entrants, 0, cut), quotas)
-                for listed, tenant in options:
+                for listed, tenant in OPTIONS:
                     if tenant in ("", own.tenant):
                         other = Entrant((listed, tenant, own.ranks))
                         counts.laws["another list"].count_list(entrants, quotas, replaced(entrants, 0, other), 0)
@@ -229,7 +255,7 @@ def small():
                 stated: list = [None] * 3
                 for i in range(3):
                     if is_member[i]:
-                        listed, tenant = options[groups.below(9)]
+                        listed, tenant = OPTIONS[groups.below(9)]
                         stated[i] = Entrant((listed, tenant if tenant == entrants[i].tenant else "", entrants[i].ranks))
                 counts.groups.count(entrants, quotas, stated)
             best.cache_clear()
@@ -313,17 +339,22 @@ def opposed_problem(numbers, length):
     return lists, numbered, ranks
 
 
-def drawn(kind, count, a_problem):
-    counts, numbers, groups = Counts(kind), Numbers(11), Numbers(13)
-    for _ in range(count):
+def problems(a_problem):
+    """The drawn problems of a family."""
+    numbers = Numbers(11)
+    for _ in range(DRAWN):
         length = numbers.below(5) + 1
         lists, numbered, ranks = a_problem(numbers, length)
-        quotas = tuple(numbered)
-        entrants = tuple(entrant(lists[i][0], lists[i][1], ranks[i]) for i in range(length))
+        yield tuple(entrant(lists[i][0], lists[i][1], ranks[i]) for i in range(length)), tuple(numbered)
+
+
+def drawn(kind, a_problem):
+    counts, numbers, groups = Counts(kind), Numbers(12), Numbers(13)
+    for entrants, quotas in problems(a_problem):
         counts.problem(entrants, quotas)
         school, more = "ABCD"[numbers.below(4)], numbers.below(3)
         counts.laws["more places"].count(entrants, quotas, entrants, with_quota(quotas, school, dict(quotas)[school] + more))
-        index = numbers.below(length)
+        index = numbers.below(len(entrants))
         counts.laws["a child leaves"].count(entrants, quotas, replaced(entrants, index, None), quotas)
         own, first = entrants[index], numbers.below(4)
         if not own.tenant:
@@ -336,6 +367,86 @@ def drawn(kind, count, a_problem):
     counts.print()
 
 
-small()
-drawn("drawn", 2000, any_problem)
-drawn("opposed", 2000, opposed_problem)
+FAMILIES = {"drawn": any_problem, "opposed": opposed_problem}
+
+
+def laws():
+    small()
+    for kind, a_problem in FAMILIES.items():
+        drawn(kind, a_problem)
+    for it in broken:
+        print(f"BROKEN: {it}")
+    return 1 if broken else 0
+
+
+def checksum(numbers):
+    total = 0
+    for number in numbers:
+        total = (31 * total + number) % 2**64
+    return total
+
+
+def number_of(given):
+    """What entrants have as one number: the last digit of five is what the first one has."""
+    return sum(5**i * " ABCD".index(school or " ") for i, school in enumerate(given))
+
+
+def print_block(kind, block, found):
+    """What the problems of a block are given: `found` has the entrants and what each of them has."""
+    numbers = [number_of(given) for _, given in found]
+    placed = sum(school != "" for _, given in found for school in given)
+    entries = sum(e.place(school) + 1 if school else len(e.list) for entrants, given in found for e, school in zip(entrants, given))
+    print(f"{kind} {block}: problems {len(found)}, placed {placed}, proposals {entries}, checksum {checksum(numbers)}")
+
+
+def print_lists(block, found, given_by):
+    """What children would have by each list of the two schools, of which one may hand in those that it lists and is no tenant of. Where it
+    is a tenant its school stays last."""
+    answers = []
+    for options, numbers, rankings in found:
+        for i, listed in product(range(3), LISTS):
+            own, tenant = OPTIONS[options[i]]
+            if set(listed) <= set(own) - {tenant}:
+                other = OPTIONS.index((listed + tenant, tenant))
+                answers.append(" AB".index(given_by[replaced(options, i, other), numbers, rankings][i] or " "))
+            else:
+                answers.append(5)
+    refused = answers.count(5)
+    print(f"small {block}, other lists: {len(answers) - refused}, refused {refused}, checksum {checksum(answers)}")
+
+
+def print_changes(kind, block, found):
+    """How many the first school of each problem has, and what is given with a place more there, without the first child, and where that
+    child lists its first school alone: as a tenant of none, within a group, and by ending its list there, which a tenant may not."""
+    numbers = []
+    for entrants, quotas in found:
+        own, (school, quota) = entrants[0], quotas[0]
+        alone = replaced(entrants, 0, Entrant((own.list[:1], "", own.ranks)))
+        changes = [(entrants, with_quota(quotas, school, quota + 1)), (replaced(entrants, 0, None), quotas)]
+        changes += [(alone, quotas)] * (2 if own.tenant else 3)
+        numbers += [best(entrants, quotas).count(school), *(number_of(best(*it)) for it in changes)]
+    print(f"{kind} {block}, changes: {len(numbers)}, checksum {checksum(numbers)}")
+
+
+def outcomes():
+    given_by = {}
+    blocks: list[list] = [[] for _ in range(SMALL)]
+    for options in product(range(9), repeat=3):
+        for one in product([options], product(range(3), repeat=2), product(permutations(range(3)), repeat=2)):
+            blocks[options[0]].append(one)
+            given_by[one] = best(*small_problem(*one))
+        best.cache_clear()
+        stable_allocations.cache_clear()
+    for block, found in enumerate(blocks):
+        print_block("small", block, [(small_problem(*one)[0], given_by[one]) for one in found])
+        print_lists(block, found, given_by)
+    for kind, a_problem in FAMILIES.items():
+        posed = list(problems(a_problem))
+        for block in range(DRAWN // BLOCK):
+            found = posed[BLOCK * block : BLOCK * (block + 1)]
+            print_block(kind, block, [(entrants, best(entrants, quotas)) for entrants, quotas in found])
+            print_changes(kind, block, found)
+    return 0
+
+
+sys.exit({"outcomes": outcomes, "laws": laws}[sys.argv[1]]())

@@ -1,14 +1,15 @@
-// Allots places in all small problems and in one market, and tries the laws of a round; or allots a market of a given size alone.
-// Without arguments it goes through every small problem, allots a market of 100 entrants, and compares each law of a round with a
-// search over all allocations. With a size as its arguments (entrants, wishes, schools) it allots that market alone, and prints the
-// microseconds that it took.
+// Allots the places of all small problems and of drawn ones, or those of one market.
+// Without arguments it prints what `offers` and `what_if` give, as counts and checksums of blocks. With a size as its arguments
+// (entrants, wishes, schools) it allots that market alone, and prints the microseconds that it took.
 #![tactic(auto)]
 
-mod cases;
-mod laws;
+mod changes;
+mod drawn;
 mod market;
-mod sweep;
-mod totals;
+mod outcomes;
+mod posed;
+mod small;
+mod tables;
 
 use adm_match::{Offers, offers};
 use adm_types::ChildNo;
@@ -53,13 +54,7 @@ fn size(rt: &HostRuntime) -> io::Result<Option<Size>> {
     }
 }
 
-const SMALL: Size = Size {
-    entrants: 100,
-    wishes: 4,
-    schools: 10,
-};
-
-fn run(rt: &HostRuntime, size: Size, timed: bool) -> io::Result<()> {
+fn run(rt: &HostRuntime, size: Size) -> io::Result<()> {
     let alloc = rt.alloc();
     let codes = codes(alloc, size)?;
     let entrants = entrants(alloc, &codes, size)?;
@@ -75,19 +70,12 @@ fn run(rt: &HostRuntime, size: Size, timed: bool) -> io::Result<()> {
     let sum = checksum(&given, size);
     let proposals = given.proposals();
     println!(rt; "checksum {sum}, proposals {proposals}")?;
-    if timed {
-        println!(rt; "posed {posed}, allotted {allotted}")?;
-    }
-    Ok(())
+    println!(rt; "posed {posed}, allotted {allotted}")
 }
 
 fn main(rt: HostRuntime) -> io::Result<()> {
     match size(&rt)? {
-        Some(size) => run(&rt, size, true),
-        None => {
-            sweep::run(&rt)?;
-            run(&rt, SMALL, false)?;
-            laws::run(&rt)
-        }
+        Some(size) => run(&rt, size),
+        None => outcomes::run(&rt),
     }
 }

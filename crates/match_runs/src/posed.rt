@@ -1,6 +1,6 @@
-// The entrants and seats of a table, and what the program offers as a row of numbers.
-use crate::laws::tables::{Given, List, Row, Table, at};
-use adm_match::{Entrant, Offers, Seats, Wish};
+// Tables posed to the program as problems, and what it offers as a row of numbers.
+use crate::tables::{Given, List, Row, Table, at};
+use adm_match::{BadProblem, Entrant, Offers, Problem, Seats, Wish};
 use adm_rank::RankKey;
 use adm_types::{ChildNo, SchoolCode};
 use std::alloc::{AllocError, Global};
@@ -31,11 +31,44 @@ pub fn make_names() -> Option<Names> {
 }
 
 /// The school of a number, or none.
-pub fn code_of(names: &Names, school: u32) -> Option<SchoolCode> {
+fn code_of(names: &Names, school: u32) -> Option<SchoolCode> {
     if school == 0 {
         None
     } else {
         Some(names.codes[at(school)])
+    }
+}
+
+/// The number of a school; 0 is none.
+pub fn number_of(names: &Names, school: Option<SchoolCode>) -> u32 {
+    match school {
+        None => 0,
+        Some(code) if code == names.codes[0] => 1,
+        Some(code) if code == names.codes[1] => 2,
+        Some(code) if code == names.codes[2] => 3,
+        Some(_) => 4,
+    }
+}
+
+/// The key of a rank below 64: the first school ranks by class alone, the second by distance, the others
+/// by lot.
+fn key_at(school: u32, rank: u32) -> RankKey {
+    match school {
+        1 => RankKey {
+            class: (rank % 64) as u8,
+            distance: 5,
+            lot: 5,
+        },
+        2 => RankKey {
+            class: 1,
+            distance: rank,
+            lot: 9,
+        },
+        _ => RankKey {
+            class: 1,
+            distance: 7,
+            lot: rank,
+        },
     }
 }
 
@@ -51,11 +84,7 @@ pub fn wishes_of(
         if school != 0 {
             wishes.push(Wish {
                 school: names.codes[at(school)],
-                key: RankKey {
-                    class: 1,
-                    distance: 7,
-                    lot: ranks[at(school)],
-                },
+                key: key_at(school, ranks[at(school)]),
             })?;
         }
     }
@@ -101,14 +130,11 @@ pub fn seats_of(alloc: Global, names: &Names, table: &Table) -> Result<Vec<Seats
     Ok(seats)
 }
 
-fn number_of(names: &Names, school: Option<SchoolCode>) -> u32 {
-    match school {
-        None => 0,
-        Some(code) if code == names.codes[0] => 1,
-        Some(code) if code == names.codes[1] => 2,
-        Some(code) if code == names.codes[2] => 3,
-        Some(_) => 4,
-    }
+/// The problem of a table.
+pub fn pose(alloc: Global, names: &Names, table: &Table) -> Result<Problem, BadProblem> {
+    let entrants = entrants_of(alloc, names, table)?;
+    let seats = seats_of(alloc, names, table)?;
+    Problem::new(alloc, entrants, seats)
 }
 
 /// What the program offers each of the five.

@@ -1,5 +1,5 @@
-// Tables of up to five entrants and four schools, and changes of them, drawn from a fixed sequence of numbers.
-use crate::laws::tables::{ABSENT, List, Row, Table, at, place_on};
+// Tables of up to five entrants and four schools, drawn from a fixed sequence of numbers.
+use crate::tables::{ABSENT, List, Row, Table, place_on};
 
 /// A sequence of numbers.
 #[derive(Drop)]
@@ -22,7 +22,7 @@ impl Numbers {
 }
 
 /// The numbers from 0 to 4 in some order.
-pub fn order_of_five(numbers: &mut Numbers) -> [u32; 5] {
+fn order_of_five(numbers: &mut Numbers) -> [u32; 5] {
     let mut order = [0, 1, 2, 3, 4];
     for last in 1..5 {
         let other = (numbers.below(5) as usize) % (last + 1);
@@ -132,39 +132,4 @@ pub fn opposed_table(numbers: &mut Numbers, entrants: u32) -> Table {
         }
     }
     Table { rows, quotas }
-}
-
-/// The list without a school, and that school last.
-fn with_last(list: List, school: u32) -> List {
-    let mut moved: List = [0; 4];
-    let mut count: u32 = 0;
-    for listed in list {
-        if listed != 0 && listed != school {
-            moved[(count % 4) as usize] = listed;
-            count = count.wrapping_add(1);
-        }
-    }
-    moved[(count % 4) as usize] = school;
-    moved
-}
-
-/// The row by any list, with even ranks at the schools that it does not truly list. A tenant keeps its
-/// school, as the last of the list, or gives it up.
-pub fn another_list(own: &Row, numbers: &mut Numbers) -> Row {
-    let list = some_list(numbers);
-    let keeps = numbers.below(2) == 0 && own.tenant != 0;
-    let mut row = *own;
-    row.list = if keeps {
-        with_last(list, own.tenant)
-    } else {
-        list
-    };
-    row.tenant = if keeps { own.tenant } else { 0 };
-    for school in 1..5 {
-        let rank = numbers.below(6).wrapping_mul(2);
-        if place_on(own.list, school) == 4 {
-            row.ranks[at(school)] = rank;
-        }
-    }
-    row
 }
