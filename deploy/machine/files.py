@@ -1,23 +1,28 @@
 """Files and folders that are made once, changed only where they differ, and never half; and the
 lock of those who change them."""
 import contextlib
+import errno
 import fcntl
 import grp
 import os
 import pathlib
 import pwd
+import secrets
 import stat
 import sys
-import tempfile
 import typing
 
-from register_files import Refused
+from register_files import OWNER_ALONE, Refused
 
 from .programs import USER
 
 LOCK = pathlib.Path("/run/admissions-setup.lock")
 # how a file of somebody else is opened: waiting for nobody, and through no link
-AS_IT_IS = os.O_NOFOLLOW | os.O_NONBLOCK | os.O_CLOEXEC
+READ = os.O_RDONLY | os.O_NONBLOCK | os.O_CLOEXEC
+AS_IT_IS = READ | os.O_NOFOLLOW
+FOLDER = os.O_RDONLY | os.O_DIRECTORY | os.O_CLOEXEC
+# of a folder in which somebody beside its owner can make a link
+OTHERS_WRITE = 0o022
 
 
 @contextlib.contextmanager
@@ -40,17 +45,50 @@ def numbers(user: str, group: str) -> tuple[int, int]:
         raise Refused(f"there is no such user or group: {error}") from error
 
 
+def opened(path: pathlib.Path, is_made: bool = False) -> int:
+    """A descriptor of a folder, which is made with those above it where it is missing. On the way
+    to it no link is followed that another user can have made."""
+    parts = path.absolute().parts
+    here = os.open("/", FOLDER)
+    for at, name in enumerate(parts[1:], 2):
+        above = here
+        try:
+            here = below(above, name, FOLDER | (os.O_PATH if at < len(parts) else 0), is_made)
+        except OSError as error:
+            why = "it is no folder, or a link" if error.errno == errno.ENOTDIR else error.strerror
+            raise Refused(f"{pathlib.Path(*parts[:at])} cannot be opened: {why}") from error
+        finally:
+            os.close(above)
+    return here
+
+
+def below(above: int, name: str, flags: int, is_made: bool) -> int:
+    """A descriptor of a folder in another one."""
+    try:
+        return os.open(name, flags | no_link(above), dir_fd=above)
+    except FileNotFoundError:
+        if not is_made:
+            raise
+        os.mkdir(name, dir_fd=above)
+        return os.open(name, flags | os.O_NOFOLLOW, dir_fd=above)
+
+
+def no_link(above: int) -> int:
+    """How what is in a folder is opened: through no link where another user can make one."""
+    found = os.fstat(above)
+    is_own = found.st_uid in (0, os.geteuid()) and not found.st_mode & OTHERS_WRITE
+    return 0 if is_own else os.O_NOFOLLOW
+
+
 def folder(path: pathlib.Path, mode: int, user: str = "root", group: str = "root") -> bool:
     """Makes a folder, or gives it its owner and mode. Returns whether anything changed."""
-    owner = numbers(user, group)
-    is_new = not path.is_dir()
-    if is_new:
-        path.mkdir(parents=True)
-    found = path.stat()
-    is_other = (found.st_uid, found.st_gid) != owner or found.st_mode & 0o7777 != mode
-    if is_other:
-        os.chown(path, *owner)
-        path.chmod(mode)
+    owner, is_new = numbers(user, group), not os.path.lexists(path)
+    with closing(opened(path, is_made=True)) as handle:
+        found = os.fstat(handle)
+        is_other = (found.st_uid, found.st_gid) != owner or found.st_mode & 0o7777 != mode
+        if is_other:
+            os.fchown(handle, *owner)
+            os.fchmod(handle, mode)
     return is_new or is_other
 
 
@@ -59,21 +97,54 @@ def write(
 ) -> bool:
     """Gives a file this content in one step, if it has another. Returns whether it had."""
     data = content.encode() if isinstance(content, str) else content
-    if path.exists() and path.read_bytes() == data:
-        return False
-    handle, new = tempfile.mkstemp(prefix=f".{path.name}.", dir=path.parent)
+    with closing(opened(path.parent)) as above:
+        if content_in(above, path.name) == data:
+            return False
+        replace(above, path.name, data, mode, numbers(user, group))
+    return True
+
+
+def content_in(above: int, name: str) -> bytes | None:
+    """What a file of a folder has, or None where there is none."""
+    try:
+        handle = os.open(name, READ | no_link(above), dir_fd=above)
+    except OSError as error:
+        if error.errno in (errno.ENOENT, errno.ELOOP):
+            return None
+        raise
+    with open(handle, "rb") as file:
+        return file.read() if stat.S_ISREG(os.fstat(handle).st_mode) else None
+
+
+def replace(
+    above: int, name: str, data: bytes, mode: int, owner: tuple[int, int] | None = None
+) -> None:
+    """Gives a file of a folder these bytes, in one step. Its owner and mode are given to what is
+    open, and not to what has its name by then."""
+    new = f".{name}.{secrets.token_hex(8)}"
+    handle = os.open(new, os.O_WRONLY | os.O_CREAT | os.O_EXCL | AS_IT_IS, 0o600, dir_fd=above)
     try:
         with open(handle, "wb") as out:
             out.write(data)
             out.flush()
-            os.fsync(out.fileno())
-        os.chown(new, *numbers(user, group))
-        os.chmod(new, mode)
-        os.rename(new, path)
+            os.fsync(handle)
+            if owner:
+                os.fchown(handle, *owner)
+            os.fchmod(handle, mode)
+        os.rename(new, name, src_dir_fd=above, dst_dir_fd=above)
     except BaseException:
-        os.unlink(new)
+        with contextlib.suppress(FileNotFoundError):
+            os.unlink(new, dir_fd=above)
         raise
-    return True
+
+
+@contextlib.contextmanager
+def closing(handle: int) -> typing.Iterator[int]:
+    """Closes a descriptor at the end."""
+    try:
+        yield handle
+    finally:
+        os.close(handle)
 
 
 def link(path: pathlib.Path, target: str) -> bool:
@@ -112,28 +183,16 @@ def content_as(name: str, path: pathlib.Path) -> bytes:
     """What a file has, as a user reads it."""
     with acting_as(name):
         handle = os.open(path, os.O_RDONLY | AS_IT_IS)
-    try:
+    with open(handle, "rb") as file:
         if not stat.S_ISREG(os.fstat(handle).st_mode):
             raise Refused(f"{path} is no file")
-        with open(handle, "rb", closefd=False) as file:
-            return file.read()
-    finally:
-        os.close(handle)
+        return file.read()
 
 
 def write_as(name: str, path: pathlib.Path, data: bytes) -> None:
     """Gives a file these bytes, in one step; it is of this user alone."""
-    with acting_as(name):
-        handle, new = tempfile.mkstemp(prefix=f".{path.name}.", dir=path.parent)
-        try:
-            with open(handle, "wb") as out:
-                out.write(data)
-                out.flush()
-                os.fsync(out.fileno())
-            os.rename(new, path)
-        except BaseException:
-            os.unlink(new)
-            raise
+    with acting_as(name), closing(opened(path.parent)) as above:
+        replace(above, path.name, data, OWNER_ALONE)
 
 
 def write_as_desk(path: pathlib.Path, data: bytes) -> None:

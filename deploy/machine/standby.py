@@ -138,11 +138,12 @@ def decrypt_all(register: Register) -> None:
     if found and identity is None:
         raise Refused(f"what is at the second place is encrypted: put the identity file that opens"
                       f" it at {SETTINGS / sealed.IDENTITY}, and repeat the line")
-    for path in found:
-        target = sealed.decrypt(path, typing.cast(pathlib.Path, identity))
-        shutil.copystat(path, target)
-        shutil.chown(target, USER, USER)
-        path.unlink()
+    # (in a folder of the user of the copies)
+    with files.as_desk():
+        for path in found:
+            target = sealed.decrypt(path, typing.cast(pathlib.Path, identity))
+            shutil.copystat(path, target)
+            path.unlink()
 
 
 def moment_of(copy: pathlib.Path) -> datetime.datetime:
