@@ -5,7 +5,7 @@ number, and the result or an error.
 The folder is another user's, so nothing in it is trusted: no link is followed, and of a request
 digits alone are taken. A request that is begun is renamed, so that who asked can take back only
 one that is not; it is removed once it is answered. Where the machine stops before that, it is done
-again.
+again; where no answer can be written, it is removed too.
 """
 import contextlib
 import json
@@ -18,12 +18,14 @@ from collections.abc import Callable, Iterator
 
 from register_files import Refused
 
-from .files import AS_IT_IS
+from .files import AS_IT_IS, closing
 from .programs import call, tool
 from .registers import Register
 
 FOLDER, BEGUN, DONE = "requests", ".begun", ".done"
 NUMBER = re.compile(rb"([1-9][0-9]{0,8})\n?")
+# bytes, more than an answer has
+ROOM = 1 << 16
 Result = dict[str, str]
 
 
@@ -66,19 +68,27 @@ def number_of(folder: int, name: str) -> int:
     return int(found[1])
 
 
-def put(folder: int, name: str, text: str) -> None:
-    """Writes a file into the folder, in one step."""
-    new = f".{name}"
+def room(folder: int, name: str) -> int:
+    """A descriptor of a new file of the folder, with the room that an answer can need."""
     with contextlib.suppress(FileNotFoundError):
-        os.unlink(new, dir_fd=folder)
-    fd = os.open(new, os.O_WRONLY | os.O_CREAT | os.O_EXCL | AS_IT_IS, 0o644, dir_fd=folder)
-    with open(fd, "w", encoding="utf-8") as file:
+        os.unlink(name, dir_fd=folder)
+    fd = os.open(name, os.O_WRONLY | os.O_CREAT | os.O_EXCL | AS_IT_IS, 0o644, dir_fd=folder)
+    try:
         # (whoever asked reads it, and the umask of a command is that of its owner alone)
         os.fchmod(fd, 0o644)
-        file.write(text)
-        file.flush()
-        os.fsync(fd)
-    os.rename(new, name, src_dir_fd=folder, dst_dir_fd=folder)
+        os.posix_fallocate(fd, 0, ROOM)
+    except BaseException:
+        os.close(fd)
+        os.unlink(name, dir_fd=folder)
+        raise
+    return fd
+
+
+def put(folder: int, name: str, fd: int, text: str) -> None:
+    """Writes a text into a file that has room for it, and gives it its name."""
+    os.truncate(fd, os.pwrite(fd, text.encode(), 0))
+    os.fsync(fd)
+    os.rename(f".{name}", name, src_dir_fd=folder, dst_dir_fd=folder)
     os.fsync(folder)
 
 
@@ -94,20 +104,34 @@ def begin(folder: int, name: str) -> None:
 
 
 def handled(register: Register, name: str, work: Callable[[int], Result]) -> int:
-    """Does what was asked, and answers. Returns the exit status."""
+    """Does what was asked, and answers. Returns the exit status. There is room for the answer
+    before the work begins; where it cannot be given, the work is not done again for that."""
     with opened(register) as folder:
-        number, said = 0, {}
         begin(folder, name)
         try:
-            number = number_of(folder, name)
-            said = work(number)
-        except Wrong as error:
-            said = {"error": error.name, "why": str(error)}
-        answer = json.dumps({"number": number, **said}, sort_keys=True)
-        put(folder, name + DONE, f"{answer}\n")
-        forget(folder, name + BEGUN)
+            with closing(room(folder, f".{name}{DONE}")) as fd:
+                said = answer_of(folder, name, work)
+                answer = json.dumps(said, sort_keys=True)
+                put(folder, name + DONE, fd, f"{answer}\n")
+        except OSError as error:
+            raise Refused(f"the request {name} has no answer, and is not done again:"
+                          f" {error.strerror}") from error
+        finally:
+            forget(folder, name + BEGUN)
         print(answer, file=sys.stderr if "error" in said else sys.stdout)
         return 1 if "error" in said else 0
+
+
+def answer_of(folder: int, name: str, work: Callable[[int], Result]) -> dict[str, str | int]:
+    """Does what was asked: what came of it, with the number of the request."""
+    number = 0
+    try:
+        number = number_of(folder, name)
+        return {"number": number, **work(number)}
+    except Wrong as error:
+        return {"number": number, "error": error.name, "why": str(error)}
+    except (OSError, Refused) as error:
+        return {"number": number, "error": "NotDone", "why": str(error)}
 
 
 def forget(folder: int, begun: str) -> None:

@@ -68,6 +68,14 @@ def test_the_lines_of_a_unit_are_those_that_the_page_promises(unit: str) -> None
         assert (key, found.get(key), words in page) == (key, value, True)
 
 
+@pytest.mark.parametrize("request_", ["copy", "restore", "deletion-day", "delete"])
+def test_what_the_application_asks_for_is_done_ten_times_a_minute_at_most(request_: str) -> None:
+    """Each time stops the desk: whoever has broken into the application shall not do that without end."""
+    text = (UNITS / f"admissions-office-{request_}@.path").read_text(encoding="utf-8")
+    found = re.findall(r"(?m)^TriggerLimit(\w+)=(.*)$", text)
+    assert found == [("IntervalSec", "1min"), ("Burst", "10")]
+
+
 @pytest.mark.parametrize(
     "unit, form",
     [
