@@ -16,6 +16,8 @@ from .programs import OFFICE
 from .registers import Register
 
 FOLDER = "history"
+# in the settings of a register: copies that its history rightly does not begin with
+ACKNOWLEDGED = "history-acknowledged"
 # A number that grows with each copy, and the begin of the digest of the first line
 NAME = re.compile(r"history-(\d{6,})-([0-9a-f]{16})\.gz")
 
@@ -33,7 +35,7 @@ def made(folder: pathlib.Path) -> list[pathlib.Path]:
 
 def copy(register: Register) -> list[str]:
     """Copies the history, also one that was changed. Returns a line where it was not copied, for a
-    copy that cannot be read, and where it was changed."""
+    copy that cannot be read or that it does not begin with, and where it was changed."""
     folder = register.copies / FOLDER
     with files.as_desk():
         folder.mkdir(mode=0o700, exist_ok=True)
@@ -43,7 +45,7 @@ def copy(register: Register) -> list[str]:
         return [f"{error}: it was not copied"]
     problems = copy_lines(data, folder)
     changed = Record(str(register.history), data).problem
-    return [*problems, changed] if changed else problems
+    return [*problems, *([changed] if changed else []), *lacking(register)]
 
 
 def copy_lines(data: bytes, folder: pathlib.Path) -> list[str]:
@@ -69,6 +71,44 @@ def copy_lines(data: bytes, folder: pathlib.Path) -> list[str]:
         path = target or folder / f"history-{number:06}-{digest}.gz"
         files.write_as_desk(path, gzip.compress(data, mtime=0))
     return problems
+
+
+def unlike(register: Register) -> dict[str, str]:
+    """The copies that the history does not begin with, by their names, each with its digest; but
+    not those of which that was acknowledged. Somebody has erased the history, cut it or changed it;
+    or a copy of another machine is here since a takeover."""
+    folder, found = register.copies / FOLDER, {}
+    # (before the history, which only grows)
+    for it in made(folder):
+        with contextlib.suppress(*histories.UNREADABLE):
+            found[it.name] = gzip.decompress(it.read_bytes())
+    data, known = histories.data_of(register), acknowledged(register)
+    digests = {name: hashlib.sha256(before).hexdigest() for name, before in found.items()
+               if not data.startswith(before)}
+    return {name: it for name, it in digests.items() if known.get(name) != it}
+
+
+def lacking(register: Register) -> list[str]:
+    """A line that names what the history does not begin with, and how that is acknowledged; none
+    where there is nothing of that kind."""
+    names = ", ".join(unlike(register))
+    return [f"the history was erased, cut or changed: it does not begin with {names} in"
+            f" {register.copies / FOLDER}. Find out who did that, keep the copies, and then type:"
+            f" admissions-setup {register.name} --acknowledge"] if names else []
+
+
+def acknowledged(register: Register) -> dict[str, str]:
+    """The copies of which it was acknowledged that the history does not begin with them."""
+    path = register.settings / ACKNOWLEDGED
+    lines = path.read_text(encoding="utf-8").splitlines() if path.exists() else []
+    return dict(typing.cast(tuple[str, str], line.split(" ", 1)) for line in lines if " " in line)
+
+
+def acknowledge(register: Register, found: dict[str, str]) -> None:
+    """Keeps that the history does not begin with these copies."""
+    known = acknowledged(register) | found
+    text = "".join(f"{name} {digest}\n" for name, digest in sorted(known.items()))
+    files.write(register.settings / ACKNOWLEDGED, text, 0o644)
 
 
 def restored(register: Register, folder: pathlib.Path) -> typing.Iterator[str]:

@@ -10,7 +10,8 @@ passwords, and what it keeps beside the register, but nobody who is signed in.
 Nothing else is copied, and so no key. An archive that is there stays as it is,
 as the copy does. The history, who did what, is in the folder `history` beside
 the copies, compressed. What was copied is only ever made longer: a history
-that was cut or begins otherwise is copied beside it. One in which a line was
+that was cut or begins otherwise is copied beside it, and named until somebody
+acknowledges it (admissions-setup NAME --acknowledge). One in which a line was
 changed is copied too, and named with the line. What cannot be read is named,
 and all else is copied. All copies are of the user admissions alone. The result
 is in settings-copy.report beside them, which admissions-status reads.
@@ -18,8 +19,8 @@ is in settings-copy.report beside them, which admissions-status reads.
 example:
   settings-copy secondary-2025
 
-exit status: 0 copied; 1 not or not wholly copied, or the history was changed,
-and the line says so; 2 wrong arguments.
+exit status: 0 copied; 1 not or not wholly copied, or the history was erased,
+cut or changed, and the line says so; 2 wrong arguments.
 """
 import argparse
 import io

@@ -8,6 +8,7 @@ its timers.
   admissions-setup NAME --user USER [--role ROLE] [--new-password]
   admissions-setup NAME --remove USER | --users
   admissions-setup NAME --accounts FILE
+  admissions-setup NAME --acknowledge
   admissions-setup NAME --holiday DAY..
   admissions-setup --sites
 
@@ -33,7 +34,9 @@ people of a register are otherwise the office's own task, on the screen People
 of the site: what is done here is in the history too. The fifth form signs
 people in by the accounts of the authority over OpenID Connect: FILE has title,
 issuer, client, secret and claim as JSON, and the word none in place of FILE
-ends that. The sixth form replaces the holidays of a register that is still
+ends that. The sixth form acknowledges that the history does not begin with the
+copies that admissions-status names, which then names them no more. The seventh
+form replaces the holidays of a register that is still
 empty. The last form makes all sites again, after a change of /etc/nginx/sites-
 available/admissions. A certificate of another site is refused; a key and
 certificate that are replaced are kept beside the new ones. A change of what is
@@ -59,7 +62,9 @@ from office import model
 from office.libraries import PACKAGES
 from register_files import Refused
 
-from . import answers, certificates, files, holidays, people, settings_copy, sites, standby
+from . import (
+    answers, certificates, files, history_copies, holidays, people, settings_copy, sites, standby,
+)
 from .answers import ask, confirm
 from .desk import status_of
 from .programs import OFFICE, USER, call, is_booted, program, tool
@@ -142,6 +147,11 @@ def arguments(reader: argparse.ArgumentParser) -> None:
         metavar="FILE",
         help="sign people in by the accounts of the authority, as this file says; or none",
     )
+    add(
+        "--acknowledge",
+        action="store_true",
+        help="acknowledge that the history was erased, cut or changed, and name it no more",
+    )
     add("--sites", action="store_true", help="make all sites again, and nothing else")
 
 
@@ -156,12 +166,14 @@ def main(given: argparse.Namespace) -> int:
     if given.sites:
         with files.lock():
             return again()
-    if given.users or given.remove or given.accounts:
+    if given.users or given.remove or given.accounts or given.acknowledge:
         if given.name is None:
             raise Refused("NAME is missing: of which register?", 2)
         register = known(given.name)
         if given.accounts:
             return set_accounts(register, given.accounts)
+        if given.acknowledge:
+            return acknowledge_history(register, given)
         return list_users(register) if given.users else remove_user(register, given)
     if given.standby is not None:
         return standby.take_over(given, lambda: set_up_as_given(given))
@@ -230,7 +242,7 @@ def see_one_command(given: argparse.Namespace) -> None:
     """Refuses the options of two commands together, of which one would not be done."""
     options = [name for name, value in vars(given).items()
                if value not in (None, False, []) and name not in ("name", "yes")]
-    for command in ("sites", "users", "remove", "accounts"):
+    for command in ("sites", "users", "remove", "accounts", "acknowledge"):
         if command in options and len(options) > 1:
             other = next(it for it in options if it != command)
             raise Refused(
@@ -522,6 +534,20 @@ def remove_user(register: Register, given: argparse.Namespace) -> int:
     if warning := people.see_head(register):
         print(f"WARNING: {register.name}: {warning}")
     return 0
+
+
+def acknowledge_history(register: Register, given: argparse.Namespace) -> int:
+    """Acknowledges that the history does not begin with copies of it, and copies it again, so that
+    the report beside the copies has that too."""
+    found = history_copies.unlike(register)
+    if not found:
+        print(f"the history of {register.name} begins with each of its copies")
+        return 0
+    confirm(f"that the history of {register.name} does not begin with {', '.join(found)} is named"
+            " no more", given.yes)
+    with files.lock():
+        history_copies.acknowledge(register, found)
+    return settings_copy.main(given)
 
 
 def set_accounts(register: Register, name: str) -> int:

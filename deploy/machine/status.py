@@ -39,8 +39,8 @@ from register_files import Refused
 from office.days import DELETION_NOTICE
 
 from . import (
-    certificates, copies, deletion, files, findings, histories, metrics, office_requests,
-    office_store, sealed, second_copy, standby,
+    certificates, copies, deletion, files, findings, histories, history_copies, metrics,
+    office_requests, office_store, sealed, second_copy, standby,
 )
 from .desk import site_status_of, status_of
 from .drill import NOT_TRIED, OPENED, REPORT as DRILL
@@ -346,7 +346,7 @@ def people_of(register: Register) -> State:
 
 def history_of(register: Register) -> State:
     """Whether the history of the application is one that its user alone reads, has no line that was
-    changed, and no request of which nobody knows what became."""
+    changed, begins with all of its copies, and has no request of which nobody knows what became."""
     if register.host is None and not had_site(register):
         return True, "it has no site"
     path = register.history
@@ -361,6 +361,8 @@ def history_of(register: Register) -> State:
     record = histories.of_register(register)
     if record.problem:
         return False, record.problem
+    if lacking := history_copies.lacking(register):
+        return False, lacking[0]
     if late := next(filter(is_late, record.open_requests()), None):
         # (and not what it is: a child's data is nothing for a monitoring system)
         return False, f"line {late.entry.number}: {late.in_words('a request')}; no answer is known"

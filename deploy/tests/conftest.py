@@ -13,7 +13,7 @@ ROOT = pathlib.Path(__file__).resolve().parents[2]
 sys.path[:0] = [str(ROOT), str(ROOT / "deploy"), str(ROOT / "tools")]
 
 from machine import (  # noqa: E402
-    deletion, registers, sealed, second_copy, settings_copy, setup, sites, standby, status,
+    deletion, files, registers, sealed, second_copy, settings_copy, setup, sites, standby, status,
 )
 
 # the modules that name a folder of the machine by a constant of registers
@@ -35,6 +35,7 @@ def umask_fixture() -> typing.Iterator[None]:
 @pytest.fixture(name="machine")
 def machine_fixture(tmp_path: pathlib.Path, monkeypatch: pytest.MonkeyPatch) -> pathlib.Path:
     """A folder whose folders are those of the machine: lib, backups, etc, log, office."""
+    monkeypatch.setattr(files, "LOCK", tmp_path / "lock")
     for constant, name in FOLDERS.items():
         (tmp_path / name).mkdir()
         for module in WITH_FOLDERS:

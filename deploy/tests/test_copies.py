@@ -232,6 +232,11 @@ def copy_settings(register: registers.Register) -> int:
     return settings_copy.main(type("Given", (), {"name": register.name}))  # type: ignore[arg-type]
 
 
+def acknowledge(register: registers.Register, *words: str) -> int:
+    given = given_to_setup(register.name, *words or ("--acknowledge", "--yes"))
+    return setup.acknowledge_history(register, given)
+
+
 @pytest.fixture(name="office")
 def office_fixture(register: registers.Register, write_as_me: None) -> registers.Register:
     """A register whose application has two people and a program, and a history of two commands."""
@@ -402,14 +407,48 @@ def test_a_history_that_was_emptied_cut_or_begun_anew_leaves_the_copy(
     copied: pathlib.Path,
     register: registers.Register,
 ) -> None:
-    """`cut` is how many of its four lines are left. What goes on otherwise is copied beside it."""
+    """`cut` is how many of its four lines are left. What goes on otherwise is copied beside it. It
+    needs attention until somebody acknowledges it, and not before the next time."""
     lines = register.history.read_bytes().splitlines(keepends=True)
+    name = history_copies.made(copied.parent / "history")[0].name
     register.history.write_bytes(b"".join(lines[:cut]))
+    said = f"the history was erased, cut or changed: it does not begin with {name} in"
     for _ in range(2):
         record(register, *more)
-        assert copy_settings(register) == 0
+        with pytest.raises(Refused, match=said):
+            copy_settings(register)
+        assert status.history_of(register)[0] is status.copy_of(register)[0] is False
+        assert said in status.history_of(register)[1]
         more = []
     assert [children_of(it) for it in made_of(copied)] == children
+    assert acknowledge(register) == acknowledge(register) == 0
+    record(register, 4)
+    assert "does not begin" not in status.history_of(register)[1]
+    assert (status.copy_of(register)[0], copy_settings(register)) == (True, 0)
+    register.history.write_bytes(b"")
+    assert status.history_of(register)[0] is False
+
+
+def test_what_is_acknowledged_is_shown_before(
+    copied: pathlib.Path, register: registers.Register
+) -> None:
+    """Without a yes it is named on."""
+    register.history.write_bytes(b"")
+    name = history_copies.made(copied.parent / "history")[0].name
+    with pytest.raises(Refused, match=f"does not begin with {name} is named no more: nothing was"):
+        acknowledge(register, "--acknowledge")
+    assert name in status.history_of(register)[1]
+
+
+def test_another_copy_of_an_acknowledged_name_is_named(
+    copied: pathlib.Path, register: registers.Register
+) -> None:
+    lines = register.history.read_bytes().splitlines(keepends=True)
+    register.history.write_bytes(b"".join(lines[:2]))
+    assert acknowledge(register) == 0
+    [path] = history_copies.made(copied.parent / "history")
+    path.write_bytes(gzip.compress(b"".join(lines[:3])))
+    assert path.name in status.history_of(register)[1]
 
 
 @pytest.mark.parametrize("line", [1, 3])
@@ -429,6 +468,7 @@ def test_a_history_that_was_changed_is_copied_beside_it_and_named(
     is_well, text = status.copy_of(register)
     assert (is_well, f"line {line + 1}: the history was changed" in text) == (False, True)
     register.history.write_bytes(before)
+    assert acknowledge(register) == 0
     assert (copy_settings(register), status.copy_of(register)[0]) == (0, True)
 
 
