@@ -32,6 +32,7 @@ wrong arguments.
 """
 import argparse
 import datetime
+import hashlib
 import os
 import pathlib
 import re
@@ -49,6 +50,12 @@ REPORT = "second-copy.report"
 # what is written where there shall be no second place
 NONE = "none"
 SSH = "ssh -o BatchMode=yes -o ConnectTimeout=30"
+# at the second place, beside the copies: the machine whose place it is, by its number and its name
+OWNER = "owner"
+MACHINE = pathlib.Path("/etc/machine-id")
+# beside the copies here: the machine that has taken over. With it no server starts, and no
+# application
+TAKEN_OVER = "taken-over"
 
 
 def arguments(reader: argparse.ArgumentParser) -> None:
@@ -99,7 +106,7 @@ def folder_here() -> pathlib.Path | None:
     return path if path and path.is_dir() else None
 
 
-def rsync(*arguments: object) -> str:
+def rsync(*arguments: object, as_user: str | None = None) -> str:
     """Runs rsync, with what all calls share, and returns what it printed."""
     return call(
         tool("rsync", "rsync"),
@@ -109,6 +116,7 @@ def rsync(*arguments: object) -> str:
         "--rsh",
         SSH,
         *arguments,
+        as_user=as_user,
     ).stdout
 
 
@@ -124,6 +132,68 @@ def see_place(register: Register, place: str) -> None:
             )
 
 
+def own(register: Register, place: str, as_user: str | None = None) -> None:
+    """Makes the folder of a register at the second place, and this machine its owner."""
+    with tempfile.TemporaryDirectory() as room:
+        path = pathlib.Path(room, OWNER)
+        path.write_text(f"{machine()} {os.uname().nodename}\n", encoding="utf-8")
+        # (that user reads them, and rsync gives the mode that they have there)
+        for it, mode in ((path, 0o644), (path.parent, 0o755)):
+            it.chmod(mode)
+        rsync("--recursive", "--ignore-times", f"{room}/", f"{place}/{register.name}/",
+              as_user=as_user)
+
+
+def machine() -> str:
+    """A number of this machine, from which its own cannot be known."""
+    found = MACHINE.read_text(encoding="ascii").strip() if MACHINE.exists() else ""
+    if not found:
+        raise Refused(f"{MACHINE} has no number of this machine: systemd-machine-id-setup")
+    return hashlib.sha256(f"admissions {found}".encode()).hexdigest()[:32]
+
+
+def see_owner(register: Register, place: str) -> None:
+    """Refuses the place of another machine, and keeps that this one was taken over where it has
+    copied there before. A place without an owner gets this one."""
+    there, number = f"{place}/{register.name}", machine()
+    with tempfile.TemporaryDirectory() as room:
+        rsync("--recursive", f"{room}/", f"{there}/")
+        rsync("--recursive", "--include", f"/{OWNER}", "--exclude", "*", f"{there}/", f"{room}/")
+        path = pathlib.Path(room, OWNER)
+        owner = path.read_text(encoding="utf-8", errors="replace") if path.is_file() else ""
+    if not owner.strip():
+        own(register, place)
+        return
+    found, _, name = owner.strip().partition(" ")
+    if found == number:
+        return
+    report = register.copies / REPORT
+    if report.exists() and has_copied(report.read_text(encoding="utf-8"), register, place):
+        files.write_as_desk(register.copies / TAKEN_OVER, owner.encode())
+        raise Refused(taken_over(register) or "")
+    raise Refused(f"{there} is the place of the machine {name or found}. Name another place in"
+                  f" {SETTINGS / 'second-copy'}; or, if that machine is off for good, remove"
+                  f" {OWNER} there")
+
+
+def has_copied(line: str, register: Register, place: str) -> bool:
+    """Whether a line of the report is of this place."""
+    return f" is in {place}/{register.name}, " in line
+
+
+def taken_over(register: Register) -> str | None:
+    """What to do where another machine has taken a register over from this one, or None."""
+    path = register.copies / TAKEN_OVER
+    if not path.exists():
+        return None
+    owner = path.read_text(encoding="utf-8", errors="replace").split()
+    name, units = register.name, f"admissions@{register.name} admissions-office@{register.name}"
+    return (f"the machine {' '.join(owner[1:]) or 'of another number'} has taken {name} over, and"
+            f" copies to {place_of()}/{name}, so its office is stopped here. To open it here all"
+            f" the same, switch that machine off, remove {OWNER} there, and then type:"
+            f" rm {path} && systemctl start {units}")
+
+
 def copied(register: Register, place: str) -> str:
     """Copies, fetches back, compares and opens. Returns the line of the report."""
     made = register.nightly_copies()
@@ -134,6 +204,7 @@ def copied(register: Register, place: str) -> str:
     there = f"{place}/{register.name}/"
     if key := sealed.recipient():
         return copied_sealed(register, place, key)
+    see_owner(register, place)
     filters = [it for pattern in copies.PATTERNS for it in ("--include", pattern)]
     rsync("--ignore-existing", "--dirs", *filters, "--exclude", "*", f"{register.copies}/", there)
     has_history = (register.copies / HISTORY).is_dir()
@@ -196,9 +267,8 @@ def copied_sealed(register: Register, place: str, key: str) -> str:
     """Encrypts what is not there yet, copies it, fetches back and compares. Returns the line of the
     report. Nothing is begun without the program that encrypts."""
     sealed.age()
+    see_owner(register, place)
     there, newest = f"{place}/{register.name}/", register.nightly_copies()[-1]
-    with tempfile.TemporaryDirectory() as room:
-        rsync("--recursive", f"{room}/", there)
     listed, sent = sizes(there), sealed.sent(register)
     for path in to_copy(register):
         name = str(path.relative_to(register.copies))
@@ -210,7 +280,7 @@ def copied_sealed(register: Register, place: str, key: str) -> str:
             sealed.keep_sent(register, sent)
     see_sealed(register, place, sent)
     opens = opened_sealed(register, place, newest)
-    plain = sorted(it for it in listed if not it.endswith(sealed.END))
+    plain = sorted(it for it in listed if not it.endswith(sealed.END) and it != OWNER)
     return (
         f"{now()} {newest.name}{sealed.END} is in {place}/{register.name}, encrypted for"
         f" {key[:16]}.., {opens}" + warnings(register, place, listed)

@@ -238,11 +238,24 @@ def take_over(given: argparse.Namespace, set_up: typing.Callable[[], int]) -> in
         found = begin(register, copy)
     given.copy = str(copy)
     status = set_up()
+    own_places(register, given.standby)
     report(register, copy, found.entries, is_chosen=bool(wanted))
     sys.stdout.flush()
     begun_place(register).unlink()
     remind()
     return status
+
+
+def own_places(register: Register, place: str) -> None:
+    """Makes this machine the owner of the place that it has taken over from, and of that to which
+    it copies: the first machine stops then. A rehearsal, which copies nowhere, leaves both."""
+    copies_to = second_copy.place_of()
+    for it in sorted({place.rstrip("/") or copies_to, copies_to} if copies_to else ()):
+        try:
+            second_copy.own(register, str(it), USER)
+        except Refused as error:
+            print(f"WARNING: {it} is still the place of the machine that is taken over, as the file"
+                  f" {second_copy.OWNER} cannot be written there: {error}")
 
 
 def remind() -> None:

@@ -196,7 +196,14 @@ def file_of(register: Register) -> State:
     return True, text
 
 
+def see_taken_over(register: Register) -> None:
+    """Fails where another machine has taken a register over."""
+    if said := second_copy.taken_over(register):
+        raise Failed(said)
+
+
 def desk_of(register: Register) -> State:
+    see_taken_over(register)
     before = time.monotonic()
     status = status_of(register.socket)
     if status in (200, 404):
@@ -215,6 +222,7 @@ def site_of(register: Register) -> State:
         if had_site(register):
             raise Failed(f"the file of its name is gone: {site_command(register)}")
         return True, "it has none"
+    see_taken_over(register)
     before = time.monotonic()
     try:
         status, shown = site_status_of(register.host)
@@ -266,6 +274,8 @@ def units_of(register: Register) -> State:
                        " dpkg --configure -a; apt-get install --reinstall admissions")
     if had_site(register):
         return False, f"its site is not set up: {site_command(register)}"
+    if said := second_copy.taken_over(register):
+        return False, said
     backup, drill, hourly = (
         f"admissions-{it}@{register.name}.timer" for it in ("backup", "drill", "second-copy"))
     desk, bad = f"admissions@{register.name}.service", []
@@ -442,12 +452,13 @@ def second_of(register: Register) -> State:
     if place is None:
         lost = f"no second place is named in {setting}, so all copies are lost with this machine"
         return False, f"{lost}: name one there, or write `{NONE}` if there shall be none"
+    see_taken_over(register)
     found = report_of(register, SECOND)
     how = f"systemctl start admissions-second-copy@{register.name}"
     if found is None:
         return False, f"this machine has copied nothing to {place} yet: {how}"
     line, old = found
-    if f" is in {place}/{register.name}, " not in line:
+    if not second_copy.has_copied(line, register, place):
         return False, f"this machine has copied nothing to {place} yet: {how}; before, {line}"
     is_well = is_recent(old, COPY_HOURS * 3600) and "WARNING" not in line
     plain = "" if sealed.recipient() else (

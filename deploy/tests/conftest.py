@@ -36,6 +36,8 @@ def umask_fixture() -> typing.Iterator[None]:
 def machine_fixture(tmp_path: pathlib.Path, monkeypatch: pytest.MonkeyPatch) -> pathlib.Path:
     """A folder whose folders are those of the machine: lib, backups, etc, log, office."""
     monkeypatch.setattr(files, "LOCK", tmp_path / "lock")
+    (tmp_path / "machine-id").write_text("0123456789abcdef0123456789abcdef\n", encoding="ascii")
+    monkeypatch.setattr(second_copy, "MACHINE", tmp_path / "machine-id")
     for constant, name in FOLDERS.items():
         (tmp_path / name).mkdir()
         for module in WITH_FOLDERS:

@@ -56,9 +56,10 @@ def history(register: registers.Register, data: bytes) -> None:
 
 
 def there(machine: pathlib.Path) -> dict[str, bytes]:
-    """The files at the second place."""
+    """The files at the second place, but the one that names the machine which copies there."""
     place = machine / PLACE
-    return {str(it.relative_to(place)): it.read_bytes() for it in place.rglob("*") if it.is_file()}
+    return {str(it.relative_to(place)): it.read_bytes() for it in place.rglob("*")
+            if it.is_file() and it.name != second_copy.OWNER}
 
 
 def send(register: registers.Register, machine: pathlib.Path) -> str:
@@ -380,7 +381,7 @@ def test_a_key_that_may_do_nothing_but_copy(
         f"copies/{copied.name}/{it}{end}" for it in (
             "nightly-000001-2025-03-01T023000.db", "nightly-000001-2025-03-01T023000.tar",
             "nightly-000002-2025-03-02T023000.db", "nightly-000002-2025-03-02T023000.tar",
-            "history/history-000001-0123456789abcdef.gz")}
+            "history/history-000001-0123456789abcdef.gz")} | {f"copies/{copied.name}/owner"}
     history(copied, b"one and more")
     assert second_copy.copied(copied, place)
     for arguments in (["--list-only", "vault.example:/etc/"],

@@ -262,7 +262,9 @@ def test_a_takeover_that_was_killed_goes_on_and_prints_the_same(
         False, f"its takeover has not ended: type `admissions-setup {NAME} --standby`, which goes"
         " on")
     capfd.readouterr()
+    (machine / "etc/second-copy").write_text(f"{place}\n", encoding="utf-8")
     assert standby.take_over(given_to(place), set_up) == 0
+    assert os.uname().nodename in (place / NAME / "owner").read_text(encoding="utf-8")
     lines = capfd.readouterr().out.splitlines()
     assert lines[0] == (f"goes on with the takeover of {NAME} from"
                         f" {register.copies / COPIES[2]}")
