@@ -67,6 +67,13 @@ def host(text: str) -> str:
             " least one point",
             2,
         )
+    if text.rpartition(".")[2].isdigit():
+        raise Refused(
+            f"{text!r} is an address, and a site has a name. No DNS name? Choose one, as"
+            f" admissions.example, and put the line '{text} admissions.example' into the hosts"
+            " file of each browser's machine",
+            2,
+        )
     return text
 
 

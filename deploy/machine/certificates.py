@@ -12,6 +12,9 @@ from .programs import call, tool
 from .registers import Register
 
 DAYS_OF_TRIAL = 90
+# from so many days before its end on a certificate needs attention
+DAYS_OF_WARNING = 21
+PEM = re.compile(r"-----BEGIN CERTIFICATE-----.*?-----END CERTIFICATE-----", re.DOTALL)
 
 
 def openssl(*arguments: object) -> "subprocess.CompletedProcess[str]":
@@ -119,13 +122,17 @@ def see(register: Register, host: str) -> str | None:
     return f"WARNING: {problem}" if problem else warning(register)
 
 
+def pem(path: str) -> str:
+    """The text of a certificate or a key."""
+    try:
+        return pathlib.Path(path).read_text(encoding="ascii")
+    except UnicodeDecodeError as error:
+        raise Refused(f"{path} is not in the form PEM, which is text") from error
+
+
 def pair(certificate: str, key: str) -> tuple[str, str]:
     """The texts of a certificate and its key."""
-    try:
-        with open(certificate, encoding="ascii") as one, open(key, encoding="ascii") as other:
-            texts = one.read(), other.read()
-    except UnicodeDecodeError as error:
-        raise Refused(f"{certificate} or {key} is not in the form PEM, which is text") from error
+    texts = pem(certificate), pem(key)
     if public_key("x509", "-pubkey", "-noout", "-in", certificate) != public_key(
         "pkey", "-pubout", "-in", key
     ):
@@ -137,6 +144,33 @@ def see_name(certificate: str, host: str) -> None:
     """Refuses a certificate of another site."""
     if problem := name_problem(certificate, host):
         raise Refused(problem)
+
+
+def see_days(certificate: str) -> None:
+    """Refuses a certificate that has ended, or is not yet valid; and so one whose CA has one."""
+    now = datetime.datetime.now(datetime.timezone.utc)
+    for number, text in enumerate(PEM.findall(pem(certificate)), 1):
+        begin, end = days_of(text)
+        what = f"{certificate}, its certificate {number}," if number > 1 else certificate
+        if end <= now:
+            raise Refused(f"{what} has ended at {local(end)}: have the CA sign a new one")
+        if begin > now:
+            raise Refused(f"{what} is valid from {local(begin)} on, and it is {local(now)} here: is"
+                          " the clock right?")
+
+
+def ends_soon(register: Register) -> str | None:
+    """A warning of a certificate that ends soon."""
+    certificate = paths(register)[1]
+    days = days_left(certificate)
+    if days >= DAYS_OF_WARNING:
+        return None
+    return f"WARNING: {certificate} ends in {days} days, at {local(end_of(certificate))}"
+
+
+def local(moment: datetime.datetime) -> str:
+    """A moment in the time of this machine."""
+    return f"{moment.astimezone():%Y-%m-%d %H:%M}"
 
 
 def is_lost(register: Register, certificate: str, key: str) -> bool:
@@ -176,14 +210,17 @@ def public_key(*arguments: object) -> str:
 
 def end_of(certificate: pathlib.Path) -> datetime.datetime:
     """The moment until which a certificate is valid."""
-    text = (
-        openssl("x509", "-in", certificate, "-noout", "-enddate", "-dateopt", "iso_8601")
-        .stdout.strip()
-        .partition("=")[2]
-    )
-    return datetime.datetime.strptime(text, "%Y-%m-%d %H:%M:%SZ").replace(
-        tzinfo=datetime.timezone.utc
-    )
+    return days_of(certificate.read_text(encoding="ascii", errors="replace"))[1]
+
+
+def days_of(text: str) -> tuple[datetime.datetime, datetime.datetime]:
+    """From when on, and until when, the first certificate of a text is valid."""
+    said = call(tool("openssl", "openssl"), "x509", "-noout", "-dates", "-dateopt", "iso_8601",
+                text=text).stdout
+    begin, end = (
+        datetime.datetime.strptime(line.partition("=")[2], "%Y-%m-%d %H:%M:%SZ").replace(
+            tzinfo=datetime.timezone.utc) for line in said.splitlines())
+    return begin, end
 
 
 def days_left(certificate: pathlib.Path) -> int:

@@ -36,12 +36,12 @@ people in by the accounts of the authority over OpenID Connect: FILE has title,
 issuer, client, secret and claim as JSON, and the word none in place of FILE
 ends that. The sixth form acknowledges that the history does not begin with the
 copies that admissions-status names, which then names them no more. The seventh
-form replaces the holidays of a register that is still
-empty. The last form makes all sites again, after a change of /etc/nginx/sites-
-available/admissions. A certificate of another site is refused; a key and
-certificate that are replaced are kept beside the new ones. A change of what is
-there is shown, and is done after a yes on the terminal, or with --yes. --new-
-password alone ends the old password without a question.
+form replaces the holidays of a register that is still empty. The last form
+makes all sites again, after a change of /etc/nginx/sites-available/admissions.
+A certificate of another site, or one that has ended or is not yet valid, is
+refused; a key and certificate that are replaced are kept beside the new ones.
+A change of what is there is shown, and is done after a yes on the terminal, or
+with --yes. --new-password alone ends the old password without a question.
 
 example:
   admissions-setup secondary-2025 --phase secondary --year 2025 \\
@@ -356,6 +356,8 @@ def confirmed(register: Register, given: argparse.Namespace) -> Changes:
             f" from {authority} to {given.authority}",
             given.yes,
         )
+    if given.certificate:
+        certificates.see_days(given.certificate)
     if given.certificate and given.site:
         certificates.see_name(given.certificate, given.site)
     if given.certificate and certificates.is_lost(register, given.certificate, given.key):
@@ -477,6 +479,8 @@ def make_settings(register: Register, given: argparse.Namespace) -> typing.Itera
     if given.certificate:
         if certificates.take(register, given.certificate, given.key):
             yield f"took the certificate {given.certificate}"
+        if soon := certificates.ends_soon(register):
+            yield soon
     else:
         yield from certificates.make(register, given.site)
     if given.authority and files.write(AUTHORITY, given.authority + "\n", 0o644):

@@ -51,7 +51,7 @@ from .second_copy import NONE, REPORT as SECOND, line_of, place_of
 from .settings_copy import REPORT as BESIDE
 
 # from when on something needs attention
-COPY_HOURS, DRILL_DAYS, CERTIFICATE_DAYS = 26, 35, 21
+COPY_HOURS, DRILL_DAYS = 26, 35
 LEAST_ROOM, ROOM_FACTOR, ARCHIVES = 200_000_000, 10, 3
 # for so long the answer to a request may be unknown
 OPEN_SECONDS = 3600
@@ -523,5 +523,5 @@ def certificate_of(register: Register) -> State:
     is_own = certificates.is_self_signed(certificate)
     end = datetime.date.today() + datetime.timedelta(days=days)
     unsigned = "; no CA has signed it" if is_own else ""
-    is_well = days >= CERTIFICATE_DAYS and not is_own
+    is_well = days >= certificates.DAYS_OF_WARNING and not is_own
     return is_well, f"{register.host}, {days} days, until {end}{unsigned}"

@@ -44,7 +44,8 @@ class Terminal(io.StringIO):
         (
             answers.host,
             "admissions.example",
-            ["admissions", "https://admissions.example", "Admissions.example", ""],
+            ["admissions", "https://admissions.example", "Admissions.example", "", "10.0.0.5",
+             "admissions.5"],
         ),
         (
             people.checked_name,
@@ -741,6 +742,69 @@ def certificate_of(host: str, folder: pathlib.Path) -> list[str]:
          "-nodes", "-subj", f"/CN={host}", "-addext", f"subjectAltName=DNS:{host}", "-keyout",
          folder / "new.key", "-out", folder / "new.crt"], check=True, capture_output=True)
     return ["--certificate", "new.crt", "--key", "new.key"]
+
+
+def signed(folder: pathlib.Path, name: str, start: str, end: str) -> pathlib.Path:
+    """A certificate with its key that is valid between two moments, as YYYYMMDDHHMMSSZ."""
+    (folder / "ca.conf").write_text(
+        f"[ca]\ndefault_ca=c\n[c]\ndatabase={folder}/index\nnew_certs_dir={folder}\n"
+        "rand_serial=yes\ndefault_md=sha256\npolicy=p\nunique_subject=no\n[p]\ncommonName=supplied"
+        "\n[v]\nsubjectAltName=DNS:admissions.example\n", encoding="ascii")
+    (folder / "index").write_text("", encoding="ascii")
+    key, request, made = (folder / f"{name}.{it}" for it in ("key", "csr", "crt"))
+    commands: list[list[str | pathlib.Path]] = [
+        ["req", "-new", "-newkey", "ec", "-pkeyopt", "ec_paramgen_curve:P-256", "-nodes", "-subj",
+         "/CN=admissions.example", "-keyout", key, "-out", request],
+        ["ca", "-batch", "-notext", "-config", folder / "ca.conf", "-selfsign", "-keyfile", key,
+         "-in", request, "-out", made, "-startdate", start, "-enddate", end, "-extensions", "v"],
+    ]
+    for words in commands:
+        subprocess.run(["openssl", *words], check=True, capture_output=True)
+    return made
+
+
+YEAR = datetime.date.today().year
+JULY = [f"{YEAR + it}0701000000Z" for it in (-2, -1, 1, 2)]
+PAST, NOW, FUTURE = JULY[:2], JULY[1:3], JULY[2:]
+
+
+@pytest.mark.parametrize("days, said", [
+    ([PAST], rf"0.crt has ended at {YEAR - 1}-0.*: have the CA sign a new one"),
+    ([FUTURE], rf"0.crt is valid from {YEAR + 1}-0.* on, and it is {YEAR}-.*: is the clock right?"),
+    ([NOW, PAST], rf"0.crt, its certificate 2, has ended at {YEAR - 1}-0"),
+    ([NOW, NOW], ""),
+])
+def test_a_certificate_that_browsers_refuse_today_is_refused(
+    days: list[list[str]], said: str, register: registers.Register, machine: pathlib.Path,
+) -> None:
+    """And so is one whose intermediate certificate has ended."""
+    made = [signed(machine, str(at), *it) for at, it in enumerate(days)]
+    made[0].write_text("".join(it.read_text(encoding="ascii") for it in made), encoding="ascii")
+    words = ["--certificate", str(made[0]), "--key", str(made[0].with_suffix(".key")), "--yes"]
+    if said:
+        with pytest.raises(Refused, match=said):
+            see_confirmed(register, words, "")
+    else:
+        see_confirmed(register, words, "")
+
+
+@pytest.mark.parametrize("days, is_soon", [(20, True), (22, False)])
+def test_a_certificate_that_ends_soon_is_taken_with_a_warning(
+    days: int, is_soon: bool, register: registers.Register, machine: pathlib.Path, write_as_me: None
+) -> None:
+    end = datetime.datetime.now(datetime.timezone.utc) + datetime.timedelta(days=days, hours=1)
+    made = signed(machine, "new", NOW[0], f"{end:%Y%m%d%H%M%SZ}")
+    given = given_to_setup(register.name, "--site", "admissions.example", "--certificate",
+                           str(made), "--key", str(made.with_suffix(".key")))
+    said = [it for it in setup.make_settings(register, given) if "WARNING" in it]
+    crt = register.settings / "site.crt"
+    assert [it.partition(",")[0] for it in said] == (
+        [f"WARNING: {crt} ends in {days} days"] if is_soon else [])
+
+
+def test_an_address_is_no_name_of_a_site() -> None:
+    with pytest.raises(Refused, match="'10.0.0.5' is an address.*No DNS name?.*hosts file"):
+        answers.host("10.0.0.5")
 
 
 def test_what_a_certificate_replaces_is_kept_and_the_request_of_the_old_key_is_not(
