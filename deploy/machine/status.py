@@ -40,7 +40,7 @@ from office.days import DELETION_NOTICE
 
 from . import (
     certificates, copies, deletion, files, findings, histories, history_copies, metrics,
-    office_requests, office_store, sealed, second_copy, standby,
+    office_requests, office_store, repairs, sealed, second_copy, standby,
 )
 from .desk import site_status_of, status_of
 from .drill import NOT_TRIED, OPENED, REPORT as DRILL
@@ -187,8 +187,11 @@ def file_of(register: Register) -> State:
     if standby.begun(register):
         how = f"admissions-setup {register.name} --standby"
         return False, f"its takeover has not ended: type `{how}`, which goes on"
-    found = register.file.lstat()
-    season = stored(register.file)
+    try:
+        found = register.file.lstat()
+        season = stored(register.file)
+    except (OSError, Refused, ValueError) as error:
+        raise Failed(f"{error}: {repairs.register_line(register)}") from error
     text = f"{season.phase} {season.year}, {found.st_size:,} bytes"
     is_private = stat.S_ISREG(found.st_mode) and not found.st_mode & 0o077
     if not is_private:
@@ -209,10 +212,11 @@ def desk_of(register: Register) -> State:
     if status in (200, 404):
         return True, f"answers in {1000 * (time.monotonic() - before):.0f} ms"
     if status == 503:
-        raise Failed("answers 503: it refuses everything, and journalctl has the cause")
+        raise Failed("answers 503: it refuses everything, mostly since a disk is full. Once there"
+                     f" is room: systemctl restart admissions@{register.name}")
     if status is None:
-        raise Failed(f"does not answer: systemctl status admissions@{register.name}")
-    raise Failed(f"answers {status}")
+        raise Failed(f"does not answer: {repairs.desk_line(register)}")
+    raise Failed(f"answers {status}: journalctl -n 20 -u admissions@{register.name}")
 
 
 def site_of(register: Register) -> State:
@@ -227,14 +231,14 @@ def site_of(register: Register) -> State:
     try:
         status, shown = site_status_of(register.host)
     except (OSError, http.client.HTTPException) as error:
-        said = f"does not answer on this machine ({error}): systemctl status nginx"
+        said = f"does not answer on this machine ({error}): {repairs.site_line(register, error)}"
         raise Failed(f"https://{register.host}/ {said}") from error
     if status == 502:
-        unit = f"admissions-office@{register.name}"
-        said = f"answers 502, as its application does not run: systemctl status {unit}"
+        said = f"answers 502, as its application does not run: {repairs.office_line(register)}"
         raise Failed(f"https://{register.host}/ {said}")
     if status != 401:
-        said = f"answers {status}, and not 401, to who has not signed in"
+        how = f"journalctl -n 20 -u admissions-office@{register.name}"
+        said = f"answers {status}, and not 401, to who has not signed in: {how}"
         raise Failed(f"https://{register.host}/ {said}")
     if shown != first_certificate(register):
         said = "nginx shows another certificate than that of its file: systemctl reload nginx"
@@ -283,7 +287,9 @@ def units_of(register: Register) -> State:
     for unit in (*enabled, *(office_units(register) if register.host else [])):
         found = shown_of(unit, "ActiveState", "UnitFileState")
         if found["ActiveState"] != "active":
-            bad.append(f"{unit} is {found['ActiveState']}: systemctl start {unit}")
+            state = found["ActiveState"]
+            how = repairs.unit_line(register, unit, has_failed=state == "failed")
+            bad.append(f"{unit} is {state}: {how}")
         if unit in enabled and found["UnitFileState"] != "enabled":
             state = found["UnitFileState"] or "not there"
             bad.append(f"{unit} is {state}: systemctl enable {unit}")
@@ -342,7 +348,10 @@ def people_of(register: Register) -> State:
 
     if register.host is None and not had_site(register):
         return True, "it has no site"
-    found = office_store.people_of(register)
+    try:
+        found = office_store.people_of(register)
+    except Refused as error:
+        return False, f"{error}: {repairs.people_line(register)}"
     let_in = [it for it in found if not it.is_locked]
     roles = collections.Counter(it.role for it in let_in if it.kind == PERSON)
     programs, locked = len(let_in) - roles.total(), len(found) - len(let_in)
@@ -511,7 +520,7 @@ def certificate_of(register: Register) -> State:
     if register.host is None:
         return True, "it has no site"
     if problem := certificates.key_problem(register):
-        raise Failed(problem)
+        raise Failed(f"{problem}: {certificates.command(register)}")
     days = certificates.days_left(certificate)
     if days <= 0:
         ends = "has ended" if days < 0 else "ends"

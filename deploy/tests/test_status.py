@@ -274,10 +274,10 @@ def test_a_history_that_is_not_there_or_no_file(office: registers.Register) -> N
 @pytest.mark.parametrize(
     "answered, said",
     [
-        (502, "does not run: systemctl status admissions-office@secondary-2025"),
+        (502, "does not run: systemctl reset-failed admissions-office@secondary-2025.socket"),
         (200, "answers 200, and not 401"),
         (403, "answers 403, and not 401"),
-        (ConnectionRefusedError(111, "refused"), "systemctl status nginx"),
+        (ConnectionRefusedError(111, "refused"), "refused): systemctl start nginx"),
     ],
 )
 def test_a_site_that_does_not_answer_as_it_should(
@@ -551,7 +551,9 @@ def test_a_certificate_of_another_key_or_site(
     assert (found.level, found.text.startswith(said)) == (Level.FAILED, True)
     with pytest.raises(Refused, match=said):
         certificates.see(register, "admissions.example")
-    assert list(setup.other_problems(None)) == [f"WARNING: {found.text}"]
+    assert found.text.endswith(f": {certificates.command(register)}")
+    [line] = setup.other_problems(None)
+    assert line.startswith(f"WARNING: {said}")
     assert not list(setup.other_problems(register))
     made_certificate(register.settings, "other.example")
     found = status.report(register)["certificate"]
@@ -628,7 +630,9 @@ def test_people_that_cannot_be_read(
     file.unlink()
     if content is not None:
         file.write_bytes(content)
-    assert status.report(office)["people"] == (Level.ATTENTION, f"{file.parent}/{said}")
+    found = status.report(office)["people"]
+    assert found.level == Level.ATTENTION
+    assert found.text.startswith(f"{file.parent}/{said}: ")
 
 
 def test_each_part_is_reported(register: registers.Register) -> None:
