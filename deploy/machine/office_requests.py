@@ -154,7 +154,9 @@ def stop(register: Register) -> None:
 
 
 def start(register: Register) -> None:
-    """Starts it. One that is masked, since it is closed for longer, stays closed."""
+    """Starts it, also where it has given up. One that is masked, since it is closed for longer,
+    stays closed."""
+    call(tool("systemctl", "systemd"), "reset-failed", unit_of(register), may_fail=True)
     done = call(tool("systemctl", "systemd"), "start", unit_of(register), may_fail=True)
     print(done.stderr, end="", file=sys.stderr)
 

@@ -612,6 +612,8 @@ def begin(units: list[str]) -> bool:
         return False
     for unit in units:
         if call(control, "is-active", unit, may_fail=True).stdout.strip() != "active":
+            # (one that has given up starts anew)
+            call(control, "reset-failed", unit, may_fail=True)
             call(control, "start", unit)
             print(f"started {unit}")
     return True

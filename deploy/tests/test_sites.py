@@ -245,6 +245,8 @@ def test_the_machines_own_part_needs_no_site() -> None:
         "request_uri",
         "status",
         "upstream_addr",
+        "upstream_connect_time",
+        "upstream_status",
         "uri",
     ]
 

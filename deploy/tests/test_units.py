@@ -68,12 +68,51 @@ def test_the_lines_of_a_unit_are_those_that_the_page_promises(unit: str) -> None
         assert (key, found.get(key), words in page) == (key, value, True)
 
 
+def lines_of(unit: str) -> dict[str, str]:
+    """The lines of a unit by their names; of two with one name the last."""
+    return dict(re.findall(r"(?m)^(\w+)=(.*)$", (UNITS / unit).read_text(encoding="utf-8")))
+
+
+@pytest.mark.parametrize("request_, capabilities", [
+    # the answer is written into a folder of the application; the copy is made as the user of the registers, and given to the group of the application
+    ("copy", "CAP_CHOWN CAP_DAC_OVERRIDE CAP_FOWNER CAP_SETGID CAP_SETUID"),
+    ("restore", "CAP_DAC_OVERRIDE CAP_SETGID CAP_SETUID"),
+    ("deletion-day", "CAP_DAC_OVERRIDE"),
+    ("delete", "CAP_DAC_OVERRIDE"),
+])
+def test_what_root_does_for_the_application_has_the_capabilities_that_it_uses(request_: str, capabilities: str) -> None:
+    """Each is woken by a file that the application writes."""
+    found = lines_of(f"admissions-office-{request_}@.service")
+    assert (found["CapabilityBoundingSet"], found["NoNewPrivileges"]) == (capabilities, "yes")
+    assert "User" not in found
+
+
+def test_the_second_copy_sees_no_home_and_has_the_network_alone() -> None:
+    found = lines_of("admissions-second-copy@.service")
+    assert (found["ProtectHome"], found["RestrictAddressFamilies"], found["CapabilityBoundingSet"]) == (
+        "yes", "AF_UNIX AF_INET AF_INET6", "")
+
+
+@pytest.mark.parametrize("unit", ["admissions@.service", "admissions-office@.service"])
+def test_a_unit_that_does_not_start_waits_and_gives_up(unit: str) -> None:
+    """Within the time in which it counts its starts, though each takes three times as long as the wait before it."""
+    found = lines_of(unit)
+    wait, starts = int(found["RestartSec"]), int(found["StartLimitBurst"])
+    assert found["Restart"] == "always" and wait >= 3 and starts >= 10
+    assert found["StartLimitIntervalSec"] == "2min" and starts * 4 * wait <= 120
+
+
+def test_the_server_may_make_the_log_of_a_register() -> None:
+    """Which gives it the owner that it has: the last line counts."""
+    text = (UNITS / "admissions@.service").read_text(encoding="utf-8")
+    assert re.findall(r"(?m)^SystemCallFilter=(.*)$", text) == ["@system-service", "~@privileged @resources", "@chown"]
+
+
 @pytest.mark.parametrize("request_", ["copy", "restore", "deletion-day", "delete"])
 def test_what_the_application_asks_for_is_done_ten_times_a_minute_at_most(request_: str) -> None:
     """Each time stops the desk: whoever has broken into the application shall not do that without end."""
-    text = (UNITS / f"admissions-office-{request_}@.path").read_text(encoding="utf-8")
-    found = re.findall(r"(?m)^TriggerLimit(\w+)=(.*)$", text)
-    assert found == [("IntervalSec", "1min"), ("Burst", "10")]
+    found = lines_of(f"admissions-office-{request_}@.path")
+    assert (found["TriggerLimitIntervalSec"], found["TriggerLimitBurst"]) == ("1min", "10")
 
 
 @pytest.mark.parametrize(

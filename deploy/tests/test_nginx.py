@@ -1,0 +1,128 @@
+"""What the site answers where the office's application does not, by nginx itself."""
+import contextlib
+import pathlib
+import shutil
+import socket
+import ssl
+import subprocess
+import threading
+import time
+import typing
+
+import pytest
+from conftest import ROOT
+from machine import certificates, registers, sites
+
+MODEL = ROOT / "deploy/nginx/admissions.conf"
+HOST = "admissions.example"
+
+
+class Site:
+    """The site of a register, before a socket that the test listens at, or nobody."""
+
+    def __init__(self, folder: pathlib.Path, register: registers.Register) -> None:
+        nginx = shutil.which("nginx", path="/usr/sbin:/usr/bin")
+        if not nginx:
+            raise RuntimeError("nginx is missing: apt-get install nginx")
+        self.socket, self.nginx = folder / "office.sock", nginx
+        with socket.socket() as free:
+            free.bind(("127.0.0.1", 0))
+            self.port = int(free.getsockname()[1])
+        here = sites.Machine(sites.this_machine().nginx, False)
+        model = MODEL.read_text(encoding="utf-8")
+        more = (ROOT / "deploy/nginx/machine.conf").read_text(encoding="utf-8")
+        text = sites.machine_text(model, more, here) + sites.site_text(
+            model, register.name, HOST, here)
+        text = text.replace("listen 443 ", f"listen 127.0.0.1:{self.port} ")
+        text = text.replace(str(register.office_socket), str(self.socket))
+        text = text.replace("syslog:server=unix:/dev/log,nohostname,tag=admissions", "stderr")
+        self.settings = folder / "nginx.conf"
+        self.settings.write_text(
+            f"daemon off; user root; pid {folder}/pid; error_log stderr;\n"
+            "events { worker_connections 512; }\n"
+            f"http {{ {self.paths(folder)}\n{text} }}\n",
+            encoding="utf-8")
+
+    @staticmethod
+    def paths(folder: pathlib.Path) -> str:
+        """Where nginx writes what it must."""
+        names = ("client_body", "proxy", "fastcgi", "uwsgi", "scgi")
+        return " ".join(f"{it}_temp_path {folder}/{it};" for it in names)
+
+    @contextlib.contextmanager
+    def served(self) -> typing.Iterator[None]:
+        """nginx serves it meanwhile."""
+        with subprocess.Popen([self.nginx, "-c", self.settings, "-e", "stderr"]) as run:
+            try:
+                while run.poll() is None:
+                    with contextlib.suppress(OSError):
+                        socket.create_connection(("127.0.0.1", self.port)).close()
+                        break
+                    time.sleep(0.05)
+                assert run.poll() is None
+                yield
+            finally:
+                run.terminate()
+
+    def get(self, path: str, kind: str = "text/html") -> tuple[int, str]:
+        """The status and the body of an answer."""
+        context = ssl.create_default_context()
+        context.check_hostname, context.verify_mode = False, ssl.CERT_NONE
+        with socket.create_connection(("127.0.0.1", self.port), 60) as bare:
+            with context.wrap_socket(bare, server_hostname=HOST) as secure:
+                head = f"GET {path} HTTP/1.1\r\nHost: {HOST}\r\nAccept: {kind}\r\n"
+                secure.sendall(f"{head}Connection: close\r\n\r\n".encode())
+                data = b""
+                while piece := secure.recv(1 << 16):
+                    data += piece
+        fields, _, body = data.partition(b"\r\n\r\n")
+        return int(fields.split(b" ")[1]), body.decode()
+
+
+@pytest.fixture(name="site")
+def site_fixture(
+    machine: pathlib.Path, register: registers.Register, write_as_me: None
+) -> typing.Iterator[Site]:
+    list(certificates.make(register, HOST))
+    found = Site(machine, register)
+    with found.served():
+        yield found
+
+
+def test_where_nobody_listens_the_page_says_that_the_application_does_not_start(site: Site) -> None:
+    """As once systemd has given up, and has closed the socket."""
+    before = time.monotonic()
+    status, text = site.get("/")
+    assert (status, "application does not start, and nothing was done" in text) == (502, True)
+    assert site.get("/register", "application/json") == (502, '{"unanswered":true}')
+    assert site.get("/healthz", "application/json") == (502, '{"unanswered":true}')
+    assert time.monotonic() - before < 5
+
+
+def test_where_the_application_is_tried_again_whoever_watches_is_answered(site: Site) -> None:
+    """systemd has the socket open, and nobody takes what comes."""
+    with socket.socket(socket.AF_UNIX) as listener:
+        listener.bind(str(site.socket))
+        listener.listen(64)
+        before = time.monotonic()
+        status, text = site.get("/healthz", "application/json")
+        assert (status, text) == (502, '{"unanswered":true}')
+        assert 4 < time.monotonic() - before < 10
+
+
+def test_an_answer_that_broke_off_is_told_apart(site: Site) -> None:
+    """Something may have been done then."""
+    with socket.socket(socket.AF_UNIX) as listener:
+        listener.bind(str(site.socket))
+        listener.listen(64)
+
+        def broken() -> None:
+            taken, _ = listener.accept()
+            taken.recv(4096)
+            taken.close()
+
+        thread = threading.Thread(target=broken)
+        thread.start()
+        status, text = site.get("/")
+        thread.join()
+    assert (status, "There was no answer" in text) == (502, True)
