@@ -19,8 +19,10 @@ def register_line(register: Register) -> str:
     name = register.name
     units = " ".join(f"admissions-{it}" for it in (
         f"backup@{name}.timer", f"office@{name}.socket", f"office@{name}.service"))
-    return (f"[ ! -e /run/again/{name} ] && systemctl stop {units} admissions@{name} &&"
-            f" cd {register.folder} && setpriv --reuid=admissions --regid=admissions --clear-groups"
+    # (a server that has given up can be started at once then)
+    return (f"systemctl reset-failed admissions@{name}; [ ! -e /run/again/{name} ] &&"
+            f" systemctl stop {units} admissions@{name} && cd {register.folder} &&"
+            f" setpriv --reuid=admissions --regid=admissions --clear-groups"
             f" admissions-restore {made[-1]} {register.file.name}")
 
 

@@ -301,7 +301,7 @@ def test_a_register_is_restored_and_what_it_lacks_sent_again(at: Machine) -> Non
     restore, people, back = blocks_of("Restore on this machine")
     assert at.run(restore, COPY="nightly-x.db")[0] != 0 and at.called() == []
     assert at.run(restore) == (0, f"{at.room}/{BACKUPS}/{COPY}\n")
-    assert at.called() == CLOSES
+    assert at.called() == [*CLOSES, f"reset-failed admissions@{NAME}"]
     printed, send, copied = blocks_of("Send again what a copy lacks")
     status, text = at.run(printed + send)
     assert (status, text.split()[0], text.splitlines()[-1]) == (0, "2", "all are done")
@@ -762,7 +762,8 @@ def test_a_history_that_was_changed_is_replaced_by_a_whole_copy(at: Machine) -> 
     # (a name that is mistyped changes nothing, and the right one goes on)
     assert at.run(put, COPY="history-1.gz")[0] != 0 and at.called() == []
     assert at.run(put, COPY=names[0]) == (0, f"{at.room}/{BACKUPS}/history/{names[0]}\n")
-    assert at.called() == [OFFICE_ENDS, OFFICE_ENDS.replace("stop", "start")]
+    assert at.called() == [OFFICE_ENDS, OFFICE_ENDS.replace("stop", "reset-failed"),
+                           OFFICE_ENDS.replace("stop", "start")]
     assert path.read_bytes() == whole and path.stat().st_mode & 0o777 == 0o600
     kept = path.parent / "changed/history.jsonl"
     assert kept.read_bytes() == changed

@@ -57,6 +57,7 @@ def test_a_damaged_register_is_restored_with_the_office_closed(typed: Typed) -> 
     found = status.report(typed.register)
     assert found["register"].level is Level.FAILED
     assert typed.commands(line_of(found["register"].text)) == [
+        f"systemctl reset-failed admissions@{NAME}",
         f"systemctl stop admissions-backup@{NAME}.timer admissions-office@{NAME}.socket"
         f" admissions-office@{NAME}.service admissions@{NAME}",
         "setpriv --reuid=admissions --regid=admissions --clear-groups admissions-restore"
