@@ -50,7 +50,8 @@ REPORT = "second-copy.report"
 # what is written where there shall be no second place
 NONE = "none"
 SSH = "ssh -o BatchMode=yes -o ConnectTimeout=30"
-# at the second place, beside the copies: the machine whose place it is, by its number and its name
+# at the second place, beside the copies: the machine whose place it is, by its number and its name;
+# and beside the copies here: this one, by its number, and the place that is its own
 OWNER = "owner"
 MACHINE = pathlib.Path("/etc/machine-id")
 # beside the copies here: the machine that has taken over. With it no server starts, and no
@@ -153,32 +154,30 @@ def machine() -> str:
 
 
 def see_owner(register: Register, place: str) -> None:
-    """Refuses the place of another machine, and keeps that this one was taken over where it has
-    copied there before. A place without an owner gets this one."""
+    """Refuses the place of another machine, and keeps that this one was taken over where the place
+    was its own before. A place without an owner gets this one."""
     there, number = f"{place}/{register.name}", machine()
     with tempfile.TemporaryDirectory() as room:
         rsync("--recursive", f"{room}/", f"{there}/")
         rsync("--recursive", "--include", f"/{OWNER}", "--exclude", "*", f"{there}/", f"{room}/")
         path = pathlib.Path(room, OWNER)
         owner = path.read_text(encoding="utf-8", errors="replace") if path.is_file() else ""
-    if not owner.strip():
-        own(register, place)
-        return
+    # (which a register that was moved here, or a clone of the machine, has of another one)
+    kept, line = register.copies / OWNER, f"{number} {place}\n"
+    is_kept = kept.exists() and kept.read_text(encoding="utf-8") == line
     found, _, name = owner.strip().partition(" ")
-    if found == number:
+    if not found:
+        own(register, place)
+    if found in ("", number):
+        if not is_kept:
+            files.write_as_desk(kept, line.encode())
         return
-    report = register.copies / REPORT
-    if report.exists() and has_copied(report.read_text(encoding="utf-8"), register, place):
+    if is_kept:
         files.write_as_desk(register.copies / TAKEN_OVER, owner.encode())
         raise Refused(taken_over(register) or "")
     raise Refused(f"{there} is the place of the machine {name or found}. Name another place in"
                   f" {SETTINGS / 'second-copy'}; or, if that machine is off for good, remove"
                   f" {OWNER} there")
-
-
-def has_copied(line: str, register: Register, place: str) -> bool:
-    """Whether a line of the report is of this place."""
-    return f" is in {place}/{register.name}, " in line
 
 
 def taken_over(register: Register) -> str | None:

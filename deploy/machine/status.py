@@ -467,7 +467,7 @@ def second_of(register: Register) -> State:
     if found is None:
         return False, f"this machine has copied nothing to {place} yet: {how}"
     line, old = found
-    if not second_copy.has_copied(line, register, place):
+    if f" is in {place}/{register.name}, " not in line:
         return False, f"this machine has copied nothing to {place} yet: {how}; before, {line}"
     is_well = is_recent(old, COPY_HOURS * 3600) and "WARNING" not in line
     plain = "" if sealed.recipient() else (

@@ -131,6 +131,22 @@ def test_a_machine_that_was_taken_over_can_be_opened_again(machines: Machines) -
     assert (machines.owner(), machines.taken_over()) == (owner, False)
 
 
+def test_a_register_that_was_moved_here_with_its_files_is_not_stopped(machines: Machines) -> None:
+    """Nor is a clone of the machine, or one installed anew: the place is of another machine."""
+    machines.copy(1)
+    owner = machines.owner()
+    (machines.folder / "machine-id").write_text(f"{SECOND}\n", encoding="ascii")
+    with pytest.raises(Refused, match=f"{NAME} is the place of the machine .* remove owner there"):
+        machines.copy(2)
+    assert not machines.taken_over()
+    (machines.place / NAME / "owner").unlink()
+    machines.copy(2)
+    assert machines.owner() not in ("", owner)
+    (machines.place / NAME / "owner").write_text(owner, encoding="utf-8")
+    with pytest.raises(Refused, match=f"has taken {NAME} over"):
+        machines.copy(3)
+
+
 def test_a_rehearsal_leaves_the_place_as_it_is(
     machines: Machines, machine: pathlib.Path
 ) -> None:
