@@ -27,7 +27,7 @@ from typing import TYPE_CHECKING, Any
 import register_files
 from register_files import Refused
 
-from . import book, inputs, letter_fields, letter_pdf, libraries
+from . import book, inputs, letter_fields, letter_pdf, libraries, turns
 from .book import Page
 from .letter_fields import Cell, Letter
 from .served_copy import PR_SET_PDEATHSIG
@@ -41,7 +41,7 @@ MOST_MEMORY, MOST_FILE = 1_500 * inputs.MB, 200 * inputs.MB
 # more pages than any letter has, and more points of a picture than a printer shows
 MOST_PAGES, MOST_POINTS = 12, 20_000_000
 # so many processes at once: the others wait
-AT_ONCE = threading.BoundedSemaphore(2)
+AT_ONCE = turns.Turn(threading.BoundedSemaphore(2), "other letters are being laid out")
 HERE = os.path.dirname(os.path.abspath(__file__))
 BEGIN = ("import sys; sys.path[:0] = sys.argv[1:]; from office import letters_apart;"
          " letters_apart.main()")

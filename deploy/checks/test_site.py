@@ -600,8 +600,8 @@ def shake_hands(world: World, context: ssl.SSLContext, name: str) -> None:
 # header of the list, and none but those
 
 SIGN_IN, NOT_FROM_HERE = "sign in first", "a request must come from a page of this site"
-LONG_BODY = ("a body has at most 16 MB, a gazetteer 64 MB, a sign-in 8 KB, and 1 MB where nobody is"
-             " signed in")
+LONG_BODY = ("a body has at most 16 MB, a gazetteer 64 MB, a sign-in 8 KB, and 100 KB where nobody"
+             " is signed in")
 LONG_COMMAND = "the register takes at most 1,048,576 bytes at once"
 NO_REQUEST = "this is no request that the site reads, or its head has over 8 KB"
 # What is asked, its status and the reason

@@ -14,7 +14,7 @@ from explained import after_round
 from pages import Page, press
 from register_files import Refused
 
-from office import libraries, trial
+from office import libraries, trial, turns
 from office.web import held_again, trials
 from office.web.trials import Run
 
@@ -271,10 +271,12 @@ def test_who_waits_too_long_for_an_answer_is_asked_to_try_again(
     monkeypatch: pytest.MonkeyPatch,
 ) -> None:
     """The threads that serve all screens do not all wait for what two have asked for."""
-    monkeypatch.setattr(held_again, "MOST_WAIT", 0.01)
+    monkeypatch.setattr(turns, "SECONDS", 0.01)
     with held_again.turn(), held_again.turn():
+        turns.SERVES.set(True)
         with pytest.raises(Refused) as error, held_again.turn():
             pass
+        turns.SERVES.set(False)
         assert str(error.value) == "others are being worked out: try again in a minute"
     with held_again.turn():
         pass

@@ -73,6 +73,7 @@ def create(config: Config) -> flask.Flask:
     is_secure = config.origin.startswith("https:")
     app.url_map.converters["int"] = numbers.Number
     app.secret_key = authority.cookie_key(parts.store)
+    app.extensions["accounts"] = authority.Accounts(app)
     app.config.update(
         SESSION_COOKIE_NAME="__Host-state" if is_secure else "state", SESSION_COOKIE_PATH="/",
         SESSION_COOKIE_SECURE=is_secure, SESSION_COOKIE_HTTPONLY=True,

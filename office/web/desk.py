@@ -14,7 +14,7 @@ from typing import Any
 
 from register_files import Refused
 
-from office import commands, days, model, senders
+from office import commands, days, model, senders, turns
 from office.model import Members, Register
 
 from . import effects
@@ -187,7 +187,9 @@ class Desk:
     ) -> None:
         self.sender, self.history, self.clock = sender, record, clock
         self.source = model.Server(sender)
-        self.lock, self.reading = threading.RLock(), threading.Lock()
+        self.lock = turns.Turn(threading.RLock(), "the register is being copied, or others send")
+        self.reading = turns.Turn(
+            threading.Lock(), "the register is being copied, or does not answer")
         self.copy: tuple[float, Register, bytes] | None = None
         # when something was sent last, before which no copy is of the present; and when about each
         # child and school, and about any
@@ -271,8 +273,8 @@ class Desk:
         if command["cmd"] in DRAWS and not draw:
             return Result(UNSENT, "Nothing was recorded: a round or a fill is held on the screen of"
                                   " draws, where a second person confirms it.")
-        with self.lock:
-            if reason := self.reason(draw):
+        with self.sending(draw) as reason:
+            if reason:
                 return Result(UNSENT, reason)
             if seen is not None and (said := self.difference(command, seen)):
                 return Result(DIFFERS, said)
@@ -284,8 +286,8 @@ class Desk:
         """Sends what is no command as far as is known here, for what the register says of it. It
         may know more, and take it: so this goes in its turn, and is on record before.
         """
-        with self.lock:
-            if reason := self.reason(False):
+        with self.sending() as reason:
+            if reason:
                 return Result(UNSENT, reason)
             about = {"line": line.decode("utf-8", "replace")[:MOST_LINE]}
             return self.exchange(who, about, lambda: self.sender.send(line))
@@ -296,8 +298,8 @@ class Desk:
         """Sends the rows of an import, which are stored all or not at all. Where the points of
         their homes came from, by the children's numbers, is in the history beside them.
         """
-        with self.lock:
-            if reason := self.reason(False):
+        with self.sending() as reason:
+            if reason:
                 return Result(UNSENT, reason)
             about: dict[str, Any] = {
                 "import": rows.decode(), **({"points": dict(points)} if points else {})}
@@ -309,14 +311,25 @@ class Desk:
         """
         first = entry.about.get("again") or {"of": entry.number, "who": entry.who, "at": entry.at}
         about: dict[str, Any] = {**entry.about, "again": first}
-        with self.lock:
-            if reason := self.reason(is_closed):
+        with self.sending(is_closed) as reason:
+            if reason:
                 return Result(UNSENT, reason)
             if "import" in about:
                 rows: str = about["import"]
                 return self.exchange(who, about, lambda: self.sender.imported(rows.encode()))
             line = line_of(about["command"])
             return self.exchange(who, about, lambda: self.sender.send(line))
+
+    @contextlib.contextmanager
+    def sending(self, draw: bool = False) -> Iterator[str]:
+        """The turn to send, with why nothing can be sent now, or ""."""
+        with contextlib.ExitStack() as held:
+            try:
+                held.enter_context(self.lock)
+            except turns.Busy as error:
+                yield f"Nothing was recorded: {error}."
+                return
+            yield self.reason(draw)
 
     def reason(self, draw: bool) -> str:
         """Why nothing can be sent now, or ""."""

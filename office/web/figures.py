@@ -11,7 +11,7 @@ from typing import Any
 
 from register_files import Refused
 
-from office import charts, criteria, figure_counts, figures, libraries, texts
+from office import charts, criteria, figure_counts, figures, libraries, texts, turns
 from office.figure_counts import LOWER, NONE, Figures, What
 from office.model import Register
 from office.withheld import LEAST, is_small
@@ -26,7 +26,7 @@ BESIDE = f"a number from 1 to {LEAST - 1} could be worked out from it"
 PRIVATE = "the last place went to a child who is or was looked after, or by a flag"
 BLANK = f"their squares of the map have fewer than {LEAST} homes"
 # (each makes charts, and needs much memory for some time)
-MAKING = threading.Lock()
+MAKING = turns.Turn(threading.Lock(), "others are having figures made")
 # the fields of the form, as errors name them
 COPY, LAST, LAST_COPY = (
     "the copy from right before the round", "last year's register",

@@ -13,7 +13,9 @@ from register_files import FULL, Refused
 from werkzeug.exceptions import HTTPException
 from werkzeug.wrappers import Response as AnyResponse
 
-from . import failures, plain, wording
+from office import turns
+
+from . import failures, plain, uploads, wording
 from .desk import Away
 from .parts import Parts
 from .people import Person
@@ -45,6 +47,8 @@ BEFORE_CHANGE = ("signing.password", "signing.sign_out", "signing.signed_in")
 # what was typed is kept over the end of a session up to this size, and on these pages never
 MOST_TYPED = 1_000_000
 SECRET = ("signing.sign_in", "signing.password")
+# of those without a session one body is read at a time; another one meanwhile is not read
+NOBODY = threading.Lock()
 ENDED = ("Your session has ended, and nothing was done. Sign in again, and then send once more what"
          " you typed: it is below.")
 BROKEN = ("Something went wrong in the application. Look whether what you sent is done, before you"
@@ -160,10 +164,25 @@ def again(status: int, reason: str) -> AnyResponse | None:
     is_typed = (
         request.method == "POST" and wants_page() and request.endpoint not in SECRET
         and request.headers.get("Origin") == parts().config.origin
-        and (request.content_length or 0) <= MOST_TYPED
+        and (request.content_length or 0) <= min(MOST_TYPED, request.max_content_length or 0)
     )
-    typed = [it for it in request.form.items(multi=True) if it[0] != "form"] if is_typed else []
-    if not typed:
+    if not is_typed:
+        return None
+    if flask.g.get("person"):
+        return typed_again(status, reason)
+    if not NOBODY.acquire(False):
+        return None
+    try:
+        return typed_again(status, reason)
+    finally:
+        NOBODY.release()
+
+
+def typed_again(status: int, reason: str) -> AnyResponse | None:
+    """The page with what was typed, if there is anything."""
+    request = cast(uploads.Request, flask.request)
+    typed = [it for it in request.form.items(multi=True) if it[0] != "form"]
+    if not typed or len(typed) > request.most_fields:
         return None
     return flask.make_response(flask.render_template(
         "again.html", reason=reason, typed=typed, has_files=bool(request.files),
@@ -172,6 +191,7 @@ def again(status: int, reason: str) -> AnyResponse | None:
 
 def see() -> AnyResponse | None:
     """Lets a request pass, or answers it."""
+    turns.SERVES.set(True)
     request = flask.request
     view = flask.current_app.view_functions.get(request.endpoint or "")
     if view is None:
@@ -197,6 +217,11 @@ def see() -> AnyResponse | None:
     if right != SIGNED_IN and not found.may(right):
         refused(found)
     return None
+
+
+def leave(_: BaseException | None) -> None:
+    """The thread serves no screen any more."""
+    turns.SERVES.set(False)
 
 
 def target() -> str:
@@ -245,9 +270,11 @@ def failed(status: int, reason: str) -> tuple[str, int] | flask.Response:
     return flask.Response(text, status, mimetype="application/json")
 
 
-def on_refused(error: Exception) -> tuple[str, int] | flask.Response:
-    """What cannot be done, in words; a register that is away may be asked again."""
-    return failed(503 if isinstance(error, Away) else 409, str(error))
+def on_refused(error: Exception) -> AnyResponse | tuple[str, int]:
+    """What cannot be done, in words; what is away or busy may be asked again."""
+    if isinstance(error, turns.Busy) and (kept := again(503, wording.sentence(str(error)))):
+        return kept
+    return failed(503 if isinstance(error, (Away, turns.Busy)) else 409, str(error))
 
 
 def on_files(error: Exception) -> AnyResponse | tuple[str, int]:
@@ -285,6 +312,7 @@ def guarded(app: flask.Flask) -> None:
     app.extensions["watch"] = Watch()
     app.before_request(see)
     app.after_request(headers)
+    app.teardown_request(leave)
     app.register_error_handler(Refused, on_refused)
     app.register_error_handler(OSError, on_files)
     app.register_error_handler(sqlite3.Error, on_files)

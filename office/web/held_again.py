@@ -5,9 +5,7 @@ import contextlib
 import threading
 from collections.abc import Iterator
 
-from register_files import Refused
-
-from office import rounds
+from office import rounds, turns
 from office.model import Draw, Register
 from office.rounds import Held
 from office.trial_registers import Program
@@ -16,21 +14,14 @@ from . import plain
 
 # wall-clock seconds; a day in time of a late application holds two rounds anew
 MOST_SECONDS = 120
-# so many are worked out at once; another one waits for so many seconds, so that the threads that
-# serve all screens do not all wait here
-AT_ONCE, MOST_WAIT = threading.BoundedSemaphore(2), 20
-BUSY = "others are being worked out: try again in a minute"
+AT_ONCE = turns.Turn(threading.BoundedSemaphore(2), "others are being worked out")
 
 
 @contextlib.contextmanager
 def turn() -> Iterator[Program]:
     """The program for one answer, once it is its turn; or a refusal where that takes too long."""
-    if not AT_ONCE.acquire(timeout=MOST_WAIT):
-        raise Refused(BUSY)
-    try:
+    with AT_ONCE:
         yield Program(plain.program(), MOST_SECONDS)
-    finally:
-        AT_ONCE.release()
 
 
 class HeldAgain:

@@ -2,6 +2,7 @@
 import collections
 import dataclasses
 import hashlib
+import json
 import re
 import secrets
 import threading
@@ -230,7 +231,9 @@ class People:
         if row:
             secret = secrets.token_urlsafe(18)
             kind = row["kind"]
-            self.changed(name, "hash=?, must_change=?", self.hash_of(secret, kind), kind == PERSON)
+            # (and another account of the authority's provider may be the person's from now on)
+            self.changed(name, "hash=?, must_change=?, account=''", self.hash_of(secret, kind),
+                         kind == PERSON)
         return secret
 
     def see_removable(self, name: str) -> None:
@@ -288,11 +291,20 @@ class People:
             raise Refused(WRONG)
         return self.begin(name)
 
-    def sign_in_outside(self, name: str) -> str:
-        """The secret of a new session of somebody whom the authority's provider has signed in."""
-        row = self.store.row("SELECT is_locked FROM person WHERE name=? AND kind=?", name, PERSON)
+    def sign_in_outside(self, name: str, account: str) -> str:
+        """The secret of a new session of somebody whom the authority's provider has signed in by an
+        account, which stays the only one of that provider for this person.
+        """
+        row = self.store.row("SELECT * FROM person WHERE name=? AND kind=?", name, PERSON)
         if not row or row["is_locked"]:
             raise Refused(f"{name} may not sign in here: ask who adds people.")
+        before = json.loads(row["account"] or "null")
+        if row["account"] != account:
+            if before and before[0] == json.loads(account)[0]:
+                raise Refused(f"{name} signed in by another account of the provider before: ask who"
+                              " adds people for a new password, and sign in by this account then.")
+            with self.store.writing() as db:
+                db.execute("UPDATE person SET account=? WHERE name=?", (account, name))
         return self.begin(name, True)
 
     def begin(self, name: str, is_outside: bool = False) -> str:

@@ -185,6 +185,10 @@ STEPS = (
     """
     ALTER TABLE draw ADD COLUMN give_up_why TEXT NOT NULL DEFAULT '';
     """,
+    # the account of the authority's provider by which a person signed in first, as JSON
+    """
+    ALTER TABLE person ADD COLUMN account TEXT NOT NULL DEFAULT '';
+    """,
 )
 # the disk, or the limit of a file of the system, is reached
 FULL = "SQLITE_FULL"

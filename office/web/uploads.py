@@ -28,10 +28,15 @@ LARGE, MOST_LARGE = "/applications/gazetteer/file", gazetteer_rows.MOST_BYTES + 
 # a form has a field for each child of a set of letters, and some more. Each costs some
 # microseconds, and a body of the size of a workbook could have millions
 FORM, MOST_FIELDS = "application/x-www-form-urlencoded", 30_000
+# somebody who is not signed in sends a name and a password, or what was typed in a session that
+# has ended
+NOBODY_BYTES, NOBODY_FIELDS = 100_000, 500
 
 
 class Fields(FormDataParser):
     """Reads forms, but for one of so many fields that no page has them."""
+
+    most_fields = MOST_FIELDS
 
     def parse(
         self, stream: IO[bytes], mimetype: str, content_length: int | None,
@@ -41,20 +46,34 @@ class Fields(FormDataParser):
         most = self.max_content_length or 0
         if mimetype == FORM and (content_length or 0) <= most:
             data = stream.read(most + 1)
-            if data.count(b"&") >= MOST_FIELDS:
+            if data.count(b"&") >= self.most_fields:
                 raise RequestEntityTooLarge
             stream, content_length = io.BytesIO(data), len(data)
         return super().parse(stream, mimetype, content_length, options)
 
 
 class Request(flask.Request):
-    """A request, whose body is bounded by where it is sent."""
+    """A request, whose body is bounded by who sends it, and where."""
 
     form_data_parser_class = Fields
 
     @property
+    def most_fields(self) -> int:
+        """How many fields a form has at most."""
+        return MOST_FIELDS if flask.g.get("person") else NOBODY_FIELDS
+
+    def make_form_data_parser(self) -> FormDataParser:
+        """What reads a form."""
+        made = super().make_form_data_parser()
+        assert isinstance(made, Fields)
+        made.most_fields = self.most_fields
+        return made
+
+    @property
     def max_content_length(self) -> int | None:
         """How many bytes its body has at most."""
+        if not flask.g.get("person"):
+            return NOBODY_BYTES
         return MOST_LARGE if self.path == LARGE else super().max_content_length
 
     @max_content_length.setter

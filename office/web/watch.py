@@ -12,6 +12,8 @@ from .desk import Desk
 
 # the register is asked at most once in so many seconds, however often somebody asks here
 SECONDS = 1.0
+# so long others wait for its first answer
+FIRST_SECONDS = 2.0
 # an answer of the register to this, of whatever child, says that it reads its rows
 ASKED, ANSWERED = "/child/1", (200, 404)
 
@@ -41,7 +43,7 @@ class Watch:
         one.
         """
         last = self.last
-        if not self.asking.acquire(blocking=last is None):
+        if not self.asking.acquire(timeout=FIRST_SECONDS if last is None else 0):
             return last is not None and last[1]
         try:
             last = self.last

@@ -10,6 +10,7 @@ from werkzeug.wrappers import Response
 from office import days
 from office.withheld import WITHHELD
 from office.model import Register
+from office.turns import Busy
 
 from .. import figures, flags, guard, uploads
 from ..figures import FiguresStore, Made, Sources, Withheld
@@ -81,7 +82,8 @@ def make() -> Answer:
     try:
         page, about = figures.made(sources(typed), flags.present())
     except Refused as error:
-        return index("", sentence(f"Nothing was made: {error}"), typed), 422
+        status = 503 if isinstance(error, Busy) else 422
+        return index("", sentence(f"Nothing was made: {error}"), typed), status
     number = kept().add(person().name, page, about)
     made = found(number)
     guard.record("made figures", of=made.title, number=number, digest=made.digest,

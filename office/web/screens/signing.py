@@ -1,9 +1,12 @@
 """Signing in and out, and a password of one's own."""
 import urllib.parse
+from typing import cast
 
 import flask
 from register_files import Refused
 from werkzeug.wrappers import Response
+
+from office.turns import Busy
 
 from .. import authority, failures, guard, people
 from ..guard import PUBLIC, SIGNED_IN, needs, parts, person
@@ -61,6 +64,16 @@ def provider() -> authority.Provider:
     return found
 
 
+def accounts() -> authority.Accounts:
+    """The way to that provider."""
+    return cast(authority.Accounts, flask.current_app.extensions["accounts"])
+
+
+def status_of(error: Refused) -> int:
+    """The status of a sign-in that was refused, or may be tried again."""
+    return 503 if isinstance(error, Busy) else 403
+
+
 def own_address() -> str:
     """Where a provider leads back to."""
     return parts().config.origin + flask.url_for("signing.come_back")
@@ -70,12 +83,13 @@ def own_address() -> str:
 @needs(PUBLIC)
 def go_out() -> Answer:
     """The way to the provider."""
-    flask.session["to"] = own_path(flask.request.args.get("to", "/"))
+    to = own_path(flask.request.args.get("to", "/"))
+    flask.session["to"] = to
     try:
-        return authority.go_out(flask.current_app, provider(), own_address())
+        return accounts().go_out(provider(), own_address())
     except Refused as error:
         guard.sign_in_failed(failures.PROVIDER)
-        return sign_in_page("/", str(error), ""), 403
+        return sign_in_page(to, str(error), ""), status_of(error)
 
 
 @screen.get("/sign-in/authority/back")
@@ -84,11 +98,12 @@ def come_back() -> Answer:
     """The begin of a session of somebody who comes back from the provider."""
     to = own_path(str(flask.session.pop("to", "/")))
     try:
-        name = authority.signed_in(flask.current_app, provider())
-        secret = parts().people.sign_in_outside(name)
+        found = provider()
+        name, account = authority.account_in(found, accounts().claims(found))
+        secret = parts().people.sign_in_outside(name, account)
     except Refused as error:
         guard.sign_in_failed(failures.ACCOUNT)
-        return sign_in_page(to, str(error), ""), 403
+        return sign_in_page(to, str(error), ""), status_of(error)
     parts().history.add(name, "signed in", {"by": "the authority's account"})
     # (a browser that was led here by another site sends the new cookie only from a page of this
     # one)

@@ -1,0 +1,195 @@
+"""The application as it is served, while something beside it hangs: nothing slow and nobody without
+a sign-in keeps its threads.
+"""
+import contextlib
+import http.client
+import os
+import pathlib
+import signal
+import socket
+import subprocess
+import sys
+import threading
+import time
+import urllib.parse
+from collections.abc import Callable, Iterator
+from concurrent.futures import ThreadPoolExecutor
+
+import pytest
+from applications import Form, town
+from conftest import ROOT, make
+from served import served
+
+from office.web import authority, people, uploads
+from office.web.store import Store
+
+# more than the application has threads
+MANY = 40
+# what is answered while something hangs is answered within so many seconds, on a busy machine too
+SOON = 30.0
+BEGIN = """
+import pathlib, sys
+sys.path[:0] = sys.argv[1:3]
+from office.web import serve
+from office.web.parts import Config
+at = pathlib.Path(sys.argv[3])
+serve.run(Config("r", sys.argv[4], sys.argv[5], at / "office", at / "copies",
+                 pathlib.Path(sys.argv[1]) / "deploy" / "site"), sys.argv[6])
+"""
+
+
+class Served:
+    """An application in a process of its own, and how it is asked."""
+
+    def __init__(self, folder: pathlib.Path, door: str) -> None:
+        self.folder = folder
+        (folder / "copies").mkdir()
+        with socket.socket() as it:
+            it.bind(("127.0.0.1", 0))
+            self.port: int = it.getsockname()[1]
+        self.origin = f"http://127.0.0.1:{self.port}"
+        words = [sys.executable, "-c", BEGIN, str(ROOT), str(ROOT / "tools"), str(folder),
+                 self.origin, door, f"127.0.0.1:{self.port}"]
+        # pylint: disable-next=consider-using-with
+        self.run = subprocess.Popen(words, start_new_session=True)
+        end = time.monotonic() + 60
+        while not self.is_up():
+            assert self.run.poll() is None and time.monotonic() < end
+            time.sleep(0.05)
+
+    def is_up(self) -> bool:
+        """Whether it answers."""
+        with contextlib.suppress(OSError):
+            return self.ask("/page.css")[0] == 200
+        return False
+
+    def ask(
+        self, path: str, cookie: str = "", given: dict[str, str] | None = None,
+        seconds: float = SOON,
+    ) -> tuple[int, str, str]:
+        """The status and the text of an answer, and the session that it gives."""
+        conn = http.client.HTTPConnection("127.0.0.1", self.port, timeout=seconds)
+        headers = {"Accept": "text/html", "Cookie": cookie, "Origin": self.origin,
+                   "Content-Type": uploads.FORM}
+        body = None if given is None else urllib.parse.urlencode(given)
+        conn.request("GET" if body is None else "POST", path, body, headers)
+        found = conn.getresponse()
+        cookie = found.headers.get("Set-Cookie", "").partition(";")[0]
+        text = found.read().decode()
+        conn.close()
+        return found.status, text, cookie
+
+    def sign_in(self, name: str) -> str:
+        """The session of a person."""
+        given = {"name": name, "password": f"{name} of the office"}
+        status, _, cookie = self.ask("/sign-in", given=given)
+        assert status == 303
+        return cookie
+
+    def end(self) -> None:
+        """Ends it."""
+        os.killpg(self.run.pid, signal.SIGKILL)
+        self.run.wait()
+
+
+@contextlib.contextmanager
+def serving(
+    folder: pathlib.Path, setting: Callable[[Store], None] = lambda _: None,
+) -> Iterator[Served]:
+    """An application over a register, with a head, a reader, and what is set in its store."""
+    make(folder / "reg.db", town())
+    (folder / "office").mkdir()
+    store = Store(str(folder / "office" / "office.db"))
+    found = people.People(store)
+    for name, role in (("hal", people.HEAD), ("rita", people.READER)):
+        found.set_password(
+            people.Person(name, role), found.add(name, role), f"{name} of the office")
+    setting(store)
+    store.close()
+    with served(folder / "reg.db") as (door, _):
+        office = Served(folder, door)
+        try:
+            yield office
+        finally:
+            office.end()
+
+
+@contextlib.contextmanager
+def silent() -> Iterator[str]:
+    """The address of a provider that takes each connection and says nothing."""
+    with socket.socket() as listening:
+        listening.bind(("127.0.0.1", 0))
+        listening.listen(100)
+        yield f"http://127.0.0.1:{listening.getsockname()[1]}"
+
+
+def statuses(asked: Callable[[], int]) -> list[int]:
+    """What came of asking many times at once."""
+    with ThreadPoolExecutor(MANY) as threads:
+        return [it.result() for it in [threads.submit(asked) for _ in range(MANY)]]
+
+
+def test_a_provider_that_is_silent_holds_few_threads(tmp_path: pathlib.Path) -> None:
+    """Others are told at once, and what needs no provider is answered meanwhile."""
+    with silent() as issuer:
+        provider = authority.Provider("Council", issuer, "admissions", "secret")
+        with serving(tmp_path, lambda it: authority.set_provider(it, provider)) as office:
+            found: list[int] = []
+            thread = threading.Thread(target=lambda: found.extend(statuses(
+                lambda: office.ask("/sign-in/authority", seconds=120)[0])))
+            begun = time.monotonic()
+            thread.start()
+            time.sleep(1)
+            for path in ("/healthz", "/page.css", "/sign-in"):
+                assert office.ask(path)[0] == 200, path
+            thread.join()
+            assert found == [503] * MANY
+            # (each of the few gives up after some seconds)
+            assert time.monotonic() - begun < 60
+            assert "or sign in with a password" in office.ask("/sign-in/authority")[1]
+
+
+def test_a_copy_that_hangs_holds_few_threads(tmp_path: pathlib.Path) -> None:
+    """Pages of the register say that it is being copied; the sign-in needs no register."""
+    with serving(tmp_path) as office:
+        hal, rita = office.sign_in("hal"), office.sign_in("rita")
+        secret = Form(office.ask("/copies/", hal)[1]).secret
+        requests = tmp_path / "office" / "requests"
+
+        def copy() -> None:
+            # (the application ends before the machine does)
+            with contextlib.suppress(OSError):
+                office.ask("/copies/", hal, {"form": secret}, seconds=300)
+
+        threading.Thread(target=copy).start()
+        while not (requests / "copy").exists():
+            time.sleep(0.01)
+        # (what the machine has begun nobody takes back, and it does not end)
+        (requests / "copy").rename(requests / "copy.begun")
+        pages: list[tuple[int, str, str]] = []
+        with ThreadPoolExecutor(MANY) as threads:
+            asked = [threads.submit(office.ask, "/schools/", rita, seconds=120)
+                     for _ in range(MANY)]
+            time.sleep(1)
+            assert office.ask("/healthz")[0] in (200, 503)
+            for path in ("/page.css", "/sign-in"):
+                assert office.ask(path)[0] == 200, path
+            assert office.sign_in("rita")
+            pages = [it.result() for it in asked]
+        assert {status for status, _, _ in pages} == {503}
+        assert all("being copied" in text and "try again in a minute" in text
+                   for _, text, _ in pages)
+
+
+@pytest.mark.parametrize("name, value, many", [("field", "x", 501), ("field", "x" * 1000, 100)])
+def test_what_nobody_has_signed_is_not_read(
+    tmp_path: pathlib.Path, name: str, value: str, many: int
+) -> None:
+    """A form of more fields or bytes than one that somebody typed is not shown again."""
+    with serving(tmp_path) as office:
+        fields = {f"{name}{at}": value for at in range(many)}
+        status, text, _ = office.ask("/people/", "", fields)
+        assert status in (401, 413) and len(text) < 5000
+        typed = dict(list(fields.items())[:80])
+        status, text, _ = office.ask("/people/", "", typed)
+        assert status == 401 and value in text and "Your session has ended" in text
