@@ -1,6 +1,7 @@
 """Work of the application in a process of its own: what takes too much time or memory ends that
 process alone. (The time of a thread cannot be limited as that of a command is.)
 """
+import contextlib
 import json
 import os
 import resource
@@ -13,14 +14,16 @@ from typing import Any
 import register_files
 from register_files import Refused
 
-from . import inputs
+from . import inputs, turns
 
-MOST_MEMORY = 2_000 * inputs.MB
+# of a process that reads a file, and of one that lays out a page, whose libraries need more
+MOST_MEMORY, MOST_LAYOUT = 500 * inputs.MB, 1_500 * inputs.MB
 # wall-clock seconds, for a machine that does much else
 MOST_SECONDS = 4 * inputs.SECONDS
-# so many are at work at once; another one waits for so many seconds, so that the threads that serve
-# all screens do not all wait here
-AT_ONCE, MOST_WAIT = threading.BoundedSemaphore(2), MOST_SECONDS
+# so many are at work at once
+AT_ONCE = turns.Turn(threading.BoundedSemaphore(2), "other files are being read")
+# nothing of the application's own environment
+ENVIRONMENT = {"PATH": os.defpath, "LC_ALL": "C.UTF-8"}
 HERE = os.path.dirname(os.path.abspath(__file__))
 BEGIN = ("import sys; places, name = sys.argv[1:-1], sys.argv[-1]; sys.path[:0] = places;"
          " import importlib; importlib.import_module(name).main()")
@@ -40,17 +43,14 @@ def done(module: str, what: str, asked: dict[str, Any], data: bytes) -> bytes:
     """
     places = [os.path.dirname(HERE), os.path.dirname(os.path.abspath(register_files.__file__))]
     late = Refused(f"{what} takes more than {inputs.SECONDS} seconds")
-    if not AT_ONCE.acquire(timeout=MOST_WAIT):
-        raise Refused(f"{what} has not begun, as others take long: try again in a minute")
     try:
-        ran = subprocess.run(
-            [sys.executable, "-I", "-B", "-c", BEGIN, *places, module],
-            input=json.dumps(asked).encode() + b"\n" + data,
-            capture_output=True, check=False, timeout=MOST_SECONDS)
+        with AT_ONCE:
+            ran = subprocess.run(
+                [sys.executable, "-I", "-B", "-c", BEGIN, *places, module],
+                input=json.dumps(asked).encode() + b"\n" + data, env=ENVIRONMENT,
+                capture_output=True, check=False, timeout=MOST_SECONDS)
     except subprocess.TimeoutExpired as error:
         raise late from error
-    finally:
-        AT_ONCE.release()
     if ran.returncode in (-signal.SIGXCPU, -signal.SIGKILL):
         raise late
     if ran.returncode:
@@ -58,10 +58,18 @@ def done(module: str, what: str, asked: dict[str, Any], data: bytes) -> bytes:
     return ran.stdout
 
 
-def given() -> tuple[dict[str, Any], bytes]:
+def end_first() -> None:
+    """Where memory runs out this process is ended, and not the application."""
+    with contextlib.suppress(OSError):
+        with open("/proc/self/oom_score_adj", "w", encoding="ascii") as it:
+            it.write("1000")
+
+
+def given(most_memory: int = MOST_MEMORY) -> tuple[dict[str, Any], bytes]:
     """What such a process was asked, and its bytes. Its time and memory are limited from now on."""
+    end_first()
     seconds = inputs.SECONDS + 10
-    resource.setrlimit(resource.RLIMIT_AS, (MOST_MEMORY, MOST_MEMORY))
+    resource.setrlimit(resource.RLIMIT_AS, (most_memory, most_memory))
     resource.setrlimit(resource.RLIMIT_CPU, (seconds, seconds))
     # (a core would have what somebody sent)
     resource.setrlimit(resource.RLIMIT_CORE, (0, 0))

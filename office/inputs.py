@@ -13,13 +13,16 @@ MB = 1_000_000
 MOST_BYTES, MOST_UNPACKED, MOST_PARTS = 8 * MB, 16 * MB, 1_000
 MOST_ROWS, MOST_COLUMNS, MOST_CELLS, MOST_TEXT = 25_000, 250, 250_000, 32_767
 MOST_LINES, MOST_MERGED = 100_000, 10_000
+# the cells of a workbook with those that have formats alone; no spreadsheet has more in a row
+MOST_FORMATTED, MOST_IN_ROW = 1_000_000, 16_384
 # a register at its limits has far less
 MOST_REGISTER_BYTES = 1_000 * MB
 SECONDS = 20
 SHEET_HELP = (
     f"limits of a sheet: {MOST_BYTES // MB} MB, a workbook unpacked {MOST_UNPACKED // MB} MB;"
     f" {MOST_ROWS:,} rows, {MOST_COLUMNS} columns, {MOST_CELLS:,} cells, {MOST_TEXT:,} characters"
-    " in a cell. Rows, columns and cells that have formats alone, and no text, are not counted."
+    " in a cell. Rows, columns and cells that have formats alone, and no text, are not counted,"
+    f" up to {MOST_FORMATTED:,} cells."
     " A pipe or a device is refused."
 )
 

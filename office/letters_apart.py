@@ -27,7 +27,7 @@ from typing import TYPE_CHECKING, Any
 import register_files
 from register_files import Refused
 
-from . import book, inputs, letter_fields, letter_pdf, libraries, turns
+from . import apart, book, inputs, letter_fields, letter_pdf, libraries, turns
 from .book import Page
 from .letter_fields import Cell, Letter
 from .served_copy import PR_SET_PDEATHSIG
@@ -204,6 +204,7 @@ def main() -> None:
     ctypes.CDLL(None).prctl(PR_SET_PDEATHSIG, signal.SIGKILL)
     if os.getppid() != asked["parent"]:
         return
+    apart.end_first()
     for name, most in (("RLIMIT_AS", MOST_MEMORY), ("RLIMIT_FSIZE", MOST_FILE),
                        ("RLIMIT_CORE", 0)):
         resource.setrlimit(getattr(resource, name), (most, most))

@@ -26,7 +26,7 @@ def main() -> None:
     # (the libraries of the layout take long to load, and only this process needs them)
     from . import letter_pdf
 
-    _, data = apart.given()
+    _, data = apart.given(apart.MOST_LAYOUT)
     try:
         found, _ = letter_pdf.laid_out([data.decode("utf-8")], str(pages.FOLDER))
     except ImportError:

@@ -11,7 +11,8 @@ import warnings
 import zipfile
 from collections.abc import Iterable, Iterator
 from types import ModuleType
-from typing import Any
+from typing import IO, Any
+from xml.parsers import expat
 
 import register_files as files
 from register_files import Refused
@@ -19,7 +20,8 @@ from register_files import Refused
 from . import inputs, kinds
 
 SEPARATORS = {",": "commas", ";": "semicolons", "\t": "tabs"}
-MAIN = "{http://schemas.openxmlformats.org/spreadsheetml/2006/main}"
+SPACE = "http://schemas.openxmlformats.org/spreadsheetml/2006/main"
+MAIN, ROW, CELL = f"{{{SPACE}}}", f"{SPACE} row", f"{SPACE} c"
 # the mark of each part in a workbook's list of its parts
 PART = b"PK\x01\x02"
 # a row, the place of a column or None, a sentence, and whether it is an error
@@ -211,10 +213,45 @@ def see_parts(name: str, data: bytes) -> None:
         raise Refused(f"{name} is no workbook: it has over {inputs.MOST_PARTS:,} parts")
     with zipfile.ZipFile(io.BytesIO(data)) as parts:
         size = sum(it.file_size for it in parts.infolist())
-    if size > inputs.MOST_UNPACKED:
-        most = f"a workbook has at most {inputs.MOST_UNPACKED // inputs.MB} MB here"
-        said = f"is too large once it is unpacked, {size // inputs.MB:,} MB: {most}"
-        raise Refused(f"{name} {said}; delete the empty rows below the data")
+        if size > inputs.MOST_UNPACKED:
+            most = f"a workbook has at most {inputs.MOST_UNPACKED // inputs.MB} MB here"
+            said = f"is too large once it is unpacked, {size // inputs.MB:,} MB: {most}"
+            raise Refused(f"{name} {said}; delete the empty rows below the data")
+        cells = Cells(name)
+        for it in parts.infolist():
+            with parts.open(it) as part:
+                cells.count(part)
+
+
+class Cells:
+    """Counts the cells of a workbook, those without a value too, each of which takes memory as it
+    is read.
+    """
+
+    def __init__(self, name: str) -> None:
+        self.name, self.total, self.in_row = name, 0, 0
+
+    def count(self, part: IO[bytes]) -> None:
+        """Counts those of a part, or refuses where they are too many. What is no XML has none."""
+        parser = expat.ParserCreate(namespace_separator=" ")
+        parser.StartElementHandler = self.begin
+        try:
+            parser.ParseFile(part)
+        except expat.ExpatError:
+            return
+
+    def begin(self, tag: str, _: object) -> None:
+        """Sees an element."""
+        if tag == ROW:
+            self.in_row = 0
+        elif tag == CELL:
+            self.total += 1
+            self.in_row += 1
+            if self.total > inputs.MOST_FORMATTED or self.in_row > inputs.MOST_IN_ROW:
+                most = (f"a workbook has at most {inputs.MOST_FORMATTED:,} here, and"
+                        f" {inputs.MOST_IN_ROW:,} in a row, with those that are empty")
+                raise Refused(f"{self.name} has too many cells: {most}; delete the empty rows and"
+                              " columns beside the data")
 
 
 def load(openpyxl: ModuleType, data: bytes) -> Any:

@@ -44,6 +44,7 @@ LINES = {
         ),
         "User": ("admissions", ""),
     },
+    "admissions-office@.service": {"OOMPolicy": ("continue", "and the application goes on")},
     "admissions-drill@.service": {
         "ExecStart": ("/usr/local/lib/admissions/drill %i", "a drill restores the newest copies"),
         "User": ("admissions", ""),

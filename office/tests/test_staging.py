@@ -7,6 +7,7 @@ import pathlib
 import resource
 import sqlite3
 import threading
+import zipfile
 from collections.abc import Callable, Iterator
 from typing import Any
 
@@ -19,10 +20,10 @@ from register_files import Refused
 from served import served
 from staged import COLUMNS, Screens, Seen, csv_of, workbook
 
-from office import apart, check, fields, inputs, sheet, sheet_apart
+from office import apart, check, fields, inputs, sheet, sheet_apart, turns
 from office.model import Register
 from office.senders import Ended
-from office.web import staging_check, staging_commit, staging_form, store
+from office.web import draws_sheet, staging_check, staging_commit, staging_form, store
 from office.web.people import Person
 from office.web.staging_rows import COMMITTED, OPEN, SENDING, WITHDRAWN
 
@@ -289,12 +290,43 @@ def test_a_sheet_that_takes_too_long_ends_alone(monkeypatch: pytest.MonkeyPatch)
 
 
 def test_a_sheet_waits_for_others_and_not_for_ever(monkeypatch: pytest.MonkeyPatch) -> None:
-    """The threads that serve all screens do not all wait for two sheets."""
-    monkeypatch.setattr(apart, "MOST_WAIT", 0.01)
+    """The threads that serve all screens do not all wait for two files, of whatever kind."""
+    monkeypatch.setattr(turns, "SECONDS", 0.01)
     with apart.AT_ONCE, apart.AT_ONCE:
-        with pytest.raises(Refused, match="reading a.csv has not begun, as others take long"):
-            sheet_apart.read("a.csv", csv_of(), None, "")
+        turns.SERVES.set(True)
+        for read in (lambda: sheet_apart.read("a.csv", csv_of(), None, ""),
+                     lambda: draws_sheet.rows_of(b"OAK,1,5\n")):
+            with pytest.raises(turns.Busy, match="other files are being read: try again"):
+                read()
+        turns.SERVES.set(False)
     assert sheet_apart.read("a.csv", csv_of(), None, "").rows
+
+
+def test_a_process_that_reads_a_file_is_ended_first(monkeypatch: pytest.MonkeyPatch) -> None:
+    """Where memory runs out it goes, and not the application; and it has nothing of its own."""
+    monkeypatch.setenv("ADMISSIONS_SECRET", "x")
+    monkeypatch.setattr(apart, "BEGIN", apart.BEGIN.replace(
+        "import importlib; importlib.import_module(name).main()",
+        "import os, resource; from office import apart; apart.given();"
+        " print(open('/proc/self/oom_score_adj').read().strip(),"
+        " resource.getrlimit(resource.RLIMIT_AS)[1], 'ADMISSIONS_SECRET' in os.environ)"))
+    assert apart.done("any", "a try", {}, b"") == b"1000 500000000 False\n"
+
+
+@pytest.mark.parametrize("rows", [1, 3600])
+def test_empty_cells_are_counted_too(rows: int) -> None:
+    """A workbook of some kilobytes has millions of them, and each would take memory."""
+    space = "http://schemas.openxmlformats.org/spreadsheetml/2006/main"
+    row = f"<row>{'<c/>' * (3_600_000 // rows)}</row>"
+    text = f'<worksheet xmlns="{space}"><sheetData>{row * rows}</sheetData></worksheet>'
+    given, out = io.BytesIO(), io.BytesIO()
+    openpyxl.Workbook().save(given)
+    with zipfile.ZipFile(given) as old, zipfile.ZipFile(out, "w", zipfile.ZIP_DEFLATED) as new:
+        for it in old.namelist():
+            new.writestr(it, text if it.endswith("sheet1.xml") else old.read(it))
+    assert len(out.getvalue()) < 100_000
+    with pytest.raises(Refused, match="a.xlsx has too many cells: a workbook has at most"):
+        sheet_apart.read("a.xlsx", out.getvalue(), None, "")
 
 
 def test_a_process_that_is_ended_leaves_no_core(monkeypatch: pytest.MonkeyPatch) -> None:
