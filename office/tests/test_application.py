@@ -1,6 +1,7 @@
 """The application: who may do what, what is on record, and what is sent only if nothing changed."""
 import contextlib
 import json
+import os
 import pathlib
 import sqlite3
 import threading
@@ -236,6 +237,40 @@ def test_without_a_history_nothing_is_sent(office: Site) -> None:
     assert "Nothing was recorded: the history cannot" in found.json["reason"]
     office.parts.history.fd = kept
     assert office.parts.desk.now().places[1].kind == "offered"
+
+
+def test_an_entry_is_on_the_disk_before_its_command_leaves(
+    office: Site, monkeypatch: pytest.MonkeyPatch
+) -> None:
+    """A loss of power after the command was sent leaves its entry."""
+    done: list[object] = []
+    real_sync, real_send = os.fsync, office.parts.desk.sender.send
+
+    def sync(fd: int) -> None:
+        real_sync(fd)
+        done.append(os.fstat(fd).st_ino)
+
+    def send(line: bytes) -> bytes:
+        done.append("sent")
+        return real_send(line)
+
+    monkeypatch.setattr(os, "fsync", sync)
+    monkeypatch.setattr(office.parts.desk.sender, "send", send)
+    file = os.stat(office.parts.history.path).st_ino
+    jane = office.browser("jane")
+    done.clear()
+    assert jane.command(ACCEPT).json == {"done": True}
+    assert done == [file, "sent", file]
+
+
+def test_the_name_of_a_new_history_is_on_the_disk(
+    tmp_path: pathlib.Path, monkeypatch: pytest.MonkeyPatch
+) -> None:
+    """A loss of power does not leave an application whose history is not there."""
+    done: list[int] = []
+    monkeypatch.setattr(os, "fsync", lambda fd: done.append(os.fstat(fd).st_ino))
+    history.History(str(tmp_path / "history.jsonl")).close()
+    assert os.stat(tmp_path).st_ino in done
 
 
 def test_a_program_has_a_token(office: Site) -> None:
@@ -656,15 +691,126 @@ def test_a_session_ends(office: Site) -> None:
     moment = [1e9]
     office.parts.people.clock = lambda: moment[0]
     secret = office.parts.people.begin("jane")
+    # (20 times 1,799 seconds are 20 seconds less than ten hours)
     for _ in range(20):
-        moment[0] += people.IDLE_SECONDS - 1
-        is_in = office.parts.people.of_session(secret) is not None
-        assert is_in == (moment[0] - 1e9 <= people.SESSION_SECONDS)
-        if not is_in:
-            break
+        moment[0] += 1799
+        assert office.parts.people.of_session(secret) is not None
+    moment[0] += 21
+    assert office.parts.people.of_session(secret) is None
     other = office.parts.people.begin("jane")
     moment[0] += people.IDLE_SECONDS + 1
     assert office.parts.people.of_session(other) is None
+
+
+@pytest.mark.parametrize("back", [0, 86_400])
+def test_a_session_ends_by_either_clock(office: Site, back: int) -> None:
+    """That of the machine may stand, or be set back by a day."""
+    wall, steady = [1e9], [0.0]
+    found = office.parts.people
+    found.clock, found.steady = lambda: wall[0], lambda: steady[0]
+    office.add("jane", "officer")
+    secret, idle = found.begin("jane"), found.begin("jane")
+    assert found.of_session(secret) and found.of_session(idle)
+    wall[0] -= back
+    for _ in range(20):
+        steady[0] += 1799
+        assert found.of_session(secret) is not None
+    assert found.of_session(idle) is None
+    steady[0] += 21
+    assert found.of_session(secret) is None
+
+
+def test_a_network_of_ipv6_is_one_address(
+    office: Site, monkeypatch: pytest.MonkeyPatch
+) -> None:
+    """Whoever has one address there has as many as they like."""
+    found = office.parts.people
+    monkeypatch.setattr(found, "is_right", lambda *_: False)
+
+    def said(address: str) -> str:
+        with pytest.raises(Refused) as error:
+            found.sign_in(f"jane{address}", "wrong", address)
+        return str(error.value)
+
+    for at in range(5):
+        assert said(f"2001:db8:0:7:{at}::{at}") == people.WRONG
+    assert said("2001:db8:0:7:ffff::1").startswith("Too many attempts failed.")
+    assert said("2001:db8:0:8::1") == people.WRONG
+    for at in range(10):
+        assert said(f"192.0.2.{at}") == people.WRONG
+
+
+def test_guesses_from_many_addresses_wait_too(
+    office: Site, monkeypatch: pytest.MonkeyPatch
+) -> None:
+    """For one name after a hundred."""
+    found = office.parts.people
+    monkeypatch.setattr(found, "is_right", lambda *_: False)
+    said = []
+    for at in range(102):
+        with pytest.raises(Refused) as error:
+            found.sign_in("jane", "wrong", f"192.0.2.{at}")
+        said.append(str(error.value))
+    assert said[:100] == [people.WRONG] * 100
+    assert said[101].startswith("Too many attempts failed.")
+
+
+def test_nobody_keeps_an_office_out(office: Site) -> None:
+    """Behind one address somebody fails all the time. Who has signed in there before does so again,
+    and waits for failures of their own alone.
+    """
+    jane = office.browser("jane")
+    eve = Browser(office.app)
+    for at in range(7):
+        assert eve.sign_in(f"nobody{at}", "wrong").status_code == 403
+    assert "Too many attempts" in eve.sign_in("jane", office.passwords["jane"]).text
+    assert jane.post("/sign-out").status_code == 303
+    assert jane.sign_in("jane", office.passwords["jane"]).status_code == 303
+    # (it is of no use for another name)
+    office.add("bo", "officer")
+    assert "Too many attempts" in jane.sign_in("bo", office.passwords["bo"]).text
+    said = [jane.sign_in("jane", "wrong").text for _ in range(7)]
+    assert ["Too many attempts" in it for it in said] == [False] * 5 + [True] * 2
+
+
+def test_who_does_not_wait_keeps_nobody_else_waiting() -> None:
+    """Two requests a second for a working day, behind the address of an office."""
+    moment = [0.0]
+    found = people.Attempts(lambda: moment[0])
+    refused = 0
+    for at in range(2 * 8 * 3600):
+        moment[0] += 0.5
+        with contextlib.suppress(Refused):
+            found.is_right(lambda: False, "eve 192.0.2.1", "192.0.2.1")
+        if at % 80 == 40:
+            try:
+                assert found.is_right(lambda: True, f"jane{at} 192.0.2.1", "192.0.2.1")
+            except Refused:
+                refused += 1
+    assert refused <= 1
+
+
+@pytest.mark.parametrize("word", [
+    " " * 12, "a" * 12, "ab ab ab ab ab ab", "Jane.Smith 123", "jane.smith@example.org",
+    "password1234", "Password 2026!", "123456789012", "qwertyuiop[]", "letmein12345",
+])
+def test_what_many_would_guess_is_no_password(office: Site, word: str) -> None:
+    """Blanks, a letter again and again, the own name, and what many have."""
+    with pytest.raises(Refused):
+        people.see_password("jane.smith@example.org", word)
+    people.see_password("bo", "a sea of grey boats")
+
+
+def test_a_sign_out_leaves_nothing_that_was_typed(office: Site) -> None:
+    """Pages keep what was typed for who signs in again, and not for the next one."""
+    answer = office.browser("jane").post("/sign-out")
+    assert answer.headers["Clear-Site-Data"] == '"storage"'
+
+
+def test_an_address_is_led_on_over_tls(office: Site) -> None:
+    """The site before the application ends TLS, and the application names its own address."""
+    answer = office.browser("jane").client.get("/people", base_url="http://admissions.example")
+    assert (answer.status_code, answer.location) == (308, f"{ORIGIN}/people/")
 
 
 def test_a_history_that_was_changed_is_refused(tmp_path: pathlib.Path) -> None:

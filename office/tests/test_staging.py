@@ -294,8 +294,10 @@ def test_a_sheet_waits_for_others_and_not_for_ever(monkeypatch: pytest.MonkeyPat
     monkeypatch.setattr(turns, "SECONDS", 0.01)
     with apart.AT_ONCE, apart.AT_ONCE:
         turns.SERVES.set(True)
-        for read in (lambda: sheet_apart.read("a.csv", csv_of(), None, ""),
-                     lambda: draws_sheet.rows_of(b"OAK,1,5\n")):
+        reads: list[Callable[[], object]] = [
+            lambda: sheet_apart.read("a.csv", csv_of(), None, ""),
+            lambda: draws_sheet.rows_of(b"OAK,1,5\n")]
+        for read in reads:
             with pytest.raises(turns.Busy, match="other files are being read: try again"):
                 read()
         turns.SERVES.set(False)

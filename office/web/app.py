@@ -2,6 +2,7 @@
 import datetime
 import gc
 import pathlib
+from collections.abc import Callable
 from typing import Any
 
 import flask
@@ -78,6 +79,7 @@ def create(config: Config) -> flask.Flask:
         SESSION_COOKIE_NAME="__Host-state" if is_secure else "state", SESSION_COOKIE_PATH="/",
         SESSION_COOKIE_SECURE=is_secure, SESSION_COOKIE_HTTPONLY=True,
         SESSION_COOKIE_SAMESITE="Lax")
+    setattr(app, "wsgi_app", at_origin(app.wsgi_app, config.origin))
     for it in SCREENS:
         app.register_blueprint(it.screen)
     app.context_processor(shared)
@@ -103,6 +105,12 @@ def create(config: Config) -> flask.Flask:
     app.add_url_rule("/<file:name>", "file", file)
     guard.guarded(app)
     return app
+
+
+def at_origin(inner: Callable[..., Any], origin: str) -> Callable[..., Any]:
+    """An application that is found at an address: the site before it ends TLS."""
+    scheme = origin.partition(":")[0]
+    return lambda environ, start: inner({**environ, "wsgi.url_scheme": scheme}, start)
 
 
 class FileName(werkzeug.routing.BaseConverter):

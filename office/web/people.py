@@ -2,6 +2,7 @@
 import collections
 import dataclasses
 import hashlib
+import ipaddress
 import json
 import re
 import secrets
@@ -47,6 +48,11 @@ RIGHTS = {
 }
 OF_SCHOOL = {LISTS}
 LEAST_PASSWORD, MOST_PASSWORD = 12, 200
+# a password has so many different characters, and so many letters beside the own name and what is
+# in the passwords of many
+LEAST_DIFFERENT, LEAST_LETTERS = 4, 4
+COMMON = ("password", "passwort", "passw0rd", "1234567890", "0123456789", "qwertyuiop", "letmein",
+          "welcome", "iloveyou", "changeme", "administrator", "admissions", "abcdefghijkl")
 # a session ends after so many seconds without a request, and after so many at most
 IDLE_SECONDS, SESSION_SECONDS = 30 * 60, 10 * 3600
 # so many attempts that fail are free; each after them doubles the wait, up to the longest
@@ -54,7 +60,18 @@ FREE_ATTEMPTS, LONGEST_WAIT = 5, 300
 HASHES_AT_ONCE = 4
 # an office has one address for all: failures are forgotten so many seconds after the last wait
 FORGOTTEN_AFTER = 3600
+# for a name from all addresses many are free, and they are forgotten after a day
+EVERYWHERE, FREE_EVERYWHERE, FORGOTTEN_EVERYWHERE = "everywhere ", 100, 24 * 3600
 WRONG = "The name or the password is wrong."
+
+
+def network(address: str) -> str:
+    """An address; of IPv6 its first 64 bits, since whoever has one of these has all of them."""
+    try:
+        found = ipaddress.ip_address(address)
+    except ValueError:
+        return address
+    return str(ipaddress.ip_network((found, 64), False)) if found.version == 6 else address
 
 
 class TooMany(Refused):
@@ -74,6 +91,7 @@ class Person:
     role: str
     must_change: bool = False
     form: str = ""
+    is_program: bool = False
 
     def may(self, right: str) -> bool:
         """Whether the role has a right."""
@@ -92,8 +110,10 @@ def digest(secret: str) -> str:
 
 class Attempts:
     """How often somebody tried a password that was wrong. The wait grows with each, for a name from
-    an address and for an address; whether a name exists makes no difference. Those at the same time
-    count as if they failed until they have ended: what is beyond the free ones waits for them.
+    an address, for an address, and after many for a name from everywhere; whether a name exists
+    makes no difference. A browser in which the name has signed in before has a wait of its own, so
+    that nobody else can keep it out. Those at the same time count as if they failed until they have
+    ended: what is beyond the free ones waits for them.
     """
 
     def __init__(self, clock: Callable[[], float] = time.monotonic) -> None:
@@ -119,16 +139,26 @@ class Attempts:
             while not (wait := self.wait(*keys)) and any(map(self.is_full, keys)):
                 self.lock.wait()
             if wait:
+                self.poll(keys[0])
+                wait = self.wait(*keys)
                 raise TooMany(f"Too many attempts failed. Try again in {wait} seconds.")
             self.open.update(keys)
+
+    def poll(self, key: str) -> None:
+        """Begins the wait of somebody anew who does not wait for its end: who asks all the time
+        would otherwise be the next one each time, and nobody else ever.
+        """
+        if self.wait(key):
+            count, _ = self.failed[key]
+            self.failed[key] = count, self.clock() + wait_after(key, count)
 
     def is_full(self, key: str) -> bool:
         """Whether another attempt would be beyond the free ones, if those in progress fail. After a
         wait there is one at a time.
         """
         count, until = self.failed.get(key, (0, 0.0))
-        known = 0 if self.clock() - until > FORGOTTEN_AFTER else count
-        return self.open[key] >= max(1, FREE_ATTEMPTS - known)
+        known = 0 if self.clock() - until > forgotten_after(key) else count
+        return self.open[key] >= max(1, free(key) - known)
 
     def end(self, is_right: bool, *keys: str) -> None:
         """Ends an attempt."""
@@ -152,10 +182,8 @@ class Attempts:
         with self.lock:
             for key in keys:
                 count, until = self.failed.pop(key, (0, 0.0))
-                count = 1 if self.clock() - until > FORGOTTEN_AFTER else count + 1
-                wait = min(LONGEST_WAIT, 2 ** min(count - FREE_ATTEMPTS, 30)) if (
-                    count >= FREE_ATTEMPTS) else 0
-                self.failed[key] = count, self.clock() + wait
+                count = 1 if self.clock() - until > forgotten_after(key) else count + 1
+                self.failed[key] = count, self.clock() + wait_after(key, count)
             for key in list(self.failed)[:-10_000]:
                 del self.failed[key]
 
@@ -165,11 +193,48 @@ class Attempts:
             self.failed.pop(key, None)
 
 
-class People:
-    """The people and programs of a register, and who is signed in."""
+def free(key: str) -> int:
+    """How many attempts are free of a wait."""
+    return FREE_EVERYWHERE if key.startswith(EVERYWHERE) else FREE_ATTEMPTS
 
-    def __init__(self, store: Store, clock: Callable[[], float] = time.time) -> None:
-        self.store, self.clock = store, clock
+
+def forgotten_after(key: str) -> int:
+    """How many seconds after a wait its failures are forgotten."""
+    return FORGOTTEN_EVERYWHERE if key.startswith(EVERYWHERE) else FORGOTTEN_AFTER
+
+
+def wait_after(key: str, count: int) -> int:
+    """The seconds of a wait after so many failures."""
+    beyond = count - free(key)
+    return 0 if beyond < 0 else min(LONGEST_WAIT, 1 << min(beyond, 30))
+
+
+def see_password(name: str, password: str) -> None:
+    """Refuses a password that others may guess."""
+    if not LEAST_PASSWORD <= len(password) <= MOST_PASSWORD:
+        raise Refused(f"a password has {LEAST_PASSWORD} to {MOST_PASSWORD} characters")
+    rest = "".join(password.lower().split())
+    if len(set(rest)) < LEAST_DIFFERENT:
+        raise Refused(f"a password has at least {LEAST_DIFFERENT} different characters")
+    before = rest
+    for it in (name, name.partition("@")[0], *COMMON):
+        rest = rest.replace(it, "")
+    if rest != before and sum(map(str.isalpha, rest)) < LEAST_LETTERS:
+        raise Refused("a password is not one's own name, nor one that many have")
+
+
+class People:
+    """The people and programs of a register, and who is signed in. A session ends by the clock that
+    shows the time, which may be set back, and by one that only goes on.
+    """
+
+    def __init__(
+        self, store: Store, clock: Callable[[], float] = time.time,
+        steady: Callable[[], float] = time.monotonic,
+    ) -> None:
+        self.store, self.clock, self.steady = store, clock, steady
+        # when each session was seen first and last, by the second clock
+        self.seen: dict[str, tuple[float, float]] = {}
         self.attempts = Attempts()
         import argon2
 
@@ -260,8 +325,7 @@ class People:
         if not self.attempts.is_right(
                 lambda: self.is_right(hashed, old), f"{person.name} changes"):
             raise Refused("the present password is wrong")
-        if not LEAST_PASSWORD <= len(new) <= MOST_PASSWORD:
-            raise Refused(f"a password has {LEAST_PASSWORD} to {MOST_PASSWORD} characters")
+        see_password(person.name, new)
         if new == old:
             raise Refused("the new password is the present one")
         with self.store.writing() as db:
@@ -278,8 +342,10 @@ class People:
         except self.wrong:
             return False
 
-    def sign_in(self, name: str, password: str, address: str) -> str:
-        """The secret of a new session, or a refusal that does not say what was wrong."""
+    def sign_in(self, name: str, password: str, address: str, browser: str = "") -> str:
+        """The secret of a new session, or a refusal that does not say what was wrong. `browser` is
+        the one that asks, if this name has signed in there before.
+        """
         row = self.store.row("SELECT * FROM person WHERE name=? AND kind=?", name, PERSON)
 
         def check() -> bool:
@@ -287,7 +353,9 @@ class People:
             is_right = self.is_right(hashed, password[:MOST_PASSWORD])
             return row is not None and is_right and not row["is_locked"]
 
-        if not self.attempts.is_right(check, f"{name[:64]} {address}", address):
+        name, place = name[:64], network(address)
+        keys = (f"{name} {place}", place, EVERYWHERE + name)
+        if not self.attempts.is_right(check, *((f"{name} by {browser}",) if browser else keys)):
             raise Refused(WRONG)
         return self.begin(name)
 
@@ -310,9 +378,14 @@ class People:
     def begin(self, name: str, is_outside: bool = False) -> str:
         """Begins a session. Who was signed in outside needs no password of their own."""
         secret, moment = secrets.token_urlsafe(32), self.clock()
+        steady = self.steady()
+        late = [key for key, (_, last) in list(self.seen.items()) if steady - last > IDLE_SECONDS]
         with self.store.writing() as db:
             db.execute("DELETE FROM session WHERE seen<? OR began<?",
                        (moment - IDLE_SECONDS, moment - SESSION_SECONDS))
+            for it in late:
+                db.execute("DELETE FROM session WHERE digest=?", (it,))
+                self.seen.pop(it, None)
             db.execute("INSERT INTO session VALUES (?, ?, ?, ?, ?, ?)",
                        (digest(secret), name, secrets.token_urlsafe(18), moment, moment,
                         int(is_outside)))
@@ -326,10 +399,13 @@ class People:
             "SELECT * FROM session JOIN person ON person=name WHERE digest=?", digest(secret))
         if not row or row["is_locked"]:
             return None
-        is_late = moment - row["seen"] > IDLE_SECONDS or moment - row["began"] > SESSION_SECONDS
-        if is_late:
+        steady = self.steady()
+        first, last = self.seen.get(row["digest"], (steady, steady))
+        idle = max(moment - row["seen"], steady - last)
+        if idle > IDLE_SECONDS or max(moment - row["began"], steady - first) > SESSION_SECONDS:
             self.end(secret)
             return None
+        self.seen[row["digest"]] = first, steady
         if moment - row["seen"] > 60 or moment < row["seen"]:
             with self.store.writing() as db:
                 db.execute("UPDATE session SET seen=? WHERE digest=?", (moment, digest(secret)))
@@ -347,7 +423,9 @@ class People:
         row = self.store.row("SELECT * FROM person WHERE name=? AND kind=?", name, PROGRAM)
         known = row["hash"] if row else digest("")
         is_right = secrets.compare_digest(known, digest(token))
-        return Person(name, row["role"]) if row and is_right and not row["is_locked"] else None
+        if not row or not is_right or row["is_locked"]:
+            return None
+        return Person(name, row["role"], is_program=True)
 
     def end(self, secret: str) -> None:
         """Ends a session."""

@@ -1,8 +1,10 @@
 """Signing in and out, and a password of one's own."""
+import secrets
 import urllib.parse
 from typing import cast
 
 import flask
+import itsdangerous
 from register_files import Refused
 from werkzeug.wrappers import Response
 
@@ -12,6 +14,8 @@ from .. import authority, failures, guard, people
 from ..guard import PUBLIC, SIGNED_IN, needs, parts, person
 
 screen = flask.Blueprint("signing", __name__)
+# a browser is known for a year, and by the names that signed in last
+BROWSER_SECONDS, MOST_NAMES = 365 * 24 * 3600, 5
 Answer = str | Response | tuple[str, int]
 
 
@@ -37,15 +41,42 @@ def sign_in() -> Answer:
     if request.method == "GET":
         return sign_in_page(to, "", "")
     name = request.form.get("name", "").strip().lower()
+    browser, names = browser_of()
     try:
         secret = parts().people.sign_in(
-            name, request.form.get("password", ""), guard.address())
+            name, request.form.get("password", ""), guard.address(),
+            browser if name in names else "")
     except Refused as error:
         is_wait = isinstance(error, people.TooMany)
         guard.sign_in_failed(failures.WAIT if is_wait else failures.PASSWORD)
         return sign_in_page(to, str(error), name), 403
     parts().history.add(name, "signed in", {})
-    return with_session(flask.redirect(to, 303), secret)
+    answer = with_session(flask.redirect(to, 303), secret)
+    known = [name, *(it for it in names if it != name)][:MOST_NAMES]
+    answer.set_cookie(
+        browser_cookie(), str(signer().dumps([browser or secrets.token_urlsafe(9), known])),
+        max_age=BROWSER_SECONDS, secure=guard.cookie_name() == guard.COOKIE, httponly=True,
+        samesite="Strict", path="/")
+    return answer
+
+
+def browser_cookie() -> str:
+    """The name of the cookie of a browser in which somebody has signed in."""
+    return f"{guard.cookie_name()}-browser"
+
+
+def signer() -> itsdangerous.URLSafeSerializer:
+    """What signs that cookie."""
+    return itsdangerous.URLSafeSerializer(str(flask.current_app.secret_key), "browser")
+
+
+def browser_of() -> tuple[str, list[str]]:
+    """The browser that asks, and who has signed in there."""
+    try:
+        browser, names = signer().loads(flask.request.cookies.get(browser_cookie(), ""))
+    except itsdangerous.BadData:
+        return "", []
+    return str(browser), list(names)
 
 
 def with_session(answer: Response, secret: str) -> Response:
@@ -126,6 +157,8 @@ def sign_out() -> Answer:
     guard.record("signed out")
     answer = flask.redirect(flask.url_for("signing.sign_in"), 303)
     answer.delete_cookie(guard.cookie_name(), path="/", secure=True, samesite="Strict")
+    # (what was typed is kept by pages over the end of a session that is left without this)
+    answer.headers["Clear-Site-Data"] = '"storage"'
     return answer
 
 
