@@ -84,15 +84,17 @@ def test_a_browser_of_nobody_is_led_to_the_form_and_from_there_to_the_page(
     assert (form.status, f'name="to" value="{path}"' in form.body) == (200, True)
 
 
-def test_who_sends_a_form_without_a_session_has_it_again_and_is_told_to_sign_in(
+def test_who_sends_a_form_of_an_ended_session_has_it_again_and_is_told_to_sign_in(
         world: World) -> None:
-    sent = world.ask("/people/", None, "what=lock&name=hal", kind=FORM, options=PAGE)
+    ended = (*PAGE, "--header", f"Cookie: {COOKIE}=ended")
+    sent = world.ask("/people/", None, "what=lock&name=hal", kind=FORM, options=ended)
     assert (sent.status, sent.fields["content-type"]) == (401, "text/html; charset=utf-8")
     assert "Your session has ended, and nothing was done." in sent.body
     assert "<bdi>hal</bdi>" in sent.body
-    (world.room / "long-form").write_text("name=" + "x" * 1_000_000)
-    long = world.ask("/people/", None, f"@{world.room}/long-form", kind=FORM, options=PAGE)
-    assert (long.status, "sign in first" in long.body) == (401, True)
+    (world.room / "long-form").write_text("name=" + "x" * 100_000)
+    for form, options in ((f"@{world.room}/long-form", ended), ("what=lock&name=hal", PAGE)):
+        kept = world.ask("/people/", None, form, kind=FORM, options=options)
+        assert (kept.status, "sign in first" in kept.body) == (401, True)
 
 
 def test_the_internal_query_for_a_session_cannot_be_requested(world: World) -> None:
@@ -115,8 +117,10 @@ def test_of_a_body_whose_length_is_not_announced_no_more_is_read_of_who_is_not_s
         world: World, way: str) -> None:
     body = world.room / "over-a-mebibyte"
     body.write_text(" " * ((1 << 20) + 1))
-    answer = world.ask("/command", None, f"@{body}", options=UNANNOUNCED[way])
-    assert answer.status == 413
+    ended = ("--header", f"Cookie: {COOKIE}=ended")
+    for options, status in (((), 401), (ended, 413)):
+        answer = world.ask("/command", None, f"@{body}", options=(*UNANNOUNCED[way], *options))
+        assert answer.status == status
 
 
 # Who tries a password of somebody, as each from an address that has tried none yet, and what for
@@ -219,10 +223,13 @@ def test_the_session_is_in_a_cookie_that_no_script_and_no_other_site_gets(world:
                      "/dev/null", "--header", f"Origin: https://{NAME}", "--data-urlencode",
                      "name=hal", "--data-urlencode", f"password={world.passwords['hal']}",
                      f"https://{NAME}/sign-in").stdout
-    [cookie] = re.findall("(?im)^set-cookie: (.*?)\r?$", head)
-    name, *flags = cookie.split("; ")
+    session, known = re.findall("(?im)^set-cookie: (.*?)\r?$", head)
+    name, *flags = session.split("; ")
     assert re.fullmatch(f"{COOKIE}=[A-Za-z0-9_-]{{43}}", name)
     assert sorted(flags) == ["HttpOnly", "Path=/", "SameSite=Strict", "Secure"]
+    # (the other one says who has signed in in this browser)
+    name, *more = known.split("; ")
+    assert name.startswith(f"{COOKIE}-browser=") and set(flags) < set(more)
 
 
 def test_who_signs_out_is_signed_in_no_more_even_with_the_cookie(world: World) -> None:

@@ -30,7 +30,7 @@ def rows(browser: Browser, asked: str = "") -> list[list[str]]:
 
 def test_the_last_that_was_done_is_first_with_what_came_of_it(office: Site) -> None:
     """What the register refused is not said to be done, and a name of people is text."""
-    rita = office.browser("rita", "reader")
+    rita = office.browser("rita", "officer")
     shown = [it for it in rows(rita) if it[1].startswith(("accept", "named"))]
     assert [it[:2] for it in shown] == [
         ["bo", "named flags words 2 <b>medical</b> need before"],
@@ -42,7 +42,7 @@ def test_the_last_that_was_done_is_first_with_what_came_of_it(office: Site) -> N
 
 def test_it_is_found_by_person_child_and_day(office: Site) -> None:
     """One of these, or several."""
-    rita = office.browser("rita", "reader")
+    rita = office.browser("rita", "officer")
     assert rows(rita, "?child=1") == [["jane", "accept child 1 school A", "done"]]
     assert [it[0] for it in rows(rita, "?child=3")] == ["bo", "bo"]
     assert rows(rita, "?child=1&who=bo") == [] and rows(rita, "?child=13") == []
@@ -69,7 +69,7 @@ def test_of_many_the_last_are_shown_and_all_are_counted(
     office: Site, monkeypatch: pytest.MonkeyPatch
 ) -> None:
     """By the caption of the table."""
-    rita = office.browser("rita", "reader")
+    rita = office.browser("rita", "officer")
     monkeypatch.setattr(activity, "SHOWN", 2)
     page = Page(rita.get("/activity/?who=bo").text)
     name = next(iter(page.tables))

@@ -70,7 +70,7 @@ RIGHTS = [
     ("GET /draw/1", "head officer reader"),
     ("GET /school/A/waiting", "head officer reader school-A"),
     ("GET /school/B/waiting", "head officer reader"),
-    ("GET /activity/", "head officer reader"),
+    ("GET /activity/", "head officer"),
     ("GET /people/", "head administrator"),
     ("POST /command", "head officer"),
     ("POST /import", "head officer"),

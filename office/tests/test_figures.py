@@ -20,6 +20,7 @@ from files import write
 from served import do_over, served
 
 from office import charts, figure_counts, model, rounds
+from office import figures as published
 from office.run import Refused
 from office.withheld import withheld
 
@@ -460,6 +461,32 @@ def test_what_follows_is_not_withheld() -> None:
     assert not {("offers", "ELM"), ("class", "ELM", 1)} & hidden, hidden
     # (nobody kept a place in a first round, and whoever reads the page knows that)
     assert not any(it[0] == "kept" for it in hidden)
+
+
+def test_a_chart_says_no_more_than_its_table() -> None:
+    """Elm offered 3 places, and 2 children have no place. The lines of the charts are at multiples
+    of 5.
+    """
+    schools = {
+        "ASH": (30, [0, 20, 0], 0, 0),
+        "ELM": (30, [0, 3, 0], 0, 0),
+        "OAK": (40, [0, 35, 0], 0, 0),
+    }
+    found = figures(1, 60, {1: 50, 2: 8, figure_counts.NONE: 2}, schools)
+    hidden = withheld(*figure_counts.published(found))
+    found.hidden.update(hidden)
+    assert ("offers", "ELM") in hidden and ("met", figure_counts.NONE) in hidden
+    _, chart = published.chart_of_schools(found)
+    said = re.findall(r"<text[^>]*>([^<]*)</text>", chart)
+    assert not {"1", "2", "3", "4"} & set(said), said
+    kinds = [("offers", code) for code in schools] + [("applied", code, 1) for code in schools]
+    assert said.count("[c]") == len(hidden.intersection(kinds)) > 0
+    keys: list[int | str] = [1, 2, figure_counts.NONE]
+    chart = published.chart_of_preferences(found, None, keys)
+    said = re.findall(r"<text[^>]*>([^<]*)</text>", chart)
+    assert said.count("[c]") == len(hidden.intersection(("met", it) for it in keys)) > 0
+    # (2 of 60 children)
+    assert "3.3" not in said
 
 
 def figures(

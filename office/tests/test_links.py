@@ -104,9 +104,11 @@ def test_each_role_finds_what_is_its_own(office: Site) -> None:
     reader, officer, head, school = map(paths, ("reader", "officer", "head", "school-A"))
     for path in ("/children/3", "/children/3/why/1/family", "/children/3/why/1/office",
                  "/children/3/what-if/1", "/schools/A", "/schools/B", "/draws/1", "/trials/",
-                 "/activity/", "/lists/vacancies"):
+                 "/lists/vacancies"):
         assert path in reader and path in officer and path in head, path
     assert not {it for it in reader if "/notes" in it or "/files/" in it or "correct" in it}
+    for path in ("/activity/", "/applications/"):
+        assert path not in reader and path in officer, path
     assert "/children/3/notes" in officer and "/people/" in head and "/people/" not in officer
     assert school <= {"/", "/schools/A", "/schools/A/workbook", "/password", "/help"}
 

@@ -2,13 +2,17 @@
 
 What is whose is stated here for each address, and not taken from the application.
 """
+import datetime
 import pathlib
 import threading
+import types
 from collections.abc import Iterator
 from typing import Any
 
 import pytest
 from applications import ORIGIN, ROUND, Browser, Site, office_over, town
+
+from office.web import guard
 
 HEAD, OFFICER, SUPERVISOR, READER = "head", "officer", "supervisor", "reader"
 ADMINISTRATOR, SCHOOL = "administrator", "school-A"
@@ -17,10 +21,10 @@ READS, RECORDS = {HEAD, OFFICER, READER}, {HEAD, OFFICER}
 ALL: set[str] = set(ROLES)
 # who may see the pages of a screen, and who may send what it sends
 SCREENS: dict[str, tuple[set[str], set[str]]] = {
-    "activity": (READS, set()), "answers": (RECORDS, RECORDS),
-    "answers_of": (RECORDS, RECORDS), "applications": (READS, RECORDS),
-    "applications_add": (RECORDS, RECORDS), "applications_commit": (READS, RECORDS),
-    "gazetteer": (READS, RECORDS), "points": (READS, RECORDS),
+    "activity": (RECORDS, set()), "answers": (RECORDS, RECORDS),
+    "answers_of": (RECORDS, RECORDS), "applications": (RECORDS, RECORDS),
+    "applications_add": (RECORDS, RECORDS), "applications_commit": (RECORDS, RECORDS),
+    "gazetteer": (RECORDS, RECORDS), "points": (RECORDS, RECORDS),
     "child": (READS, RECORDS), "draws": (READS, {HEAD}), "figures": (READS, RECORDS),
     "flags": (READS, RECORDS), "help": (ALL, set()), "copies": (READS, {HEAD}),
     "letters": (READS, RECORDS), "letter_templates": (READS, {HEAD}),
@@ -135,6 +139,81 @@ def test_each_role_sees_what_is_its_own(office: Site) -> None:
         for endpoint, method, path in addresses(office):
             if method == "GET" and role in may(endpoint, method):
                 assert asked(browser, method, path) in (200, 204, 302, 303, 404, 409), (role, path)
+
+
+# what a program with a token may ask for
+OF_PROGRAMS = {"register.who", "register.authority", "register.register", "register.draw",
+               "register.read", "register.pairs", "register.waiting", "register.command",
+               "register.rows", "register.question", "signing.signed_in"}
+# what nobody needs a sign-in for
+OPEN = {"signing.sign_in", "signing.go_out", "signing.come_back", "health.health", "health.counts"}
+
+
+def test_a_program_gets_the_answers_of_the_register_alone(office: Site) -> None:
+    """Whatever its role: no page, and nothing of the application's own."""
+    token = office.token("portal", HEAD)
+    client, before, tried = office.app.test_client(), kept(office), 0
+    for endpoint, method, path in addresses(office):
+        if endpoint in OF_PROGRAMS | OPEN:
+            continue
+        found = client.open(path, method=method, base_url=ORIGIN, data=b"{}",
+                            headers={**token, "Origin": ORIGIN}, content_type="application/json")
+        assert found.status_code == 403, (method, path)
+        tried += 1
+    assert tried > 60 and kept(office) == before
+    for path in ("/register", "/draw/1", "/pairs", "/child/1", "/round/1", "/school/A/waiting"):
+        assert client.get(path, base_url=ORIGIN, headers=token).status_code == 200, path
+
+
+def test_files_of_several_children_are_on_record(office: Site) -> None:
+    """Each with who took it; one that is taken again and again does not fill the disk."""
+    jane, alpha = office.browser("jane", OFFICER), office.browser("alpha", SCHOOL)
+    for path in ("/register", "/lists/children/workbook", "/lists/children/csv"):
+        for _ in range(2):
+            assert jane.get(path).status_code == 200, path
+    assert alpha.get("/schools/A/workbook").status_code == 200
+    assert jane.get("/lists/children").status_code == 200
+    found = [(it.who, it.about["of"]) for it in office.parts.history.entries
+             if it.what == "took a file"]
+    assert found == [("jane", "/register"), ("jane", "/lists/children/workbook"),
+                     ("jane", "/lists/children/csv"), ("alpha", "/schools/A/workbook")]
+
+
+def test_heads_of_schools_see_a_round_from_its_day_on_and_audited(
+    office: Site, monkeypatch: pytest.MonkeyPatch
+) -> None:
+    """Families are told first, and of a draw that is right."""
+    alpha, jane = office.browser("alpha", SCHOOL), office.browser("jane", OFFICER)
+    today = ["2025-03-02"]
+
+    class Day(datetime.date):
+        """A calendar of the test."""
+
+        @classmethod
+        def today(cls) -> "Day":
+            """The day of the test."""
+            return cls.fromisoformat(today[0])
+
+    def statuses(browser: Browser) -> set[int]:
+        return {asked(browser, "GET", it) for it in (
+            "/schools/A", "/schools/A/workbook", "/school/A/waiting")}
+
+    with monkeypatch.context() as patch:
+        patch.setattr(guard, "datetime", types.SimpleNamespace(date=Day))
+        assert (statuses(alpha), statuses(jane)) == ({403}, {200})
+        assert "3 March 2025" in alpha.get("/schools/A").text
+        today[0] = "2025-03-03"
+        assert statuses(alpha) == {200}
+    with office.parts.store.writing() as db:
+        db.execute("INSERT INTO draw (id, first, fills, day, state, version)"
+                   " VALUES (7, 2, 1, '2025-04-01', 'sending', 1)")
+        for at, state in enumerate(("begun", "closed", "sending"), 1):
+            db.execute("INSERT INTO draw_step VALUES (7, ?, '2025-04-01T10:00:00+00:00', 'hal', ?,"
+                       " '')", (at, state))
+    assert statuses(alpha) == {403} and "audited" in alpha.get("/schools/A").text
+    with office.parts.store.writing() as db:
+        db.execute("UPDATE draw SET state='opened'")
+    assert statuses(alpha) == {200}
 
 
 def test_the_head_of_a_school_sees_no_other(office: Site) -> None:

@@ -40,7 +40,7 @@ SCREENS = {
         "/answers/of/bo", "/draws/", "/draws/1", "/lists/", "/people/", "/activity/",
         "/password", "/help", "/nothing")),
     "sup": ("supervisor", ("/lots/", "/lots/1")),
-    "rita": ("reader", ("/", "/applications/", "/flags/", "/children/11")),
+    "rita": ("reader", ("/", "/lists/", "/flags/", "/children/11")),
     "alpha": ("school-A", ("/", "/schools/A")),
     "": ("", ("/sign-in",)),
 }

@@ -41,7 +41,7 @@ OBJECTS = 50_000
 MENU = (
     ("season.show", "Season", "read"),
     ("schools.show", "Schools", "read"),
-    ("applications.show", "Applications", "read"),
+    ("applications.show", "Applications", "record"),
     ("child.find", "Children", "read"),
     ("answers.show", "Answers", "record"),
     ("notices.show", "Reminders", "read"),
@@ -55,7 +55,7 @@ MENU = (
     ("register.page", "Register", "read"),
     ("copies.show", "Copies", "read"),
     ("people.show", "People", "people"),
-    ("activity.show", "Activity", "read"),
+    ("activity.show", "Activity", "notes"),
     ("season_end.show", "End of the season", "confirm"),
 )
 

@@ -1,4 +1,5 @@
 """Who asks, and whether they may: sessions, tokens, rights, requests of other sites, headers."""
+import datetime
 import json
 import re
 import sqlite3
@@ -13,10 +14,11 @@ from register_files import FULL, Refused
 from werkzeug.exceptions import HTTPException
 from werkzeug.wrappers import Response as AnyResponse
 
-from office import turns
+from office import days, turns
 
 from . import failures, plain, uploads, wording
 from .desk import Away
+from .draws_terms import SENT
 from .parts import Parts
 from .people import Person
 from .watch import Watch
@@ -42,6 +44,13 @@ HEADERS = {
 }
 # a person who tries what is not theirs is on record once in so many seconds for each address
 REFUSED_SECONDS = 60
+# what a program with a token may ask for, and no page: the register's own answers
+OF_PROGRAMS = {"signing.signed_in", *(f"register.{it}" for it in (
+    "who", "authority", "register", "draw", "read", "pairs", "waiting", "command", "rows",
+    "question"))}
+# files that have more than one child, which are on record: each by a person once an hour
+EXPORTS = ("register.register", "lists.csv", "lists.workbook", "schools.workbook")
+EXPORT_SECONDS = 3600
 # what somebody may do whose password was drawn by somebody else
 BEFORE_CHANGE = ("signing.password", "signing.sign_out", "signing.signed_in")
 # what was typed is kept over the end of a session up to this size, and on these pages never
@@ -135,11 +144,11 @@ def is_foreign() -> bool:
     return found is None or not found.form or request.form.get("form") != found.form
 
 
-class Refusals:
-    """When somebody was refused last, so that a loop does not fill the disk."""
+class Recent:
+    """What somebody did last, so that a loop does not fill the disk."""
 
-    def __init__(self) -> None:
-        self.lock = threading.Lock()
+    def __init__(self, seconds: float) -> None:
+        self.lock, self.seconds = threading.Lock(), seconds
         self.last: dict[tuple[str, str], float] = {}
 
     def is_new(self, name: str, path: str) -> bool:
@@ -148,7 +157,7 @@ class Refusals:
         with self.lock:
             last = self.last.pop((name, path), None)
             self.last[name, path] = moment if last is None else last
-            is_due = last is None or moment - last > REFUSED_SECONDS
+            is_due = last is None or moment - last > self.seconds
             if is_due:
                 self.last[name, path] = moment
             for key in list(self.last)[:-1000]:
@@ -214,7 +223,8 @@ def see() -> AnyResponse | None:
     parts().hear()
     if found.must_change and request.endpoint not in BEFORE_CHANGE:
         return flask.redirect(flask.url_for("signing.password"))
-    if right != SIGNED_IN and not found.may(right):
+    is_page = found.is_program and request.endpoint not in OF_PROGRAMS
+    if is_page or right != SIGNED_IN and not found.may(right):
         refused(found)
     return None
 
@@ -233,20 +243,41 @@ def refused(found: Person) -> None:
     """Refuses a person what is not theirs, and records it."""
     request = flask.request
     path = f"{request.method} {request.path[:80]}"
-    refusals: Refusals = flask.current_app.extensions["refusals"]
+    refusals: Recent = flask.current_app.extensions["refusals"]
     if refusals.is_new(found.name, path):
         try:
             parts().history.add(found.name, "refused", {"asked": path, "role": found.role})
         except Refused:
             pass
-    flask.abort(403, f"the role {found.role} may not do this")
+    who = "a program" if found.is_program else f"the role {found.role}"
+    flask.abort(403, f"{who} may not do this")
+
+
+def record_export(response: flask.Response) -> flask.Response:
+    """Records, before it is sent, that somebody takes a file of more than one child."""
+    request, recent = flask.request, cast(Recent, flask.current_app.extensions["exports"])
+    if request.endpoint in EXPORTS and response.status_code == 200 and (
+            recent.is_new(person().name, request.path)):
+        record("took a file", of=request.path)
+    return response
 
 
 def see_own_school(code: str) -> None:
-    """Refuses the head of a school another school than theirs."""
+    """Refuses the head of a school another school than theirs; and all lists from when a draw is
+    sent until it is audited, and until its day.
+    """
     found = person()
-    if found.school is not None and found.school != code:
+    if found.school is None:
+        return
+    if found.school != code:
         refused(found)
+    draw = parts().draws.present()
+    if draw is not None and draw.state in SENT:
+        flask.abort(403, "the lists are shown again once the draw is audited")
+    today = datetime.date.today()
+    if to_come := [it.day for it in parts().desk.register().draws if it.day > today]:
+        day = days.in_words(max(to_come))
+        flask.abort(403, f"the lists are shown again on {day}, the day of the offers")
 
 
 def headers(response: flask.Response) -> flask.Response:
@@ -308,10 +339,12 @@ def on_http(error: HTTPException) -> AnyResponse | tuple[str, int]:
 
 def guarded(app: flask.Flask) -> None:
     """Guards an application. Each of its views says which right it needs."""
-    app.extensions["refusals"] = Refusals()
+    app.extensions["refusals"] = Recent(REFUSED_SECONDS)
+    app.extensions["exports"] = Recent(EXPORT_SECONDS)
     app.extensions["watch"] = Watch()
     app.before_request(see)
     app.after_request(headers)
+    app.after_request(record_export)
     app.teardown_request(leave)
     app.register_error_handler(Refused, on_refused)
     app.register_error_handler(OSError, on_files)

@@ -27,7 +27,6 @@ ENDS = ("pdf", "png", "jpg", "jpeg", "gif", "tif", "tiff", "heic", "webp", "docx
 ADDED, STRUCK = "added a note", "struck out a note"
 FILED, REMOVED, READ_FILE = "added a file", "removed a file", "read a file"
 PRINTED = "printed what is held of a child"
-ON_RECORD = (ADDED, STRUCK, FILED, REMOVED, READ_FILE, PRINTED)
 
 
 class Unfit(Refused):

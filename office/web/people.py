@@ -26,7 +26,8 @@ ROLES = {
     HEAD: "reads and records everything, holds draws, restores, and says who may sign in",
     OFFICER: "reads and records everything, and confirms the draws of somebody else",
     SUPERVISOR: "draws the lots, and nothing else",
-    READER: "reads the register, but no notes and files of children, and records nothing",
+    READER: "reads the register, and nothing that it does not have: no applications before they are"
+            " stored, notes, files and history; and records nothing",
     ADMINISTRATOR: "says who may sign in, and sees no child",
 }
 # what a role may do

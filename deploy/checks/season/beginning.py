@@ -107,8 +107,8 @@ def arrivals(office: Office) -> None:
         HAL: "Season Schools Applications Children Answers Reminders Letters Draws Trials Lists"
              " Figures Flags Register Copies Activity End of the season",
         SUP: "Lots", ABBEY: "",
-        RITA: "Season Schools Applications Children Reminders Letters Draws Trials Lists Figures"
-              " Flags Register Copies Activity"}
+        RITA: "Season Schools Children Reminders Letters Draws Trials Lists Figures Flags Register"
+              " Copies"}
     for who, first in firsts.items():
         hands = office.arrive(who)
         sign_in(hands, office.drawn[who])

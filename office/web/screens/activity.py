@@ -6,10 +6,9 @@ import flask
 
 from office import texts
 
-from ..guard import needs, parts, person
+from ..guard import needs, parts
 from ..history import ANSWER, RESTORED, SENDS, SETTLED, Entry
-from ..notes import ON_RECORD
-from ..people import NOTES, READ
+from ..people import NOTES
 from ..records import ends_of, first_by, row_in
 
 screen = flask.Blueprint("activity", __name__, url_prefix="/activity")
@@ -37,18 +36,12 @@ def is_meant(it: Entry, who: str, day: str, child: str) -> bool:
         not day or day_of(it) == day) and (not child or is_of(it, child))
 
 
-def seen() -> list[Entry]:
-    """The entries that the person may see: those on notes and files are for who may see these."""
-    is_all = person().may(NOTES)
-    return [it for it in parts().history.entries if is_all or it.what not in ON_RECORD]
-
-
 @screen.get("/")
-@needs(READ)
+@needs(NOTES)
 def show() -> str:
     """The entries, the last first."""
     who, day, child = (flask.request.args.get(it, "").strip() for it in ("who", "day", "child"))
-    entries = seen()
+    entries = list(parts().history.entries)
     came = ends_of(entries)
     found = [it for it in reversed(entries) if is_meant(it, who, day, child)]
     rows = [(it, in_words(it), outcome(came.get(it.number)) if it.what == SENDS else "")

@@ -13,7 +13,7 @@ from office.check import ERROR
 
 from .. import staging_files, staging_page, staging_points, staging_sent, staging_tools
 from ..guard import needs, person
-from ..people import READ, RECORD
+from ..people import RECORD
 from ..staging import Meanwhile
 from ..staging_check import Table
 from ..staging_rows import OPEN, WITHDRAWN
@@ -78,7 +78,7 @@ def to_table(**more: Any) -> Response:
 
 
 @screen.get("/")
-@needs(READ)
+@needs(RECORD)
 def show() -> Answer:
     """The table, and what was done last."""
     args, staging = flask.request.args, tools().staging
@@ -194,7 +194,7 @@ def change_file(number: int) -> Answer:
 
 
 @screen.get("/withdrawn")
-@needs(READ)
+@needs(RECORD)
 def withdrawn() -> Answer:
     """The rows that were withdrawn."""
     rows = tools().staging.rows(WITHDRAWN)
@@ -216,7 +216,7 @@ def bring_back() -> Answer:
 
 
 @screen.get("/duplicates")
-@needs(READ)
+@needs(RECORD)
 def duplicates() -> Answer:
     """Rows that may be of one child, side by side."""
     return pairs_page()

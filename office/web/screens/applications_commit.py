@@ -7,7 +7,7 @@ from werkzeug.wrappers import Response
 
 from .. import staging_page
 from ..guard import needs, parts, person
-from ..people import READ, RECORD
+from ..people import RECORD
 from ..staging_commit import Commit
 from ..staging_rows import WITHDRAWN, Staged
 from ..staging_tools import tools
@@ -38,7 +38,7 @@ def names_of(found: Commit) -> list[tuple[str, int]]:
 
 
 @screen.get("/")
-@needs(READ)
+@needs(RECORD)
 def show() -> Answer:
     """What would be stored."""
     return page()

@@ -10,7 +10,7 @@ from .. import gazetteer_rows, points, staging_files
 from ..gazetteer import Given
 from ..gazetteer_rows import Columns
 from ..guard import needs, person
-from ..people import READ, RECORD
+from ..people import RECORD
 from ..points import Metres
 from ..staging_tools import number_in, register_now, tools
 from ..uploads import LARGE
@@ -28,7 +28,7 @@ UNITS = {"metres": "east and north in metres, on the British National Grid",
 
 
 @screen.get("/")
-@needs(READ)
+@needs(RECORD)
 def show() -> Answer:
     """What is there, and a file whose columns are to be chosen."""
     done = flask.request.args.get("done", "")

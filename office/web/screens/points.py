@@ -11,7 +11,7 @@ from office import texts
 
 from .. import points, staging_points
 from ..guard import needs, person
-from ..people import READ, RECORD
+from ..people import RECORD
 from ..points import POSTCODE, PROPERTY, TYPED
 from ..staging import Meanwhile
 from ..staging_page import PAGE
@@ -27,7 +27,7 @@ FIELDS = {PROPERTY: "property-column", POSTCODE: "postcode-column"}
 
 
 @screen.get("/")
-@needs(READ)
+@needs(RECORD)
 def show() -> Answer:
     """The rows to see to, and what was done last."""
     args = flask.request.args

@@ -1,0 +1,57 @@
+"""How long a file may be that a browser sends, in bytes: the numbers are stated here, and not taken
+from the application.
+"""
+import io
+import pathlib
+from collections.abc import Iterator
+from typing import Any
+
+import pytest
+from applications import ORIGIN, Browser, Site, office_over, town
+from pages import Page
+
+
+@pytest.fixture(name="office", scope="module")
+def office_fixture(tmp_path_factory: pytest.TempPathFactory) -> Iterator[Site]:
+    """The application over a small register."""
+    folder: pathlib.Path = tmp_path_factory.mktemp("uploads")
+    with office_over(folder, town()) as found:
+        yield found
+
+
+@pytest.fixture(name="jane", scope="module")
+def jane_fixture(office: Site) -> Browser:
+    """An officer."""
+    return office.browser("jane", "officer")
+
+
+@pytest.mark.parametrize("path, field, more", [
+    ("/answers/several", "sheet", {}), ("/schools/new/sheet", "sheet", {}),
+    ("/letters/addresses/", "file", {"way": "whole"}),
+])
+def test_a_sheet_has_at_most_eight_million_bytes(
+    jane: Browser, path: str, field: str, more: dict[str, str]
+) -> None:
+    """One byte more is refused."""
+    for size, is_taken in ((8_000_001, False), (8_000_000, True)):
+        given: dict[str, Any] = {field: (io.BytesIO(b"," * size), "a.csv"), **more}
+        text = Page(jane.post(path, given).text).text
+        assert ("at most 8 MB" in text) is not is_taken, (path, size)
+
+
+def test_a_file_of_a_child_has_at_most_five_million_bytes(jane: Browser) -> None:
+    """One byte more is refused."""
+    for size, status in ((5_000_001, 422), (5_000_000, 303)):
+        given = {"file": (io.BytesIO(b"a" * size), "a.pdf")}
+        assert jane.post("/children/1/files", given).status_code == status, size
+
+
+@pytest.mark.parametrize("path, most", [
+    ("/applications/gazetteer/file", (64 << 20) + 65_536), ("/answers/several", 16 << 20)])
+def test_a_body_that_is_too_long_is_refused(jane: Browser, path: str, most: int) -> None:
+    """A gazetteer has at most 64 MiB, with what its form has beside it; all others 16."""
+    for length, is_too_much in ((most + 1, True), (most, False)):
+        found = jane.client.post(
+            path, base_url=ORIGIN, headers={"Origin": ORIGIN}, data=bytes(length),
+            content_type="multipart/form-data; boundary=x")
+        assert (found.status_code == 413) is is_too_much, (path, length)
