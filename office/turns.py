@@ -35,14 +35,25 @@ class Turn:
         self.lock, self.said = lock, f"{said}: try again in a minute"
 
     def __enter__(self) -> None:
-        if not self.lock.acquire(False):
+        self.acquire()
+
+    def acquire(self, blocking: bool = True) -> bool:
+        """Takes the turn, at once or after a wait; whether it was taken."""
+        if self.lock.acquire(False):
+            return True
+        if blocking:
             self.wait()
+        return blocking
+
+    def release(self) -> None:
+        """Gives it back."""
+        self.lock.release()
 
     def __exit__(
         self, kind: type[BaseException] | None, error: BaseException | None,
         trace: TracebackType | None,
     ) -> None:
-        self.lock.release()
+        self.release()
 
     def wait(self) -> None:
         """Waits for the turn, or refuses."""

@@ -233,13 +233,15 @@ def test_the_machines_own_part_needs_no_site() -> None:
     retired.
     """
     text = re.sub(r"(?m)^ *#.*", "", sites.machine_text(MODEL, MORE, HERE))
-    own = set(re.findall(r"(?m)^map .*\$(\w+) \{$", text))
+    own = set(re.findall(r"(?m)^map .*\$(\w+) \{$|\(\?<(\w+)>", text))
+    own = {name for names in own for name in names}
     others = set(re.findall(r"\$(\w+)", text)) - own
     assert sorted(others) == [
         "binary_remote_addr",
         "content_length",
         "host",
         "http_accept",
+        "http_cookie",
         "http_transfer_encoding",
         "request_method",
         "request_uri",

@@ -19,11 +19,12 @@ from conftest import ROOT, apply, child, make, school
 from register_files import Refused
 from served import served
 from staged import COLUMNS, Screens, Seen, csv_of, workbook
+from werkzeug.datastructures import FileStorage
 
 from office import apart, check, fields, inputs, sheet, sheet_apart, turns
 from office.model import Register
 from office.senders import Ended
-from office.web import draws_sheet, staging_check, staging_commit, staging_form, store
+from office.web import draws_sheet, staging_check, staging_commit, staging_form, store, uploads
 from office.web.people import Person
 from office.web.staging_rows import COMMITTED, OPEN, SENDING, WITHDRAWN
 
@@ -296,7 +297,8 @@ def test_a_sheet_waits_for_others_and_not_for_ever(monkeypatch: pytest.MonkeyPat
         turns.SERVES.set(True)
         reads: list[Callable[[], object]] = [
             lambda: sheet_apart.read("a.csv", csv_of(), None, ""),
-            lambda: draws_sheet.rows_of(b"OAK,1,5\n")]
+            lambda: draws_sheet.rows_of(b"OAK,1,5\n"),
+            lambda: uploads.register_of(FileStorage(io.BytesIO(uploads.REGISTER), "a.db"))]
         for read in reads:
             with pytest.raises(turns.Busy, match="other files are being read: try again"):
                 read()

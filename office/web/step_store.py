@@ -10,6 +10,8 @@ from typing import Generic, Protocol, TypeVar
 
 from register_files import Refused
 
+from office import turns
+
 from .desk import local
 from .history import History, now
 from .people import Person
@@ -61,7 +63,7 @@ class StepStore(Generic[One]):
 
     def __init__(self, store: Store, record: History) -> None:
         self.store, self.history = store, record
-        self.lock = threading.RLock()
+        self.lock = turns.Turn(threading.RLock(), f"a step of a {self.table} is under way")
 
     def get(self, number: int) -> One:
         """One by its number, or a refusal."""

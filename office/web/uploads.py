@@ -12,7 +12,7 @@ from werkzeug.datastructures import FileStorage
 from werkzeug.exceptions import RequestEntityTooLarge
 from werkzeug.formparser import FormDataParser
 
-from office import inputs, kinds, model, sheet_apart
+from office import apart, inputs, kinds, model, sheet_apart
 from office.model import Register
 from office.sheet import Row
 
@@ -115,7 +115,7 @@ def register_of(given: FileStorage | None, called: str = NAME) -> Register:
         raise Refused(f"{called} is no copy of a register: it is {what}")
     if len(data) > inputs.MOST_REGISTER_BYTES:
         raise Refused(f"{called} is larger than any register")
-    with tempfile.TemporaryDirectory(prefix="admissions-") as room:
+    with apart.AT_ONCE, tempfile.TemporaryDirectory(prefix="admissions-") as room:
         path = pathlib.Path(room) / "copy.db"
         path.touch(0o600)
         path.write_bytes(data)
