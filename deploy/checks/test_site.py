@@ -261,9 +261,10 @@ def who_fixture(request: pytest.FixtureRequest) -> str:
     return name
 
 
-def test_the_office_gets_the_page(world: World, who: str) -> None:
+def test_people_of_the_office_get_the_page_and_a_program_does_not(world: World, who: str) -> None:
     page = world.ask("/records", who)
-    assert (page.status, "School admissions" in page.body) == (200, True)
+    wanted = (403, False) if who == "robot" else (200, True)
+    assert (page.status, "School admissions" in page.body) == wanted
 
 
 def test_the_page_may_load_nothing_from_elsewhere_and_run_no_script_but_its_own(

@@ -120,7 +120,9 @@ def test_wrong_passwords_are_counted_and_named(office: Site, taken: Taken) -> No
 
 
 def test_wrong_tokens_are_counted_once(office: Site, taken: Taken) -> None:
-    """The site asks who is signed in before it passes on what changes something."""
+    """The site asks who is signed in before it passes on what changes something, and a wrong token
+    ends there.
+    """
     office.parts.failures = failed(taken)
     right = office.token("portal", "officer")
     given = base64.b64encode(b"portal:no token of it").decode()
@@ -129,9 +131,9 @@ def test_wrong_tokens_are_counted_once(office: Site, taken: Taken) -> None:
     for path, status in (("/signed-in", 401), ("/child/1", 401), ("/no-page", 404)):
         assert client.get(path, base_url=ORIGIN, headers=wrong).status_code == status
     assert client.get("/child/1", base_url=ORIGIN, headers=right).status_code == 200
-    assert counts(office)["token"] == 2
+    assert counts(office)["token"] == 3
     assert [it["MESSAGE"] for it in taken.lines] == [
-        "secondary-2025: a sign-in failed from 192.0.2.9 (token)"] * 2
+        "secondary-2025: a sign-in failed from 192.0.2.9 (token)"] * 3
 
 
 def test_the_application_sends_to_the_journal_of_the_machine(tmp_path: pathlib.Path) -> None:

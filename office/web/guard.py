@@ -49,7 +49,8 @@ OF_PROGRAMS = {"signing.signed_in", *(f"register.{it}" for it in (
     "who", "authority", "register", "draw", "read", "pairs", "waiting", "command", "rows",
     "question"))}
 # files that have more than one child, which are on record: each by a person once an hour
-EXPORTS = ("register.register", "lists.csv", "lists.workbook", "schools.workbook")
+EXPORTS = ("register.register", "lists.csv", "lists.workbook", "schools.workbook",
+           "trials.workbook", "trials.pdf")
 EXPORT_SECONDS = 3600
 # what somebody may do whose password was drawn by somebody else
 BEFORE_CHANGE = ("signing.password", "signing.sign_out", "signing.signed_in")
@@ -111,8 +112,8 @@ def who_asks() -> Person | None:
     if request.authorization and request.authorization.type == "basic":
         name, token = request.authorization.username, request.authorization.password
         found = people.of_token(name or "", token or "")
-        # (the site asks who is signed in before it passes a request on)
-        if found is None and request.endpoint != "signing.signed_in":
+        # (the site asks who is signed in, and passes nothing on of a token that is wrong)
+        if found is None:
             sign_in_failed(failures.TOKEN)
         return found
     return None
