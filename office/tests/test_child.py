@@ -289,23 +289,43 @@ def test_a_correction_shows_what_it_changes(office: Site) -> None:
     assert "East, in metres 7 → 50000" in rows[0][2]
 
 
-def test_a_correction_does_not_undo_another_unseen(office: Site) -> None:
-    """A form that was opened before a colleague's correction has the data from before it: that it
-    would bring them back is said, with who recorded what is there now.
+@pytest.mark.parametrize("is_wrong", [False, True])
+def test_a_correction_keeps_what_a_colleague_corrected(office: Site, is_wrong: bool) -> None:
+    """A form that was opened before it has the data from before it, also one that came back with an
+    error: only what this person changed is new, and who recorded the other is said.
     """
-    jane, bo = office.browser("jane"), office.browser("bo")
-    page = Page(jane.get("/children/1/correct").text)
-    moved = {**child(1, "Ada Abel", 900), "cmd": "amend", "present": ""}
+    jane, bo, path = office.browser("jane"), office.browser("bo"), "/children/1/correct"
+    page = Page(jane.get(path).text)
+    moved = {**child(1, "Ada Abel", 900), "cmd": "amend", "present": "", "siblings": ["B"]}
     assert bo.command(moved).json == {"done": True}
-    asked = press(jane, "/children/1/correct", page, "Compare with the register", name="Ada Abell")
+    if is_wrong:
+        found = press(jane, path, page, "Compare with the register", name="Ada Abell", present="-")
+        assert found.status_code == 400
+        page = Page(found.text)
+    asked = press(jane, path, page, "Compare with the register", name="Ada Abell", present="PRIM7")
     question = Page(asked.text)
     assert asked.status_code == 409 and "Child 1: bo recorded a correction at" in question.said()
-    assert [it[0] for it in question.tables["changes"][1:]] == ["Name", "North, in metres"]
-    # (who has read it, and goes on, may)
-    done = press(jane, "/children/1/correct", question, "Correct the data of Ada Abel")
+    assert question.tables["changes"][1:] == [
+        ["Name", "Ada Abel", "Ada Abell"], ["Present school", "none", "PRIM7"]]
+    assert bo.command({**moved, "looked_after": True}).json == {"done": True}
+    late = press(jane, path, question, "Correct the data of Ada Abel")
+    assert late.status_code == 409
+    done = press(jane, path, Page(late.text), "Correct the data of Ada Abel")
     assert done.status_code == 303
     found = office.parts.desk.now().children[1]
-    assert (found.name, found.north) == ("Ada Abell", 100)
+    assert (found.name, found.north, found.siblings, found.present, found.looked_after) == (
+        "Ada Abell", 900, ("B",), "PRIM7", True)
+
+
+def test_the_point_of_a_home_is_not_put_together_from_two(office: Site) -> None:
+    """Who changed one number of it sees both as new beside a colleague's point."""
+    jane, path = office.browser("jane"), "/children/1/correct"
+    page = Page(jane.get(path).text)
+    moved = {**child(1, "Ada Abel", 900), "cmd": "amend", "present": "", "east": 800}
+    assert office.browser("bo").command(moved).json == {"done": True}
+    question = Page(press(jane, path, page, "Compare with the register", north="110").text)
+    assert question.tables["changes"][1:] == [
+        ["East, in metres", "800", "0"], ["North, in metres", "900", "110"]]
 
 
 def test_both_forms_say_who_is_looked_after(office: Site) -> None:

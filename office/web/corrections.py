@@ -1,5 +1,6 @@
 """A correction of a child's data: what is typed in a form, and how it differs from the register."""
 import dataclasses
+import json
 from collections.abc import Iterator, Mapping
 from typing import Any
 
@@ -7,6 +8,7 @@ from office import fields, persons, risks, rules, texts
 from office.model import Child, Register, School
 
 from .children import FIELDS
+from .staging_files import POINT
 from .wording import label
 
 Command = dict[str, Any]
@@ -37,6 +39,27 @@ def read(register: Register, number: int, cells: Cells) -> tuple[Command, dict[s
         else:
             command[it.name] = persons.value_of(it.kind, found.text)
     return command, wrong
+
+
+def seen_in(seen: str) -> Cells:
+    """The data that somebody saw, as a form has them; nothing of what is no such data."""
+    try:
+        found = json.loads(seen)
+    except ValueError:
+        return {}
+    return {name: texts.cell_of(it) for name, it in found.items()} if isinstance(
+        found, dict) else {}
+
+
+def merged(child: Child, seen: str, cells: Cells) -> Cells:
+    """The present data with what was typed otherwise than it was seen: what a colleague has
+    corrected meanwhile stays. The two numbers of a home's point are one.
+    """
+    was = seen_in(seen)
+    typed = {it for it in cells if cells[it] != was.get(it)}
+    if typed & set(POINT):
+        typed |= set(POINT)
+    return {**cells_of(child), **{it: cells[it] for it in typed}}
 
 
 def changes(child: Child, command: Command) -> list[tuple[str, str, str]]:

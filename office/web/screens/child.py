@@ -253,14 +253,18 @@ def do_correct(number: int) -> Answer:
         said = "Nothing was recorded: see the fields that are marked." if wrong else ""
         return form_page(number, cells, wrong, said, 400 if wrong else 200)
     seen = Seen(flask.request.form.get("seen", ""))
-    # (a form that was opened before another correction has the data from before it)
-    said = parts().desk.changed(register, command, seen)
+    said = ""
     if what == "send":
         result = parts().desk.send(
             person(), command, seen, point=source_of(register, number, cells))
         if result.is_done:
             return flask.redirect(flask.url_for("child.show", number=number, recorded="yes"), 303)
         said, register = result.said, child_in(number)
+    # (a form that was opened before another correction has the data from before it)
+    if other := parts().desk.changed(register, command, seen):
+        said = f"{other} Nothing was recorded now: below only what you changed is new."
+        cells = corrections.merged(register.children[number], seen.text, cells)
+        command, _ = corrections.read(register, number, cells)
     return compare_page(register, number, cells, command, said)
 
 
