@@ -106,7 +106,7 @@ def test_each_action_is_asked_by_name(
     assert sent(office) == [command]
 
 
-def test_a_withdrawal_needs_a_reminder(office: Site) -> None:
+def test_a_withdrawal_needs_a_reminder(office: Site, monkeypatch: pytest.MonkeyPatch) -> None:
     """And a question of it is no page where there is none."""
     jane = office.browser("jane")
     found = jane.get("/children/3/lapse")
@@ -117,10 +117,17 @@ def test_a_withdrawal_needs_a_reminder(office: Site) -> None:
     assert page.by_id["deadline"] == (
         "The offer may be withdrawn from 2 April 2025 on, if it is not answered.")
     path = "/children/3/lapse?day=2 April 2025"
+    early = Page(jane.get(path).text)
+    assert early.error("day") == "today or an earlier day" and "confirm" not in early.fields
+    monkeypatch.setattr(screen, "today", lambda: datetime.date(2025, 4, 2))
     page = Page(jane.get(path).text)
     assert "<b>Cole" not in page.text and "&lt;b&gt;Cole" in page.text
     assert page.by_id["on"] == "Day: Wednesday, 2 April 2025"
-    assert "The day is 15 days after today." in page.text and "may answer" not in page.text
+    assert "may answer" not in page.text
+    monkeypatch.setattr(screen, "today", lambda: TODAY)
+    late = press(jane, path, page, "Withdraw the offer of Beta from Cyd <b>Cole</b>")
+    assert late.status_code == 400 and 3 in office.parts.desk.now().places
+    monkeypatch.setattr(screen, "today", lambda: datetime.date(2025, 4, 2))
     found = press(jane, path, page, "Withdraw the offer of Beta from Cyd <b>Cole</b>")
     assert found.status_code == 303 and 3 not in office.parts.desk.now().places
     # (as the button and the letters call it)
@@ -128,7 +135,7 @@ def test_a_withdrawal_needs_a_reminder(office: Site) -> None:
 
 
 def test_the_last_day_of_an_answer_is_said_before_a_reminder_and_a_withdrawal(
-    office: Site,
+    office: Site, monkeypatch: pytest.MonkeyPatch,
 ) -> None:
     """On that day the register accepts them, and the family may still answer."""
     jane = office.browser("jane")
@@ -139,6 +146,7 @@ def test_the_last_day_of_an_answer_is_said_before_a_reminder_and_a_withdrawal(
         assert "may answer" not in jane.get(f"/children/3/{name}?day={after}").text
         if name == "remind":
             act(jane, "/children/3/remind", "Record the reminder of Cyd <b>Cole</b> about Beta")
+            monkeypatch.setattr(screen, "today", lambda: datetime.date(2025, 4, 2))
     found = act(jane, "/children/3/lapse?day=1 April 2025",
                 "Withdraw the offer of Beta from Cyd <b>Cole</b>")
     assert found.status_code == 303 and 3 not in office.parts.desk.now().places
@@ -166,8 +174,8 @@ def test_a_day_is_typed_and_warned_of(office: Site) -> None:
         page = Page(found.text)
         assert found.status_code == 400 and "17 March 2025" in page.error("day")
         assert page.fields["day"]["value"] == text and "confirm" not in page.fields
-    page = Page(jane.get("/children/3/remind?day=3/3/2026").text)
-    assert "The day is outside the season" in page.text and "350 days after today" in page.text
+    page = Page(jane.get("/children/3/remind?day=1/3/2024").text)
+    assert "The day is outside the season" in page.text and "382 days before today" in page.text
     page = Page(jane.get("/children/3/remind").text)
     assert page.by_id["on"] == "Day: Tuesday, 18 March 2025" and "warning" not in page.text
 
@@ -176,12 +184,13 @@ def test_a_day_is_typed_and_warned_of(office: Site) -> None:
     ("remind", "Record the reminder of Cyd <b>Cole</b> about Beta"),
     ("lapse", "Withdraw the offer of Beta from Cyd <b>Cole</b>")))
 def test_a_day_that_was_typed_is_shown_before_it_is_sent(
-    office: Site, name: str, button: str,
+    office: Site, name: str, button: str, monkeypatch: pytest.MonkeyPatch,
 ) -> None:
     """Neither the day that was shown before it nor the one in the field goes out unseen."""
     jane = office.browser("jane")
     if name == "lapse":
         act(jane, "/children/3/remind", "Record the reminder of Cyd <b>Cole</b> about Beta")
+    monkeypatch.setattr(screen, "today", lambda: datetime.date(2025, 4, 3))
     before, path = sent(office), f"/children/3/{name}"
     page = Page(jane.get(f"{path}?day=1 April 2025").text)
     assert page.by_id["on"] == "Day: Tuesday, 1 April 2025"

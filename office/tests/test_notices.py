@@ -19,7 +19,7 @@ from letter_site import (
 from register_files import Refused
 
 from office.senders import Ended
-from office.web import letters_rows, notices
+from office.web import notices
 from office.web.answers import Meant
 from office.web.notice_marks import Marks
 from office.web.people import Person
@@ -49,10 +49,11 @@ def shown(browser: Browser, kind: str, day: str, children: list[int]) -> Any:
         "day": day, "ticked": "yes", "child": [str(it) for it in children]})
 
 
-def confirmed(browser: Browser, kind: str, page: Any) -> Any:
-    """The answer to its button."""
+def confirmed(browser: Browser, kind: str, page: Any, read: str = "yes") -> Any:
+    """The answer to its button, with the tick at what looks wrong."""
     return browser.post(f"/notices/{kind}", {
         "day": hidden(page, "day"), "digest": hidden(page, "digest"), "key": hidden(page, "key"),
+        "ticked": hidden(page, "ticked"), "read": read,
         "child": re.findall(r'name="child" value="([0-9]+)"', page.text)})
 
 
@@ -154,18 +155,6 @@ def test_letters_that_nobody_can_send_are_not_made_by_themselves(office: Site) -
     assert 'id="letters" href="/letters/whom?whom=row&amp;value=1"' in page
 
 
-def test_the_letters_of_a_row_are_not_dated_before_it(
-    office: Site, monkeypatch: pytest.MonkeyPatch,
-) -> None:
-    """Where it is recorded before its day: they would not know of it."""
-    monkeypatch.setattr(screen, "today", lambda: datetime.date(2025, 3, 17))
-    jane = office.browser("jane")
-    row = confirmed(jane, "remind", shown(jane, "remind", "18 March 2025", [2])).location
-    assert "1 of 1 reminder recorded" in jane.get(row).text
-    found = letters_rows.of_row(office.app.extensions["letters"], 1)
-    assert found and found.asked.date == datetime.date(2025, 3, 18)
-
-
 def test_what_changed_meanwhile_is_not_recorded(office: Site, address: str) -> None:
     """Neither what is on the page, nor what was shown to be confirmed; and two clicks record once.
     """
@@ -173,7 +162,8 @@ def test_what_changed_meanwhile_is_not_recorded(office: Site, address: str) -> N
     page = shown(jane, "remind", "18 March 2025", [1, 4])
     beside(office, address, [{"cmd": "accept", "child": 4, "school": "ELM"}])
     found = confirmed(jane, "remind", page)
-    assert found.status_code == 409 and "child 4 is not due any more" in found.text.lower()
+    assert found.status_code == 409 and f"Child 4, {NAMES[4]}, is not due any more" in found.text
+    assert re.findall(r'name="child" value="(.)"[^>]* checked', found.text) == ["1"]
     assert count(office, "notice_row") == 0
     page = shown(jane, "remind", "18 March 2025", [1])
     first = confirmed(jane, "remind", page)
@@ -193,6 +183,52 @@ def test_wrong_days_and_ticks_are_said(office: Site) -> None:
     assert found.status_code == 409 and "Tick at least one child" in found.text
     found = jane.get("/notices/remind?day=1 March 2025")
     assert found.status_code == 400 and "Nobody had an offer" in found.text
+
+
+@pytest.mark.parametrize("kind", ["remind", "lapse"])
+def test_a_day_that_is_to_come_is_refused(
+    office: Site, address: str, monkeypatch: pytest.MonkeyPatch, kind: str,
+) -> None:
+    """A reminder or a withdrawal is recorded on its day or after it, and never before."""
+    if kind == "lapse":
+        beside(office, address, [
+            {"cmd": "remind", "child": 2, "school": "ELM", "day": "2025-03-18"}])
+    monkeypatch.setattr(screen, "today", lambda: datetime.date(2025, 5, 31))
+    jane = office.browser("jane")
+    assert 'id="show"' in jane.get(f"/notices/{kind}?day=31 May 2025").text
+    for found in (jane.get(f"/notices/{kind}?day=1 June 2025"),
+                  shown(jane, kind, "1 June 2025", [2])):
+        assert found.status_code == 400 and "today or an earlier day" in found.text
+        assert 'name="child"' not in found.text
+    page = shown(jane, kind, "31 May 2025", [2])
+    late = jane.post(f"/notices/{kind}", {
+        "day": "2025-06-01", "digest": hidden(page, "digest"), "key": hidden(page, "key"),
+        "child": "2", "read": "yes"})
+    assert late.status_code == 400 and count(office, "notice_row") == 0
+
+
+def test_a_withdrawal_without_a_reminder_that_was_sent_takes_a_tick(
+    office: Site, address: str,
+) -> None:
+    """Until its letter is recorded as sent, somebody says that they have read that."""
+    beside(office, address, [
+        {"cmd": "remind", "child": it, "school": "ELM", "day": "2025-03-18"} for it in (2, 3)])
+    jane = office.browser("jane")
+    question = shown(jane, "lapse", "2 April 2025", [2, 3])
+    assert "I have read what looks wrong above, and it is right" in question.text
+    found = confirmed(jane, "lapse", question, read="")
+    assert found.status_code == 409 and "read what looks wrong" in found.text
+    assert count(office, "notice_row") == 0
+    with office.parts.store.writing() as db:
+        # (as where the letters of both are recorded as sent)
+        number = db.execute(
+            "INSERT INTO letter_set (key, who, at, asked, state, total, sent, sent_by) VALUES"
+            " ('a', 'jane', '', '{}', 'gone', 2, '2025-03-18', 'jane')").lastrowid
+        db.executemany("INSERT INTO letter (set_id, place, child, about, words, html) VALUES (?, ?,"
+                       " ?, 'reminder ELM 2025-03-18', '', X'')", [(number, 0, 2), (number, 1, 3)])
+    question = shown(jane, "lapse", "2 April 2025", [2, 3])
+    assert "I have read" not in question.text
+    assert confirmed(jane, "lapse", question, read="").status_code == 303
 
 
 def test_a_row_that_stopped_goes_on_and_sends_nothing_twice(

@@ -16,8 +16,7 @@ def key_of(number: int) -> str:
 
 def ask(sets: Sets, lists: Lists, who: Person, number: int, day: datetime.date) -> None:
     """Asks for the letters of a row, once, by the usual template; not where they would have the
-    address of the example, with which nobody can send them. They are of this day, or of the row's
-    if that is later: before it, nobody could know of what they tell.
+    address of the example, with which nobody can send them.
     """
     template, sender = sets.templates.usual(), sets.sender.number
     if letters_sender.has_example(template.text, sender):
@@ -26,8 +25,7 @@ def ask(sets: Sets, lists: Lists, who: Person, number: int, day: datetime.date) 
     row = lists.row(whom.value)
     withdrawn, copy = lists.withdrawal(whom)
     sets.ask(who, key_of(number), Asked(
-        row.words, sorted(row.children), template.template, template.version,
-        max(day, row.day).isoformat(), PDF,
+        row.words, sorted(row.children), template.template, template.version, day.isoformat(), PDF,
         False, withdrawn.isoformat() if withdrawn else "", copy, sender))
 
 

@@ -1,6 +1,8 @@
 """What is said beside a child on the list of reminders or withdrawals: looked after, an answer that
 waits in a pile, and a reminder whose letter is not recorded as sent.
 """
+import datetime
+
 from office import days
 from office.model import Register
 
@@ -42,9 +44,13 @@ class Marks:
         found = ["looked after, or was"] if self.register.children[child].looked_after else []
         if said := self.answered(child):
             found.append(said)
+        if day := self.unsent(child):
+            found.append(f"the letter of the reminder of {days.in_words(day)} is not recorded as"
+                         " sent")
+        return tuple(found)
+
+    def unsent(self, child: int) -> datetime.date | None:
+        """The day of a child's reminder whose letter is not recorded as sent."""
         place = self.register.places.get(child)
         is_sent = (child, about_of(self.register, child, None).key) in self.sent
-        if place and place.reminded and not is_sent:
-            day = days.in_words(place.reminded)
-            found.append(f"the letter of the reminder of {day} is not recorded as sent")
-        return tuple(found)
+        return place.reminded if place and not is_sent else None

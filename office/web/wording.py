@@ -10,6 +10,7 @@ from office.model import Draw, Place, Preference, Register
 FOREVER = "This cannot be undone: the school is not offered to the child again."
 # what is wrong with what was typed for a day
 NOT_A_DAY = "a day as 17 March 2025 or 17/3/2025"
+NOT_YET = "today or an earlier day"
 WRONG_DECLINE = ("A decline of the wrong child is put right only by a restore of a copy from before"
                  " it, by two people, and best before the next draw: see Help.")
 # the name of a refusal, as it ends the words of an answer

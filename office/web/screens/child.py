@@ -127,7 +127,9 @@ def day_typed() -> tuple[datetime.date, str, str]:
     if text is None:
         return today(), today().isoformat(), ""
     found = wording.day_of(text)
-    return found or today(), text, "" if found else wording.NOT_A_DAY
+    if found is None or found > today():
+        return found or today(), text, wording.NOT_YET if found else wording.NOT_A_DAY
+    return found, text, ""
 
 
 @screen.get(f"/<int:number>/<{NAMES}:name>")
@@ -171,7 +173,7 @@ def record(number: int, name: str) -> Answer:
     command: dict[str, Any] = {
         "cmd": action.command, "child": number, "school": form.get("school", "")}
     if action.is_dated:
-        if day is None or form.get("what") == "show":
+        if day is None or day > today() or form.get("what") == "show":
             return ask_page(number, name)
         if day.isoformat() != form.get("day_shown"):
             return ask_page(number, name, f"Nothing was recorded: {wording.weekday(day)}, was typed"

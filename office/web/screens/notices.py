@@ -28,6 +28,7 @@ WAIT_SECONDS = 4.0
 WHAT = {REMIND: ("reminder", "reminders"), LAPSE: ("withdrawal", "withdrawals")}
 TITLES = {REMIND: "Reminders", LAPSE: "Withdrawals of offers"}
 LOOKS_AGAIN = 5
+CHANGED = "What was shown has changed meanwhile. Nothing was recorded: look at it again."
 
 
 def rows() -> Notices:
@@ -74,6 +75,8 @@ def choose_page(kind: str, said: str = "", status: int = 200) -> Answer:
     typed = given.get("day", today().isoformat())
     day, found, marks = wording.day_of(typed), [], None
     wrong = "" if day else wording.NOT_A_DAY
+    if day and day > today():
+        day, wrong = None, wording.NOT_YET
     if day:
         register = parts().desk.register()
         try:
@@ -111,13 +114,22 @@ def ticked(register: Register, kind: str, day: datetime.date) -> list[Due]:
     given = map(numbers.read, flask.request.form.getlist("child"))
     wanted = [it for it in given if it >= 0]
     if gone := [it for it in wanted if it not in found]:
-        raise Refused(f"child {gone[0]} is not due any more: somebody has recorded an answer or a"
-                      " reminder meanwhile. Nothing was recorded")
+        raise Refused(not_due(register, kind, gone))
     if not wanted:
         raise Refused("tick at least one child")
     rows().see_none_kept(kind, wanted)
     chosen = set(wanted)
     return [it for number, it in found.items() if number in chosen]
+
+
+def not_due(register: Register, kind: str, gone: list[int]) -> str:
+    """Which children are not due any more. All others stay ticked."""
+    names = [f"{it}, {register.children[it].name}" if it in register.children else str(it)
+             for it in gone]
+    who = f"child {names[0]}, is" if len(gone) == 1 else f"children {'; '.join(names)}; are"
+    what = "a reminder" if kind == REMIND else "a withdrawal"
+    return (f"{who} not due any more: somebody has recorded an answer or {what} meanwhile."
+            " Nothing was recorded, and all others that you ticked still are")
 
 
 @screen.post(f"/<{KINDS}:name>")
@@ -126,7 +138,7 @@ def ask(name: str) -> Answer:
     """The question, with all that is to be recorded; or the row that was confirmed."""
     kind = name
     form, day = flask.request.form, wording.day_of(flask.request.form.get("day", ""))
-    if day is None:
+    if day is None or day > today():
         return choose_page(kind, status=400)
     register = parts().desk.now()
     try:
@@ -138,15 +150,19 @@ def ask(name: str) -> Answer:
         return choose_page(kind, sentence(str(error)), 409)
     marks = marks_of(register)
     digest = notices.digest(kind, day, chosen, marks)
-    if form.get("digest") == digest:
+    is_wrong = kind == LAPSE and any(marks.unsent(it.child) for it in chosen)
+    is_read = not is_wrong or form.get("read") == "yes"
+    if form.get("digest") == digest and is_read:
         try:
             number = rows().add(person(), form.get("key", "")[:40], kind, day, chosen)
         except Refused as error:
             return choose_page(kind, sentence(str(error)), 409)
         rows().record(person(), number, WAIT_SECONDS)
         return to_row(number)
-    said = ("What was shown has changed meanwhile. Nothing was recorded: look at it again."
-            if "digest" in form else "")
+    said = ""
+    if "digest" in form:
+        said = (CHANGED if form["digest"] != digest else "Nothing was recorded: read what looks"
+                " wrong, and say that it is right.")
     warnings = children.day_warnings(
         register, notices.command_of(kind, chosen[0].child, chosen[0].school, day), day, today())
     one, several = WHAT[kind]
@@ -154,6 +170,7 @@ def ask(name: str) -> Answer:
         "notices_ask.html", kind=kind, title=TITLES[kind], chosen=chosen, marks=marks,
         day=day, digest=digest,
         weekday=wording.weekday(day), warnings=warnings, said=said, register=register,
+        is_wrong=is_wrong,
         becomes=becomes(kind, day), key=secrets.token_urlsafe(12),
         button=f"Record {texts.count(len(chosen), one, several)} of {days.in_words(day)}",
     ), 409 if said else 200
