@@ -24,6 +24,8 @@ NAMES = {
 }
 # by hand: OAK has one place, and 1 lives nearest; ELM has room for the others
 HAS = {1: "Oak & Ash", 2: "Elm", 3: "Elm", 4: "Elm", 5: "Elm"}
+# the day on which letters are said to be sent, with the tick that it is right
+SENT_ON = {"day": "3 March 2025", "sure_of": "2025-03-03"}
 Answer = Any
 
 

@@ -177,7 +177,7 @@ def letters_sent(browser: Browser) -> None:
     path = made(browser, asked(browser, letters_whom.PART, "1", kind=letters_sets.MERGE))
     assert browser.get(f"{path}/file").status_code == 200
     found = browser.post(f"{path}/record", {
-        "count": hidden(browser.get(path), "count"), "day": OFFER_DAY})
+        "count": hidden(browser.get(path), "count"), "day": OFFER_DAY, "sure_of": OFFER_DAY})
     assert found.status_code == 303, found.text
 
 

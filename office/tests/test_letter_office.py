@@ -13,7 +13,8 @@ import openpyxl
 import pytest
 from applications import Browser, Site
 from letter_site import (
-    OFFICE, after_round, asked, audited, count, hidden, letter_pages, made, pages, typed,
+    OFFICE, SENT_ON, after_round, asked, audited, count, hidden, letter_pages, made, pages,
+    typed,
 )
 from pages import Page, press
 from test_letter_templates import number_of, own
@@ -85,7 +86,7 @@ def test_letters_with_the_address_of_an_example_are_not_recorded_as_sent(office:
     assert "the address of an example" in page and 'id="record"' not in page
     typed(hal)
     assert 'id="example"' not in jane.get("/letters/").text
-    found = jane.post(f"{path}/record", {"day": "3 March 2025", "count": "1"})
+    found = jane.post(f"{path}/record", {"count": "1", **SENT_ON})
     assert found.status_code == 400 and "have the address of an example" in found.text
     assert count(office, "letter_set WHERE sent IS NOT NULL") == 0
 
@@ -152,7 +153,7 @@ def test_what_is_recorded_as_sent_is_beside_the_button(office: Site) -> None:
                  "<dd>3 March 2025</dd>", ">Record 2 letters as sent</button>"):
         assert part in page, part
     assert hidden(jane.get(path), "day") == "2025-03-03"
-    found = jane.post(f"{path}/record", {"day": "3 March 2025", "count": "2"})
+    found = jane.post(f"{path}/record", {"count": "2", **SENT_ON})
     assert found.status_code == 400 and "Nobody has taken the file" in found.text
     assert count(office, "letter_set WHERE sent IS NOT NULL") == 0
     today = datetime.date.today()
@@ -168,7 +169,7 @@ def record(browser: Browser, path: str, **more: str) -> None:
     """Records a set as sent."""
     assert browser.get(f"{path}/file").status_code == 200
     many = hidden(browser.get(path), "count")
-    found = browser.post(f"{path}/record", {"day": "3 March 2025", "count": many, **more})
+    found = browser.post(f"{path}/record", {"count": many, **SENT_ON, **more})
     assert found.status_code == 303, found.text
 
 

@@ -16,13 +16,15 @@ from applications import Browser, Site, site
 from conftest import make
 from draw_site import machine_over
 from letter_site import (
-    HAS, NAMES, ROUND, after_round, asked, audited, beside, commands, count, hidden, letter_pages,
-    made, pages, waited,
+    HAS, NAMES, ROUND, SENT_ON, after_round, asked, audited, beside, commands, count, hidden,
+    letter_pages, made, pages, waited,
 )
 from pages import Page
 from register_files import Refused
+from served import served
 
 from office.web import letters_whom
+from office.web.screens import letters as screen
 from office.web.letters_sets import Asked
 from office.web.people import Person
 
@@ -104,7 +106,7 @@ def recorded(
     """The status and the page after 'Record as sent'."""
     browser.get(f"{path}/file")
     many = hidden(browser.get(path), "count")
-    found = browser.post(f"{path}/record", {"day": day, "count": many, **more})
+    found = browser.post(f"{path}/record", {**SENT_ON, "day": day, "count": many, **more})
     return found.status_code, found.text
 
 
@@ -191,7 +193,7 @@ def test_nobody_is_sent_a_letter_twice_by_a_slip(office: Site) -> None:
     status, page = recorded(hal, other)
     assert status == 409 and "2 children have this letter already. Nothing was recorded" in page
     assert count(office, "letter_set WHERE sent IS NOT NULL") == 1
-    assert jane.post(f"{one}/record", {"day": "5 March 2025", "count": "2"}).status_code == 400
+    assert jane.post(f"{one}/record", {"count": "2", **SENT_ON}).status_code == 400
     assert recorded(hal, other, agreed="yes")[0] == 303
     assert office.parts.history.entries[-1].about["again"] == [1, 2]
 
@@ -238,11 +240,45 @@ def test_neither_drafts_nor_fewer_letters_are_recorded_as_sent(tmp_path: pathlib
         assert sets.get(1).sent == "2025-03-17"
 
 
+def test_a_child_that_keeps_its_place_in_a_later_round_has_no_letter_of_an_offer(
+    tmp_path: pathlib.Path,
+) -> None:
+    """OAK has a second place: child 2 lives next and moves there, and all others stay where they
+    are. All five took part.
+    """
+    again = {"cmd": "round", "draw": 2, "day": "2025-03-17", "lots": list(range(1, 10))}
+    make(tmp_path / "reg.db", [
+        *commands(), ROUND, {"cmd": "raise_pan", "school": "OAK", "pan": 2}, again])
+    with served(tmp_path / "reg.db") as (address, _), audited(tmp_path, address) as office:
+        jane = office.browser("jane")
+        assert asked(jane, "offers", "2")["child"] == ["2"]
+        assert asked(jane, "part", "2")["child"] == list("12345")
+
+
+def test_a_day_on_which_letters_cannot_have_been_sent_is_refused(
+    office: Site, monkeypatch: pytest.MonkeyPatch,
+) -> None:
+    """Not before their date, whatever is ticked; and a day more than a week ago is asked about."""
+    jane = office.browser("jane")
+    path = made(jane, asked(jane, "offers", "1", child=["1", "2"]))
+    for day, given in (("2 March 2025", "2025-03-02"), ("3 March 2024", "2024-03-03")):
+        status, page = recorded(jane, path, day, sure_of=given)
+        assert status == 400 and "3 March 2025 or a later day" in page
+    for given in ("", "2025-03-04"):
+        status, page = recorded(jane, path, "3 March 2025", sure_of=given)
+        assert status == 409 and "is more than a week before today" in page
+        assert "Monday, 3 March 2025" in page and "They were sent on 3 March 2025" in page
+    assert count(office, "letter_set WHERE sent IS NOT NULL") == 0
+    assert hidden(jane.get(path), "day") == "2025-03-03"
+    monkeypatch.setattr(screen, "today", lambda: datetime.date(2025, 3, 10))
+    assert recorded(jane, path, "3 March 2025", sure_of="")[0] == 303
+
+
 def test_a_set_of_another_number_is_not_recorded(office: Site) -> None:
     """Only so many as the button named."""
     jane = office.browser("jane")
     path = made(jane, asked(jane, "offers", "1", child=["1", "2"]))
-    found = jane.post(f"{path}/record", {"day": "3 March 2025", "count": "3"})
+    found = jane.post(f"{path}/record", {"count": "3", **SENT_ON})
     assert found.status_code == 400 and "has changed since it was shown" in found.text
     assert count(office, "letter_set WHERE sent IS NOT NULL") == 0
 
@@ -344,7 +380,7 @@ def test_letters_are_drafts_until_an_audit_agrees(
         assert len(found) == 5
         assert all("DRAFT: not to be sent" in it for it in found)
         assert "Record" not in jane.get(path).text.replace("Recorded", "")
-        status = jane.post(f"{path}/record", {"day": "3 March 2025", "count": "5"}).status_code
+        status = jane.post(f"{path}/record", {"count": "5", **SENT_ON}).status_code
         assert status == 400 and count(office, "letter_set WHERE sent IS NOT NULL") == 0
         merged = made(jane, asked(jane, "offers", "1", kind="merge"))
         book = openpyxl.load_workbook(io.BytesIO(jane.get(f"{merged}/file").data)).active

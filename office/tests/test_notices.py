@@ -18,6 +18,7 @@ from letter_site import (
 )
 from register_files import Refused
 
+from office import days
 from office.senders import Ended
 from office.web import notices
 from office.web.answers import Meant
@@ -120,7 +121,11 @@ def test_the_letters_of_a_row_are_made_by_themselves(office: Site, address: str)
     place = re.search(r'href="(/letters/sets/[0-9]+)/file">Take the file: 2 letters<', page)
     assert place and "made, not recorded as sent" in page
     assert "reminder of 18 March 2025: 2 letters" in page
-    path, given = place[1], {"day": "18 March 2025", "count": hidden(jane.get(row), "count")}
+    # (they are of the day on which they were made, before which nobody can have sent them)
+    today = hidden(jane.get(row), "day")
+    path, given = place[1], {"day": today, "count": hidden(jane.get(row), "count")}
+    early = jane.post(f"{path}/record", {**given, "day": "18 March 2025", "sure_of": "2025-03-18"})
+    assert early.status_code == 400 and "or a later day" in early.text
     found = jane.post(f"{path}/record", given)
     assert found.status_code == 400 and "Nobody has taken the file" in found.text
     for number, text in zip((2, 3), letter_pages(jane, path)):
@@ -129,9 +134,9 @@ def test_the_letters_of_a_row_are_made_by_themselves(office: Site, address: str)
     jane.post(row)
     assert count(office, "letter_set") == 1
     assert jane.post(f"{path}/record", given).status_code == 303
-    assert "sent on 18 March 2025, by jane" in jane.get(row).text
-    assert jane.get("/letters/whom?whom=row&value=1").text.count(
-        "sent on 18 March 2025, by jane") == 2
+    said = f"sent on {days.in_words(datetime.date.fromisoformat(today))}, by jane"
+    assert said in jane.get(row).text
+    assert jane.get("/letters/whom?whom=row&value=1").text.count(said) == 2
     # those of withdrawals name the place that has ended; and a reader only sees that they are made
     beside(office, address, [{"cmd": "accept", "child": 3, "school": "ELM"}])
     row = confirmed(jane, "lapse", shown(jane, "lapse", "2 April 2025", [2])).location

@@ -33,6 +33,8 @@ TYPES = {
     letters_sets.MERGE: "application/vnd.openxmlformats-officedocument.spreadsheetml.sheet",
 }
 # how often the page of a set that is being made looks again, in seconds
+# so many days before today letters are recorded as sent without a question
+FAR_DAYS = 7
 LOOKS_AGAIN = 5
 
 
@@ -201,13 +203,14 @@ def one(number: int) -> Answer:
 
 def set_page(
     number: int, said: str = "", status: int = 200, reason: str = "", day: str = "",
-    wrong: str = "",
+    wrong: str = "", sure_of: str = "",
 ) -> Answer:
-    """The page of a set, with what was typed."""
+    """The page of a set, with what was typed. `sure_of` is a day that is asked about."""
     found = set_of(number)
     return flask.render_template(
         "letters_set.html", it=found, said=said, is_bad=status != 200, template=template_of(found),
-        looks_again=LOOKS_AGAIN, recording=recording(found, day, wrong), reason=reason,
+        looks_again=LOOKS_AGAIN, recording=recording(found, day, wrong, sure_of),
+        reason=reason,
         rests=letters_back.rests(sets(), found) if found.sent else "",
         has_example=sets().has_example(found), children=letters_of(number)), status
 
@@ -231,7 +234,9 @@ def may_record(found: Set) -> bool:
     return is_there and not found.sent and not found.is_draft and not sets().has_example(found)
 
 
-def recording(found: Set, day: str = "", wrong: str = "") -> dict[str, Any]:
+def recording(
+    found: Set, day: str = "", wrong: str = "", sure_of: str = "",
+) -> dict[str, Any]:
     """What is read before the letters of a set are recorded as sent: about what how many are, and
     who has the same already; with the day that was typed. Nothing where they cannot be recorded.
     """
@@ -239,7 +244,8 @@ def recording(found: Set, day: str = "", wrong: str = "") -> dict[str, Any]:
         return {}
     about = collections.Counter(it["words"].partition(":")[0] for it in letters_of(found.number))
     return {"day": day or min(found.asked.date, today()).isoformat(), "wrong": wrong,
-            "about": sorted(about.items()), "doubled": sets().again(found.number)}
+            "sure_of": sure_of, "about": sorted(about.items()),
+            "doubled": sets().again(found.number)}
 
 
 @screen.get("/sets/<int:number>/file")
@@ -263,23 +269,39 @@ def end(number: int) -> Answer:
     return flask.redirect(flask.url_for("letters.show"), 303)
 
 
+def wrong_day(found: Set, day: datetime.date | None) -> str:
+    """What is wrong with the day on which letters were sent: none is sent before its own date, or
+    the day on which it was made if that is earlier.
+    """
+    if day is None or day > today():
+        return ("the day on which they were sent, as 17 March 2025, and not one that is to come")
+    made = datetime.datetime.fromisoformat(found.at).astimezone().date()
+    first = min(found.asked.date, made)
+    if day < first:
+        return f"{days.in_words(first)} or a later day: before it there were no such letters"
+    return ""
+
+
 @screen.post("/sets/<int:number>/record")
 @needs(RECORD)
 def record(number: int) -> Answer:
     """Records that the letters of a set were sent."""
     form = flask.request.form
-    set_of(number)
+    found = set_of(number)
     typed, count = form.get("day", ""), form.get("count", "")
     day = wording.day_of(typed)
-    if day is None or day > today():
-        return set_page(number, "Nothing was recorded: see the day.", 400, "", typed,
-                        "the day on which they were sent, as 17 March 2025, and not one that is"
-                        " to come")
+    if wrong := wrong_day(found, day):
+        return set_page(number, "Nothing was recorded: see the day.", 400, "", typed, wrong)
+    assert day is not None
+    if abs((today() - day).days) > FAR_DAYS and form.get("sure_of") != day.isoformat():
+        return set_page(number, f"Nothing was recorded yet: {wording.weekday(day)}, is more than a"
+                        " week before today.", 409, "", typed, sure_of=day.isoformat())
     try:
         sets().record(person(), number, day, numbers.read(count),
                       form.get("agreed") == "yes")
     except Twice as error:
-        return set_page(number, sentence(str(error)), 409, "", typed)
+        return set_page(number, sentence(str(error)), 409, "", typed,
+                        sure_of=form.get("sure_of", ""))
     except Refused as error:
         return set_page(number, sentence(str(error)), 400)
     return flask.redirect(flask.url_for("letters.one", number=number), 303)
