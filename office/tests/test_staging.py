@@ -410,8 +410,8 @@ def test_lines_within_a_cell_are_kept(office: Site, screens: Screens) -> None:
 
 
 def test_a_row_of_another_form_is_kept_and_confirmed(office: Site, screens: Screens) -> None:
-    """Too many or too few fields, a total, doubtful letters: nothing is dropped, and a person says
-    that it is right.
+    """Too many or too few fields, a total: nothing is dropped, and a person says that it is right.
+    Letters whose encoding was guessed are one question about the file.
     """
     text = "\n".join([
         ",".join(COLUMNS), "5,Abel, Ann,4150,3620,no,,,2024-10-20,OAK,",
@@ -425,19 +425,36 @@ def test_a_row_of_another_form_is_kept_and_confirmed(office: Site, screens: Scre
     assert seen.values(rows[0])["name"] == "Abel, Ann" and seen.values(rows[0])["east"] == "4150"
     assert 'what is too much: "x", "y"' in seen.said(rows[2], "present")
     assert "the row looks like a total" in seen.said(rows[3], "child")
-    assert "read as Windows-1252" in seen.said(rows[4], "name")
+    assert "are these the right letters? Siân (1 row)" in " ".join(seen.text.split())
+    assert seen.said(rows[4], "name") == ""
     screens.save(rows[0])
     screens.save(rows[1], preferences="ELM")
     screens.save(rows[2])
     screens.withdraw(rows[3])
-    screens.save(rows[4])
-    assert not screens.see().wrong() and "Windows-1252" not in screens.see().said(rows[4], "name")
+    assert not screens.see().wrong()
     screens.store()
     assert {number: it[0] for number, it in has(office.parts.desk.now()).items()} == {
         5: "Abel, Ann", 6: "Bo Bell", 8: "Cy Cole", 9: "Siân Dow"}
     confirmed = [it.about["row"] for it in office.parts.history.entries
                  if it.what == "confirmed an application"]
-    assert confirmed == ["row 2 of a.csv", "row 4 of a.csv", "row 6 of a.csv"]
+    assert confirmed == ["row 2 of a.csv", "row 4 of a.csv"]
+
+
+def test_a_letter_that_was_lost_is_looked_for(screens: Screens) -> None:
+    """A spreadsheet writes a question mark where its encoding has no such letter; and many rows of
+    one file with other letters are one question, not one for each.
+    """
+    names = ["?ucja Hughes", "Dai Nguy?n", "Ada Lis?", "Chloë Abel", "Zoë Bell", "Chloë Cole"]
+    rows = [changed(changed(GOOD[0], 0, str(50 + at)), 1, it) for at, it in enumerate(names)]
+    rows = [changed(it, 3, str(5000 + 700 * at)) for at, it in enumerate(rows)]
+    screens.add(("a.csv", lines(rows).decode().encode("cp1252")))
+    seen = screens.see()
+    said = {it: seen.said(seen.row(f"row {at + 2} of a.csv"), "name")
+            for at, it in enumerate(names)}
+    lost = "is the question mark a letter that was lost? Take the name from the form again"
+    assert said == {**dict.fromkeys(names, ""), **dict.fromkeys(names[:3], lost)}
+    assert "are these the right letters? Chloë and Zoë (3 rows)" in " ".join(seen.text.split())
+    assert len(screens.see("?show=findings").rows()) == 3
 
 
 def test_what_only_a_workbook_has(screens: Screens) -> None:
@@ -622,6 +639,24 @@ def test_two_officers_store_at_once(office: Site, screens: Screens) -> None:
     told = next(it for it in came if it.status_code == 409)
     assert "has changed since it was shown, and nothing was stored" in told.text
     assert len(imports(office)) == 1 and has(office.parts.desk.now()) == expected(GOOD)
+
+
+def test_a_plan_that_came_meanwhile_is_seen(office: Site, screens: Screens) -> None:
+    """By it a row whose child has no application is no error any more, and is left out."""
+    number, name, east, north = GOOD[0][:4]
+    there = {"cmd": "add_child", "child": int(number), "name": name, "east": int(east),
+             "north": int(north), "looked_after": GOOD[0][4] == "yes",
+             "flags": [int(it) for it in codes(GOOD[0][5])], "siblings": list(codes(GOOD[0][6])),
+             "present": GOOD[0][9]}
+    bo = Person("bo", "officer")
+    assert office.parts.desk.send(bo, there).is_done
+    screens.add(("a.csv", lines(GOOD)))
+    digest = screens.digest()
+    plan = {"cmd": "name_plan", "child": int(number), "school": "OAK"}
+    assert office.parts.desk.send(bo, plan).is_done
+    found = screens.store(digest)
+    assert found.status_code == 409 and "has changed since it was shown" in found.text
+    assert imports(office) == []
 
 
 def test_a_copy_is_made_before_anything_is_stored(

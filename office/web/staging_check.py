@@ -2,6 +2,7 @@
 once in each of its versions; which rows may be of one child; and which the register has.
 """
 import dataclasses
+import re
 import threading
 from collections.abc import Iterable, Sequence
 
@@ -15,6 +16,9 @@ from .staging_rows import Staged
 
 SAME_NUMBER, ALIKE = "the same number", "a similar name at the same home, or nearby"
 UK_DAYS = "if all days of the file are day/month/year, say so in the list of files"
+# what a program writes that cannot write a letter
+LOST = re.compile(r"\w\?|\?\w")
+IS_LOST = "is the question mark a letter that was lost? Take the name from the form again"
 Differences = list[tuple[str, str]]
 
 
@@ -81,6 +85,8 @@ def checked(it: Staged, register: Register | None) -> Checked:
     context = Context(register.schools if register else {}, it.is_uk)
     for column in fields.COLUMNS:
         check.read_field(row, column, it.cells[column], context, add, column in broken)
+    if LOST.search(it.cells["name"]):
+        add(it.id, "name", it.cells["name"], IS_LOST, LOOK)
     for said_of in points.findings(it.point, it.cells):
         add(it.id, "east", it.cells["east"], said_of, LOOK)
     if register:

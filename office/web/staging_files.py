@@ -6,12 +6,14 @@ from collections.abc import Iterator
 
 from register_files import Refused
 
-from office import check, fields, header, sheet, sheet_apart, texts
-from office.check import ERROR, FIXED, LOOK, Check, Finding
+from office import fields, header, sheet, sheet_apart, texts
+from office.check import ERROR, FIXED, Check, Finding
 
 from . import gazetteer_rows
 
 MOST_NAME = 80
+# so many words of a file are asked about
+MOST_WORDS = 30
 ADVICE = "write the name of the one that is meant into the field Sheet"
 NO_COLUMN = "no column of an application: it is kept beside the rows, and not stored"
 LEFT_OVER = "what is too much"
@@ -102,7 +104,23 @@ def rows_of(name: str, found: sheet.Sheet) -> Read:
     rows = [row_of(reading, row, by_row.get(row.number, [])) for row in below]
     # (those of the whole file are the first)
     changes = [it for it in (*above, *reading.findings) if it.kind == FIXED]
-    return Read(rows, [*found.changes, *summed(changes[len(found.changes):])])
+    asked = letters_of(rows) if found.is_decoded else []
+    return Read(rows, [*found.changes, *asked, *summed(changes[len(found.changes):])])
+
+
+def letters_of(rows: list[Given]) -> list[str]:
+    """What is asked of a file whose encoding was guessed: its words with other letters than those
+    of ASCII.
+    """
+    found = {it.number: [word for text in it.cells.values() for word in text.split()
+                         if not word.isascii()] for it in rows}
+    words = list(dict.fromkeys(word for of_row in found.values() for word in of_row))
+    if not words:
+        return []
+    shown = words[:MOST_WORDS] + (
+        [texts.count(len(words) - MOST_WORDS, "other word")] if len(words) > MOST_WORDS else [])
+    count = texts.count(sum(map(bool, found.values())), "row")
+    return [f"are these the right letters? {texts.listed(shown)} ({count})"]
 
 
 def said_of_header(finding: Finding) -> str:
@@ -142,8 +160,6 @@ def row_of(reading: Check, row: sheet.Row, found: list[Finding]) -> Given:
             it for it in reading.findings[before:] if it.kind != ERROR]
     given = {it: cells[reading.columns[it]] if it in reading.columns else fields.OMITTED[it]
              for it in fields.COLUMNS}
-    if not any(it.is_whole for it in notes):
-        notes += doubts(reading, given)
     return Given(row.number, given, others_of(reading, cells), tuple(notes))
 
 
@@ -161,15 +177,6 @@ def placed(reading: Check, cells: list[str]) -> tuple[list[str], str]:
     rest = [it for it in cells[reading.width:] if it.strip()]
     said = f"; {LEFT_OVER}: {', '.join(map(texts.shown, rest))}" if rest else ""
     return cells[:reading.width], said
-
-
-def doubts(reading: Check, given: dict[str, str]) -> Iterator[Note]:
-    """Which cells have letters that were read by an encoding that was guessed."""
-    for column, text in given.items():
-        if reading.is_doubtful(text):
-            row = check.Row(0, {}, {})
-            if check.read_field(row, column, text, reading.context, lambda *_: None):
-                yield Note(column, check.DOUBTFUL, LOOK)
 
 
 def others_of(reading: Check, cells: list[str]) -> dict[str, str]:
