@@ -2,7 +2,7 @@
 from typing import Any
 
 from applications import SCHOOLS, Browser, Site, child
-from pages import Page
+from pages import Page, press
 
 # 30 children, of whom each has an offer: those with an even number at B, the others at A
 NAMES = {11: "Ada Abel", 12: "Ben Bell", 13: "Cyd <b>Cole</b>", 14: "Dai O'Dare", 15: "Ada Abbot",
@@ -40,6 +40,13 @@ def pile(page: Page) -> list[list[str]]:
     """The rows of the pile, without what changes them; the last entry is the first."""
     name = next((it for it in page.tables if it.startswith("The pile:")), None)
     return [row[:6] for row in page.tables[name][1:]] if name else []
+
+
+def record(browser: Browser, page: Page, button: str) -> Any:
+    """Records a pile: its button, and the one below the question. What came of the second."""
+    question = Page(press(browser, PAGE, page, button).text)
+    confirm = next(it for it in question.buttons() if it.startswith(button))
+    return press(browser, PAGE, question, confirm)
 
 
 def sent(office: Site) -> list[dict[str, Any]]:

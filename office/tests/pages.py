@@ -3,6 +3,7 @@ texts, and what is tied to a field.
 """
 import dataclasses
 import html.parser
+import urllib.parse
 from typing import Any
 
 Attributes = list[tuple[str, str | None]]
@@ -147,8 +148,9 @@ class Page(html.parser.HTMLParser):
 def press(browser: Any, path: str, page: Page, button: str, **given: Any) -> Any:
     """Presses a button of a page: the form is sent with what is in it, and with what was given."""
     form = page.form(button)
-    assert form.method == "post"
     values = {name: it if len(it) > 1 else it[0] for name, it in form.values.items() if it}
     name, value = form.buttons[button]
     sent = {**values, **({name: value} if name else {}), **given}
+    if form.method == "get":
+        return browser.get(f"{form.action or path}?{urllib.parse.urlencode(sent, True)}")
     return browser.post(form.action or path, sent)

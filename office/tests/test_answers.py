@@ -7,9 +7,9 @@ from typing import Any
 
 import openpyxl
 import pytest
-from applications import Site, office_over, site
+from applications import Site, child, office_over, site
 from conftest import make
-from offers import PAGE, enter, offered, pile, sent, shown
+from offers import PAGE, enter, offered, pile, record, sent, shown
 from pages import Page, press
 from served import served
 
@@ -48,8 +48,11 @@ def test_24_answers_need_few_keys(office: Site) -> None:
     page = enter(jane, *map(str, numbers))
     assert page.focus == "entry" and "Record 24 answers" in page.buttons()
     keys = sum(len(str(it)) + 1 for it in numbers) + of_keys(page, "entry", "record-all")
-    assert keys == 24 * 3 + 3 and keys <= 89
-    found = press(jane, PAGE, page, "Record 24 answers")
+    question = Page(press(jane, PAGE, page, "Record 24 answers").text)
+    # (Tab from the way back to the button, and Enter)
+    assert question.stops[question.stops.index("confirm") - 1] == question.focus
+    assert keys + 2 == 24 * 3 + 5 and keys + 2 <= 89
+    found = press(jane, PAGE, question, "Record 24 answers")
     assert found.status_code == 303
     assert sent(office) == [
         {"cmd": "accept", "child": it, "school": "A" if it % 2 else "B"} for it in numbers]
@@ -74,7 +77,7 @@ def test_an_entry_is_a_number_or_a_name(office: Site) -> None:
         ["12-", "12", "Ben Bell", "decline", "B", ""],
         ["11", "11", "Ada Abel", "accept", "A", ""]]
     assert "<b>Cole" not in page.text and "Record 4 answers" in page.buttons()
-    press(jane, PAGE, page, "It is 15 Ada Abbot")
+    press(jane, PAGE, page, "It is 15 Ada Abbot: accept")
     assert ["ada", "15", "Ada Abbot", "accept", "A", ""] in pile(shown(jane))
     found = jane.post(PAGE, {"entry": "  "})
     assert found.status_code == 400 and Page(found.text).said() == "Enter a number or a name."
@@ -121,6 +124,44 @@ def test_declines_are_confirmed_by_name(office: Site) -> None:
     assert "Record 1 answer, with that of Dai O'Dare" in question.buttons()
 
 
+def test_accepts_are_confirmed_by_name(office: Site) -> None:
+    """Nothing is recorded before a question that names each child. Those whose number alone was
+    typed stand first: their names are seen there for the first time.
+    """
+    jane = office.browser("jane")
+    page = enter(jane, "12 Ben Bell", "cole", "14", "15")
+    question = Page(press(jane, PAGE, page, "Record 4 answers").text)
+    assert sent(office) == [] and "final" not in question.by_id
+    assert " ".join(question.by_id["by-number"].split()) == (
+        "accept: child 14, Dai O'Dare, at B Beta accept: child 15, Ada Abbot, at A Alpha")
+    assert " ".join(question.by_id["accepts"].split()) == (
+        "accept: child 12, Ben Bell, at B Beta accept: child 13, Cyd <b>Cole</b>, at A Alpha")
+    assert question.text.index("Ada Abbot") < question.text.index("Ben Bell")
+    assert question.focus == PAGE, "no key confirms at once"
+    assert press(jane, PAGE, question, "Record 4 answers").status_code == 303
+    assert [it["child"] for it in sent(office)] == [12, 13, 14, 15]
+    page = enter(jane, "16")
+    question = Page(press(jane, PAGE, page, "Record 1 answer").text)
+    assert "Record 1 answer, with that of =1+1" in question.buttons()
+
+
+def test_a_question_about_a_pile_has_an_address(office: Site) -> None:
+    """So that the way back in a browser sends no form again. Of a pile that changed, it shows none.
+    """
+    jane = office.browser("jane")
+    page = enter(jane, "11", "12-")
+    for button in ("Record 2 answers", "Remove all 2 from the pile"):
+        assert page.form(button).method == "get"
+    question = press(jane, PAGE, page, "Record 2 answers")
+    again = jane.get(question.request.full_path)
+    assert question.status_code == again.status_code == 200 and "Ben Bell" in again.text
+    enter(jane, "13")
+    late = jane.get(question.request.full_path)
+    assert late.status_code == 409 and "has changed since it was shown" in Page(late.text).said()
+    assert jane.get("/answers/remove?number=17").status_code == 303
+    assert len(pile(shown(jane))) == 3 and sent(office) == []
+
+
 def test_conflicts_are_named_and_not_sent(office: Site) -> None:
     """No offer, answered already, no such child, two answers for one child."""
     desk, jane = office.parts.desk, office.browser("jane")
@@ -137,7 +178,7 @@ def test_conflicts_are_named_and_not_sent(office: Site) -> None:
         "11": "the pile has another answer for this child",
         "11-": "the pile has another answer for this child", "12": ""}
     before = len(sent(office))
-    press(jane, PAGE, page, "Record 1 answer")
+    record(jane, page, "Record 1 answer")
     assert sent(office)[before:] == [{"cmd": "accept", "child": 12, "school": "B"}]
     assert len(pile(shown(jane))) == 6
     press(jane, PAGE, shown(jane), "Remove 11-")
@@ -171,7 +212,7 @@ def test_what_a_colleague_did_meanwhile_is_named(office: Site) -> None:
     jane, bo = office.browser("jane"), office.browser("bo")
     page = enter(jane, "11-", "12", "13")
     assert "jane has an answer for this child in a pile too" in pile(enter(bo, "12"))[0][5]
-    press(bo, PAGE, shown(bo), "Record 1 answer")
+    record(bo, shown(bo), "Record 1 answer")
     found = press(jane, PAGE, page, "Record 3 answers")
     again = Page(found.text)
     assert found.status_code == 409 and "The pile has changed since it was shown" in again.said()
@@ -201,7 +242,9 @@ def test_the_same_pile_is_not_recorded_twice(office: Site) -> None:
     """Neither by a form that is sent again nor by two tabs at once."""
     jane = office.browser("jane")
     page = enter(jane, "11", "12")
-    assert press(jane, PAGE, page, "Record 2 answers").status_code == 303
+    question = Page(press(jane, PAGE, page, "Record 2 answers").text)
+    assert press(jane, PAGE, question, "Record 2 answers").status_code == 303
+    assert press(jane, PAGE, question, "Record 2 answers").status_code == 409
     assert press(jane, PAGE, page, "Record 2 answers").status_code == 409
     assert len(sent(office)) == 2
     found = screen_piles(office)
@@ -267,7 +310,7 @@ def test_an_application_that_ends_in_the_middle_goes_on(tmp_path: pathlib.Path) 
                 return answer
 
             setattr(sender, "send", ends)
-            press(jane, PAGE, page, "Record 4 answers")
+            record(jane, page, "Record 4 answers")
             states = [it.state for it in screen_piles(office).of("jane")]
             assert states == ["done", "done", "sending", "waits"]
         with site(tmp_path, address) as office:
@@ -276,7 +319,7 @@ def test_an_application_that_ends_in_the_middle_goes_on(tmp_path: pathlib.Path) 
             page = shown(jane)
             assert [it[0] for it in recorded(page)] == ["13", "12", "11"]
             assert [it[0] for it in pile(page)] == ["14"]
-            press(jane, PAGE, page, "Record 1 answer")
+            record(jane, page, "Record 1 answer")
             assert [it["child"] for it in sent(office)] == [11, 12, 13, 14]
             assert {it for it, kind in kinds(office).items() if kind == "accepted"} == {
                 11, 12, 13, 14}
@@ -288,13 +331,13 @@ def test_an_application_that_ends_in_the_middle_goes_on(tmp_path: pathlib.Path) 
                 raise SystemExit
 
             setattr(sender, "send", lost)
-            press(jane, PAGE, page, "Record 1 answer")
+            record(jane, page, "Record 1 answer")
         with site(tmp_path, address) as office:
             office.passwords["jane"] = "jane of the office"
             jane = office.browser("jane")
             page = shown(jane)
             assert "There was no answer: not done." in pile(page)[0][5]
-            press(jane, PAGE, page, "Record 1 answer")
+            record(jane, page, "Record 1 answer")
             assert kinds(office)[15] == "accepted"
 
 
@@ -309,7 +352,7 @@ def test_an_answer_that_is_lost_is_looked_up(office: Site, monkeypatch: pytest.M
         return Result(LOST, "There was no certain answer.")
 
     monkeypatch.setattr(desk, "send", unsure)
-    press(jane, PAGE, page, "Record 2 answers")
+    record(jane, page, "Record 2 answers")
     assert [it["child"] for it in sent(office)] == [11]
     monkeypatch.setattr(desk, "send", kept)
     page = shown(jane)
@@ -362,7 +405,8 @@ def test_no_row_is_an_accept_that_does_not_say_so_alone(office: Site) -> None:
     assert found["11, accept, declined"][2].startswith(
         "this row has the answers accept and declined")
     assert found["13, A, B, yes"][2].startswith("this row has the schools A and B")
-    assert 'the name given is "Ben Bell not"' in found["12 Ben Bell not accepted"][2]
+    assert found["12 Ben Bell not accepted"][1] == "none"
+    assert found["12 Ben Bell not accepted"][2].startswith("no answer in this row")
     found = several(office, "Number,Name,Answer\n11,Ada Abel,\n12,Ben Bell,perhaps\nx,,yes\n")
     assert found["11, Ada Abel"][1:] == ["none", "no answer in this row"]
     assert found["12, Ben Bell, perhaps"][2].startswith('"perhaps" is not an answer')
@@ -375,8 +419,45 @@ def test_no_row_is_an_accept_that_does_not_say_so_alone(office: Site) -> None:
     assert pile(page)[1][5] == 'the name given is "idea"'
     question = Page(press(jane, PAGE, page, "Record 2 answers").text)
     assert "accept: child 23, Child Number23, at A Alpha" in " ".join(
-        question.by_id["accepts"].split())
-    assert "child 21," in question.by_id["final"] and "child 21," not in question.by_id["accepts"]
+        question.by_id["by-number"].split())
+    assert "child 21," in question.by_id["final"] and "child 21," not in question.by_id["by-number"]
+
+
+REFUSALS = ["not accepted", "does not accept", "doesn't accept", "doesn’t accept", "DONT ACCEPT",
+            "never accepted", "unable to accept", "no accept", "accept? no", "cannot say yes",
+            "not yes", "accept, not sure", "will not decline"]
+
+
+def test_an_answer_that_is_turned_round_is_none(office: Site) -> None:
+    """Neither typed nor pasted, and no button makes it one."""
+    jane = office.browser("jane")
+    rows = [f"{whom} {text}" for text in REFUSALS for whom in ("12", "12 Ben Bell", "Ben Bell")]
+    page = enter(jane, *rows)
+    pasted = several(office, "\n".join(["11 accept", *rows]))
+    assert pasted["11 accept"] == ["11", "accept", ""]
+    for typed, *row in [*pile(page), *pile(shown(jane))[:-1]]:
+        assert row[2] == "none" or "has the answers" in row[4], (typed, row)
+        assert row[2] != "none" or "no answer in this row" in row[4], (typed, row)
+    chosen = [it for it in shown(jane).buttons() if it.startswith("It is ")]
+    assert chosen and all(it.endswith((": accept", ": decline")) for it in chosen)
+    for it in chosen:
+        press(jane, PAGE, shown(jane), it)
+    assert "Record 1 answer" in shown(jane).buttons(), "the accept of 11 alone is ready"
+
+
+def test_another_column_may_turn_an_answer_round(office: Site) -> None:
+    """A note beside an accept that says the contrary marks its row."""
+    found = several(office, "Number,Answer,Note\n11,accept,does not accept\n12,accept,by letter\n")
+    assert 'another column has "does not accept"' in found["11, accept, does not accept"][2]
+    assert found["12, accept, by letter"] == ["12", "accept", ""]
+
+
+def test_a_name_with_such_a_word_is_a_name(office: Site) -> None:
+    """The words of the child's own name turn nothing round."""
+    jane = office.browser("jane")
+    amend = {**child(12, "Ana Never", 12), "cmd": "amend"}
+    assert office.parts.desk.send(Person("bo", "officer"), amend).is_done
+    assert pile(enter(jane, "12 Ana Never accepts"))[0][3:] == ["accept", "B", ""]
 
 
 def test_a_colon_separates(office: Site) -> None:
@@ -484,7 +565,7 @@ def test_a_name_that_is_another_stops_its_answer(office: Site) -> None:
         "11": "", "12": 'the name given is "Zoe Young"',
         "13": "it is about B: The child was offered a place at Alpha on 3 March 2025."
               " There is no answer yet."}
-    press(jane, PAGE, page, "It is Ben Bell all the same")
+    press(jane, PAGE, page, "It is Ben Bell all the same: accept")
     assert {row[1]: row[5] for row in pile(shown(jane))}["12"] == ""
     assert "Record 2 answers" in shown(jane).buttons()
 
@@ -539,7 +620,7 @@ def test_only_who_may_record_has_a_pile(office: Site) -> None:
         assert browser.get(PAGE).status_code == 403, role
         for path in (PAGE, "/answers/several", "/answers/record", "/answers/remove",
                      "/answers/choose"):
-            assert browser.post(path, {"entry": "11", "sure": "yes"}).status_code == 403
+            assert browser.post(path, {"entry": "11"}).status_code == 403
     assert office.parts.store.rows("SELECT * FROM answer") == []
 
 
@@ -548,12 +629,12 @@ def test_a_pile_is_kept_while_the_register_is_closed(office: Site) -> None:
     jane, desk = office.browser("jane"), office.parts.desk
     page = enter(jane, "11", "12")
     desk.closed = lambda: "Closed for draw 2 by hal."
-    press(jane, PAGE, page, "Record 2 answers")
+    record(jane, page, "Record 2 answers")
     page = shown(jane)
     assert [row[5] for row in pile(page)] == ["", "Closed for draw 2 by hal."]
     assert sent(office) == []
     desk.closed = str
-    press(jane, PAGE, page, "Record 2 answers")
+    record(jane, page, "Record 2 answers")
     assert len(sent(office)) == 2 and pile(shown(jane)) == []
 
 
@@ -646,3 +727,43 @@ def test_without_a_history_no_pile_is_taken_over(office: Site) -> None:
     office.parts.history.fd = kept
     assert found.status_code == 409 and "Nothing was taken over" in Page(found.text).said()
     assert [it.person for it in office.app.extensions["piles"].of("bo")] == ["bo"]
+
+
+@pytest.mark.parametrize("who, when", [("jane", "before"), ("bo", "after")])
+def test_an_equal_answer_of_before_or_of_a_colleague_is_not_this_one(
+    office: Site, who: str, when: str,
+) -> None:
+    """The application ended before it sent an answer: what was sent before that, or by somebody
+    else, does not say that it is recorded.
+    """
+    jane, desk = office.browser("jane"), office.parts.desk
+    enter(jane, "12", "11")
+    found = screen_piles(office)
+    entry = next(it for it in found.of("jane") if it.meant.child == 11)
+    accept = {"cmd": "accept", "child": 11, "school": "A"}
+    if when == "before":
+        assert desk.send(Person(who, "officer"), accept).is_done
+    assert found.begin(entry)
+    if when == "after":
+        assert desk.send(Person(who, "officer"), accept).is_done
+    page = shown(jane)
+    assert [it[0] for it in pile(page)] == ["11", "12"] and recorded(page) == []
+    assert "There was no answer" in pile(page)[0][5]
+
+
+def test_what_is_recorded_fills_no_pile(
+    office: Site, monkeypatch: pytest.MonkeyPatch,
+) -> None:
+    """A pile has room for the answers that wait; the last of those that are recorded are listed."""
+    monkeypatch.setattr(piles, "MOST", 3)
+    monkeypatch.setattr(screen, "MOST_RECORDED", 2)
+    jane = office.browser("jane")
+    record(jane, enter(jane, "11", "12", "13"), "Record 3 answers")
+    page = enter(jane, "14", "15", "16")
+    assert len(pile(page)) == 3
+    assert [it[0] for it in page.tables["recorded"][1:]] == ["13", "12"]
+    assert "Recorded: 3 answers, of which the last 2 are here" in " ".join(page.text.split())
+    found = jane.post(PAGE, {"entry": "17"})
+    assert found.status_code == 409 and "at most 3 answers" in Page(found.text).said()
+    counted = office.parts.end.counts()
+    assert counted["answers that wait in piles"] == 3

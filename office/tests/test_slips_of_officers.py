@@ -39,7 +39,7 @@ from typing import Any
 
 import pytest
 from applications import Site, office_over
-from offers import PAGE, enter, offered, pile, sent, shown
+from offers import PAGE, enter, offered, pile, record, sent, shown
 from pages import Page, press
 
 from office.web import guard
@@ -79,14 +79,13 @@ def test_a_place_that_a_colleague_accepted_is_not_declined_from_an_older_page(
     """Neither from the question about the child nor from the pile."""
     jane, bo = emptied(office, "jane"), emptied(office, "bo")
     question = Page(jane.get("/children/11/decline").text)
-    press(jane, PAGE, enter(jane, "13-"), "Record 1 answer")
-    whole = shown(jane)
+    whole = Page(press(jane, PAGE, enter(jane, "13-"), "Record 1 answer").text)
     for child in ("11", "13"):
         enter(bo, child)
-    press(bo, PAGE, shown(bo), "Record 2 answers")
+    record(bo, shown(bo), "Record 2 answers")
     late = press(jane, "/children/11/decline", question, "Decline Alpha for Ada Abel")
     assert late.status_code == 409 and "bo recorded accept at" in Page(late.text).said()
-    refused = press(jane, PAGE, whole, "Record 1 answer", sure="yes")
+    refused = press(jane, PAGE, whole, "Record 1 answer, with that of Cyd <b>Cole</b>")
     assert refused.status_code == 409 and "has changed" in Page(refused.text).said()
     assert "bo recorded accept at" in pile(shown(jane))[0][5]
     assert [kind(office, it) for it in (11, 13)] == ["accepted", "accepted"]
@@ -105,7 +104,7 @@ def test_no_letter_key_confirms_what_is_final(office: Site) -> None:
         page = Page(text)
         assert page.focus in (PAGE, ""), "no key confirms, and the first one may go back"
     for entry in ("y", "Y", "yes"):
-        assert jane.post(PAGE + "record", {"digest": entry, "sure": "y"}).status_code == 409
+        assert jane.post(PAGE + "record", {"digest": entry}).status_code == 409
     assert not of(office, 26) and kind(office, 26) == "offered"
 
 
@@ -145,7 +144,7 @@ def test_an_accept_of_another_child_is_taken_back_before_it_is_recorded(office: 
     assert press(jane, PAGE, page, "Remove 17").status_code == 303
     page = shown(jane)
     assert [it[2] for it in pile(page)] == ["Child Number18"]
-    press(jane, PAGE, page, "Record 1 answer")
+    record(jane, page, "Record 1 answer")
     assert not of(office, 17) and kind(office, 17) == "offered"
     assert of(office, 18) == [{"cmd": "accept", "child": 18, "school": "B"}]
 

@@ -36,6 +36,9 @@ BETWEEN = re.compile(r"[\t\r\n,;:]+")
 # signs and numbers that are no part of a name, unless the child's own has them; a minus at a word's
 # end is one
 SIGNS = re.compile(r"[^\w\s'’`.,-]|[-.,]+(?!\S)(?<!\w[.,])|(?<!\S)\d+(?!\S)")
+# words beside an answer that turn it round, or leave it open
+NEGATION = re.compile(r"not?|nor|never|unable|cannot|\w+n['’`]t|(?:do|does|did|wo|ca|is|are)nt")
+PUNCTUATION = ".,;:!?()\""
 # where so many rows or more mean no child at all, the whole is another file
 MANY_ROWS = 10
 
@@ -175,20 +178,29 @@ class Reader:
             parts.wrong.append(f"{texts.shown(cell)} is not {what}")
         else:
             parts.others.append(title)
-            if set(cell.lower().split()) & set(READ["decline"]) - {"no"}:
+            words = [it.strip(PUNCTUATION) for it in cell.lower().split()]
+            is_negated = any(map(NEGATION.fullmatch, words)) and any(map(answer_of, words[1:]))
+            if is_negated or set(words) & set(READ["decline"]) - {"no"}:
                 parts.wrong.append(f"another column has {texts.shown(cell)}")
 
     def meant(self, typed: str, parts: Parts, kind: str) -> Meant:
         """What a row means. `kind` is the answer of one that has none, or "" where it is marked."""
-        name, wrong = " ".join(parts.name), [*parts.wrong, *parts.contradictions()]
+        name, wrong = " ".join(parts.name), list(parts.wrong)
         child = parts.numbers[0] if parts.numbers else None
         if child is None and len(found := self.names.matches(name)) == 1:
             child = found[0]
+        beside = self.not_of_name(name, child)
+        is_negated = any(map(NEGATION.fullmatch, beside))
+        if parts.answers and not is_negated:
+            parts.answers |= {answer_of(it): it for it in beside if answer_of(it)}
+        wrong += parts.contradictions()
         if child is None and not name:
             wrong.append("there is no number and no name in this row")
         wrong += self.of_name(parts, name, child)
+        if is_negated:
+            parts.answers, kind = {}, ""
         if not parts.answers:
-            wrong += self.beside_name(name, child) if parts.numbers else []
+            wrong += self.beside_name(name, child) if parts.numbers and not is_negated else []
             if not kind:
                 wrong.append("no answer in this row")
             elif parts.others:
@@ -200,6 +212,13 @@ class Reader:
         given = name if parts.numbers or child is None else ""
         made = Meant(typed, kind, child, "".join(parts.schools[:1]), given, "; ".join(wrong))
         return made if made.school else with_school(self.register, made)
+
+    def not_of_name(self, name: str, child: int | None) -> list[str]:
+        """The words of a given name that the child's own has not."""
+        known = self.register.children.get(child or 0)
+        own = words_of(known.name) if known else []
+        words = (it.strip(PUNCTUATION).lower() for it in name.split())
+        return [it for it in words if texts.folded(it) not in own]
 
     def beside_name(self, name: str, child: int | None) -> list[str]:
         """What a name has that may say something about an answer that is not given."""

@@ -3,6 +3,7 @@ against it.
 """
 import dataclasses
 import functools
+import re
 from collections.abc import Iterable, Mapping
 from typing import Any
 
@@ -14,6 +15,7 @@ from .desk import Desk, Seen
 
 Command = dict[str, Any]
 MOST_TYPED = 200
+DIGITS = re.compile(r"[0-9]+")
 # so many children are named where a name is that of several
 MOST_NAMED = 8
 FINAL = ("decline", "leave_list", "name_plan")
@@ -61,6 +63,12 @@ class Entry:
     def is_final(self) -> bool:
         """Whether it can never be undone."""
         return self.meant.kind in FINAL
+
+    @property
+    def is_by_number_alone(self) -> bool:
+        """Whether no name was given beside the number, by which a slip would be seen."""
+        numbers = [int(it) for it in DIGITS.findall(self.meant.typed)]
+        return not self.meant.name and self.meant.child in numbers
 
 
 class Names:

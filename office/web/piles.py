@@ -62,7 +62,8 @@ def digest(entries: Iterable[Entry]) -> str:
 
 def see_size(db: sqlite3.Connection, person: str) -> None:
     """Refuses a pile that is too large."""
-    count = db.execute("SELECT count(*) FROM answer WHERE person=?", (person,)).fetchone()
+    count = db.execute("SELECT count(*) FROM answer WHERE person=? AND state<>?",
+                       (person, DONE)).fetchone()
     if count[0] > MOST:
         raise Refused(f"a pile has at most {MOST:,} answers: record those that are there")
 
@@ -155,7 +156,7 @@ class Piles:
                       for it in answers.candidates(names, entry.meant)[:answers.MOST_NAMED])
         note = answers.by_colleagues(entry, colleagues)
         given, name = entry.meant.name, child.name if child else ""
-        is_other = bool(given and name) and not answers.is_of(given, name)
+        is_other = bool(given and name and entry.meant.kind) and not answers.is_of(given, name)
         return Shown(entry, name, tuple(found), note, named, is_other)
 
     def waiting(self, person: str) -> dict[str, int]:

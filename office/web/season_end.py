@@ -315,7 +315,9 @@ class SeasonEnd:
             "entries of the history": len(self.parts.history.entries),
         }
         for it in archive.tables(store):
-            if many := store.rows(f"SELECT count(*) FROM {it}")[0][0]:
+            # (a recorded answer stays in its list, and is counted in the history)
+            waits = f" WHERE state<>'{DONE}'" if it == "answer" else ""
+            if many := store.rows(f"SELECT count(*) FROM {it}{waits}")[0][0]:
                 name = CALLED.get(it, OTHERS)
                 found[name] = found.get(name, 0) + many
         return found

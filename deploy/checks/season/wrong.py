@@ -57,6 +57,8 @@ def answered(office: Office, *children: int) -> None:
         hal.type(f"{it}\n")
     until(lambda: hal.has("Record 2 answers"), "the pile has both answers")
     hal.press("Record 2 answers")
+    hal.see("2 answers are accepts.")
+    hal.press("Record 2 answers")
     done = "2 of 2 answers are recorded."
     until(lambda: done in hal.main, f"the page says that {done}")
     for it in children:

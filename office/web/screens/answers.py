@@ -24,6 +24,8 @@ Answer = str | Response | tuple[str, int]
 # so long the answer to 'Record' waits for the end; after it the page shows how far it is
 WAIT_SECONDS = 20.0
 MOST_PASTED = 200_000
+# so many of those that were recorded are listed, the last
+MOST_RECORDED = 50
 # what is removed from a pile at once: all of it, or what is marked
 MANY = ("all", "marked")
 
@@ -54,7 +56,8 @@ def page(said: str = "", status: int = 200, pasted: str = "", typed: str = "") -
         said = "{} of {} recorded.".format(found.came[who][0], texts.count(
             found.came[who][1], "answer is", "answers are"))
     return flask.render_template(
-        "answers.html", shown=shown, ready=ready, digest=digest_of(ready), done=done,
+        "answers.html", shown=shown, ready=ready, digest=digest_of(ready),
+        done=done[-MOST_RECORDED:], recorded=len(done),
         wrong_decline=WRONG_DECLINE, marked=sum(bool(it.conflicts) for it in shown),
         names=names, words=WORDS, read=answer_rows.READ, said=said,
         is_bad=status != 200 or bool(failed), pasted=pasted,
@@ -133,16 +136,24 @@ def remove() -> Answer:
     """
     given, found = flask.request.form.get("number", ""), all_piles()
     if given in MANY:
-        return remove_all(given)
+        return remove_all(given, flask.request.form.get("digest", ""))
     chosen = [it for it in found.of(person().name)
               if given == str(it.number) or given == "done" and it.state == DONE]
     found.remove(person().name, (it.number for it in chosen))
     return back()
 
 
-def remove_all(which: str) -> Answer:
+@screen.get("/remove")
+@needs(RECORD)
+def ask_remove() -> Answer:
+    """The question before many are removed."""
+    which = flask.request.args.get("number", "")
+    return remove_all(which, "") if which in MANY else back()
+
+
+def remove_all(which: str, seen: str) -> Answer:
     """Shows all that would be removed, or removes what was shown."""
-    found, who, seen = all_piles(), person().name, flask.request.form.get("digest", "")
+    found, who = all_piles(), person().name
     shown = [it for it in found.shown(who, parts().desk.register())
              if which == "all" or it.conflicts]
     if not shown:
@@ -177,37 +188,46 @@ def choose() -> Answer:
     return back()
 
 
+@screen.get("/record")
+@needs(RECORD)
+def ask() -> Answer:
+    """The question before the pile is recorded, which names whom it concerns."""
+    register = parts().desk.now()
+    ready = ready_in(register, flask.request.args.get("digest", ""))
+    if isinstance(ready, str):
+        return page(ready, 409)
+    final = [it for it in ready if it.entry.is_final]
+    accepts = [it for it in ready if not it.entry.is_final]
+    schools = {code: it.name for code, it in register.schools.items()}
+    return flask.render_template(
+        "record_answers.html", ready=ready, final=final, digest=digest_of(ready),
+        bare=[it for it in accepts if it.entry.is_by_number_alone],
+        named=[it for it in accepts if not it.entry.is_by_number_alone],
+        schools=schools, words=WORDS, wrong_decline=WRONG_DECLINE,
+        places={it.entry.number: register.places.get(it.entry.meant.child or 0) for it in final})
+
+
+def ready_in(register: Register, digest: str) -> list[Shown] | str:
+    """What can be recorded of the pile, which is what was shown; or why nothing is."""
+    found, who = all_piles(), person().name
+    found.settle(who)
+    ready = [it for it in found.shown(who, register) if it.is_ready]
+    if digest_of(ready) != digest:
+        return ("The pile has changed since it was shown. Nothing was recorded: look at it"
+                " again.")
+    return ready or "There is nothing to record."
+
+
 @screen.post("/record")
 @needs(RECORD)
 def record() -> Answer:
-    """Records what was shown, one answer after another; where something is final, after a question
-    that names whom it concerns.
-    """
-    form, found, who = flask.request.form, all_piles(), person()
-    register = parts().desk.now()
-    found.settle(who.name)
-    ready = [it for it in found.shown(who.name, register) if it.is_ready]
-    if digest_of(ready) != form.get("digest", ""):
-        return page("The pile has changed since it was shown. Nothing was recorded: look at it"
-                    " again.", 409)
-    if not ready:
-        return page("There is nothing to record.", 409)
-    final = [it for it in ready if it.entry.is_final]
-    if final and form.get("sure") != "yes":
-        return ask(ready, final, register)
+    """Records what was shown, one answer after another."""
+    ready = ready_in(parts().desk.now(), flask.request.form.get("digest", ""))
+    if isinstance(ready, str):
+        return page(ready, 409)
     guard.record("records a pile", answers=len(ready))
     try:
-        found.record(who, [it.entry for it in ready], WAIT_SECONDS)
+        all_piles().record(person(), [it.entry for it in ready], WAIT_SECONDS)
     except Refused as error:
         return page(sentence(str(error)), 409)
     return flask.redirect(flask.url_for("answers.show", recorded="yes"), 303)
-
-
-def ask(ready: list[Shown], final: list[Shown], register: Register) -> Answer:
-    """The question before what is final, with all that is recorded."""
-    schools = {code: it.name for code, it in register.schools.items()}
-    return flask.render_template(
-        "record_answers.html", ready=ready, final=final,
-        accepts=[it for it in ready if not it.entry.is_final], digest=digest_of(ready),
-        schools=schools, words=WORDS, wrong_decline=WRONG_DECLINE,
-        places={it.entry.number: register.places.get(it.entry.meant.child or 0) for it in final})
