@@ -11,6 +11,7 @@ from applications import Site, child, office_over, site
 from conftest import make
 from offers import PAGE, enter, offered, pile, record, sent, shown
 from pages import Page, press
+from register_files import Refused
 from served import served
 
 from office.web import answers, piles
@@ -767,3 +768,27 @@ def test_what_is_recorded_fills_no_pile(
     assert found.status_code == 409 and "at most 3 answers" in Page(found.text).said()
     counted = office.parts.end.counts()
     assert counted["answers that wait in piles"] == 3
+
+
+def test_a_copy_is_made_before_plans_are_recorded(
+    office: Site, monkeypatch: pytest.MonkeyPatch,
+) -> None:
+    """By the pile, as a plan is final; without a copy nothing of it is recorded. Not for answers.
+    """
+    jane = office.browser("jane")
+    record(jane, enter(jane, "11"), "Record 1 answer")
+    assert office.copied == []
+    several(office, "plan,41,B,Zoe Zander\n")
+
+    def none(*_: object) -> int:
+        raise Refused("there is no copy: the disk is full")
+
+    before = len(sent(office))
+    with monkeypatch.context() as patch:
+        patch.setattr(office.parts.copies, "make", none)
+        record(jane, shown(jane), "Record 1 answer")
+    assert "There is no copy: the disk is full." in pile(shown(jane))[0][5]
+    assert len(sent(office)) == before and office.copied == []
+    record(jane, shown(jane), "Record 1 answer")
+    assert kinds(office)[41] == "plan"
+    assert office.copied == ["before EHC plans are recorded"]

@@ -10,6 +10,7 @@ import pytest
 from applications import ROUND, Browser, Site, child, office_over, town
 from conftest import ROOT
 from pages import Page, press
+from register_files import Refused
 
 from office.web import children, corrections, effects, flags, wording
 from office.web.people import Person
@@ -263,6 +264,30 @@ def test_a_plan_is_chosen_and_ends_a_place(office: Site) -> None:
     page = Page(jane.get("/children/1").text)
     assert page.by_id["place"] == "The child has a place at Beta by a plan."
     assert "/children/1/plan" not in page.text and "/children/1/decline" not in page.text
+
+
+def test_a_copy_is_made_before_a_plan_is_recorded(
+    office: Site, monkeypatch: pytest.MonkeyPatch,
+) -> None:
+    """Without it the plan is not recorded; and none is made for a page from before a change."""
+    jane, path = office.browser("jane"), "/children/1/plan?school=B"
+    page, button = Page(jane.get(path).text), "Give Ada Abel a place at Beta by a plan"
+    assert "A copy of the register is made first" in page.by_id["becomes"]
+
+    def none(*_: object) -> int:
+        raise Refused("there is no copy: the disk is full")
+
+    with monkeypatch.context() as patch:
+        patch.setattr(office.parts.copies, "make", none)
+        found = press(jane, path, page, button)
+    assert found.status_code == 409 and "There is no copy" in Page(found.text).said()
+    assert sent(office) == []
+    assert press(jane, path, page, button).status_code == 303
+    assert office.copied == ["before EHC plans are recorded"]
+    late = press(jane, path, page, button)
+    assert late.status_code == 409 and len(office.copied) == 1
+    act(jane, "/children/3/accept", "Accept Beta for Cyd <b>Cole</b>")
+    assert len(office.copied) == 1
 
 
 def test_a_correction_shows_what_it_changes(office: Site) -> None:

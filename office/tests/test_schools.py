@@ -14,6 +14,7 @@ from applications import ORIGIN, ROUND, SCHOOLS, Browser, Site, child, office_ov
 from conftest import make
 from hostile import MAIN, row_of, workbook
 from pages import Page, press
+from register_files import Refused
 from served import served
 
 from office.model import Register
@@ -107,6 +108,30 @@ def test_a_school_is_typed_and_shown_whole_before_it_is_stored(empty: Site) -> N
     assert Draft(empty.parts.store).rows() == []
     who = [(it.who, it.what) for it in empty.parts.history.entries]
     assert ("jane", "added to the draft of schools") in who and ("jane", "sends") in who
+
+
+def test_a_copy_is_made_before_schools_are_stored(
+    empty: Site, monkeypatch: pytest.MonkeyPatch,
+) -> None:
+    """As a school is final; without it nothing is stored, nor while the register is closed."""
+    jane = empty.browser("jane")
+    page = drafted(jane)
+    question = Page(press(jane, "", page, "Store 2 schools").text)
+    assert "A copy of the register is made first" in question.text and empty.copied == []
+
+    def none(*_: object) -> int:
+        raise Refused("there is no copy: the disk is full")
+
+    for name, found, said in (("make", none, "There is no copy: the disk is full."),
+                              ("closed", lambda: "Closed for draw 1 by hal.", "Closed for draw 1")):
+        with monkeypatch.context() as patch:
+            target = empty.parts.copies if name == "make" else empty.parts.desk
+            patch.setattr(target, name, found)
+            late = press(jane, "", question, "Store 2 schools")
+        assert late.status_code == 409 and said in Page(late.text).said()
+        assert sent(empty) == [] and empty.copied == []
+    assert press(jane, "", question, "Store 2 schools").status_code == 200
+    assert empty.copied == ["before schools are stored"] and len(stored(empty)) == 2
 
 
 def test_schools_are_asked_whole_before_they_are_stored(empty: Site) -> None:
@@ -343,7 +368,7 @@ def test_storing_goes_on_where_it_stopped(empty: Site, monkeypatch: pytest.Monke
     desk, draft = empty.parts.desk, Draft(empty.parts.store)
     shown = digest(schools.lines_of(draft.rows(), {}, {}))
     with pytest.raises(KeyboardInterrupt):
-        store_all(desk, Person("jane", "officer"), draft, {}, shown)
+        store_all(desk, empty.parts.copies, Person("jane", "officer"), draft, {}, shown)
     assert [it["school"] for it in stored(empty)] == ["A", "B"]
     monkeypatch.setattr(Draft, "remove", kept)
     page = Page(jane.get("/schools/new/").text)
@@ -425,7 +450,8 @@ def test_a_school_with_other_data_is_named(empty: Site) -> None:
         return kept(who, command, *more)
 
     setattr(desk, "send", late)
-    outcome, = store_all(desk, Person("jane", "officer"), draft, {}, digest(lines))
+    outcome, = store_all(
+        desk, empty.parts.copies, Person("jane", "officer"), draft, {}, digest(lines))
     assert not outcome.result.is_done and len(draft.rows()) == 1
     assert "Admission number 99 there, 12 here" in outcome.result.said
 

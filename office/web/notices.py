@@ -22,6 +22,7 @@ from .notice_marks import Marks, waiting
 from .people import Person
 from .piles import DONE, SENDING, WAITS
 from .records import came_of, ends_of
+from .safeguard import copied
 from .store import Store
 
 REMIND, LAPSE = "remind", "lapse"
@@ -199,14 +200,10 @@ class Notices:
         try:
             self.settle(number)
             row = self.get(number)
-            with self.desk.lock:
-                if said := self.desk.closed():
-                    # (a copy from before a draw or a restore would undo that too)
-                    raise Refused(f"{said} Nothing was recorded.")
-                if row.copy is None:
-                    what = "reminders" if row.kind == REMIND else "withdrawals"
-                    copy = self.copies.make(f"before {what} of {row.day}", who.name)
-                    self.change(number, "copy=?", copy)
+            if row.copy is None:
+                what = "reminders" if row.kind == REMIND else "withdrawals"
+                copy = copied(self.desk, self.copies, f"before {what} of {row.day}", who)
+                self.change(number, "copy=?", copy)
             self.change(number, "said=?", "")
             for it in row.notices:
                 if it.state == WAITS and not self.send(who, row, it):

@@ -14,13 +14,17 @@ from office.model import Register
 
 from . import answers
 from .answers import Entry, Meant, Names
+from .copies import Copies
 from .desk import LOST, UNSENT, Desk, Result, Seen, seen_of
 from .history import SENDS
 from .people import Person
 from .records import came_of, ends_of
+from .safeguard import copied
 from .store import Store
+from .wording import sentence
 
 WAITS, SENDING, DONE = "waits", "sending", "done"
+BEFORE_PLANS = "before EHC plans are recorded"
 # a pile of a season, and more than a person types in a day
 MOST = 2000
 FIELDS = ("person", "typed", "kind", "child", "school", "name", "trouble", "seen", "state", "said",
@@ -71,8 +75,8 @@ def see_size(db: sqlite3.Connection, person: str) -> None:
 class Piles:
     """The piles of one application, and which of them are being recorded."""
 
-    def __init__(self, store: Store, desk: Desk) -> None:
-        self.store, self.desk = store, desk
+    def __init__(self, store: Store, desk: Desk, copies: Copies) -> None:
+        self.store, self.desk, self.copies = store, desk, copies
         self.lock = threading.Lock()
         self.running: dict[str, threading.Thread] = {}
         # of those that were recorded last: how many are done, and how many were to be
@@ -194,8 +198,16 @@ class Piles:
         thread.join(wait)
 
     def send_all(self, who: Person, entries: list[Entry]) -> None:
-        """Sends entries one after another, until the end or until nothing can be sent."""
+        """Sends entries one after another, until the end or until nothing can be sent; those with
+        a plan after a copy of the register.
+        """
         self.came[who.name] = 0, len(entries)
+        if any(it.meant.kind == "name_plan" for it in entries):
+            try:
+                copied(self.desk, self.copies, BEFORE_PLANS, who)
+            except Refused as error:
+                self.set_state(entries[0].number, WAITS, sentence(str(error)))
+                return
         for entry in entries:
             command = entry.command
             if command is None or not self.begin(entry):

@@ -11,13 +11,16 @@ from register_files import Refused
 from office.rules import LIMITS
 
 from . import schools
+from .copies import Copies
 from .desk import DIFFERS, DONE, LOST, UNSENT, Desk, Result, seen_of
 from .flags import Words
 from .people import Person
+from .safeguard import copied
 from .schools import Cells, Line
 from .store import Store
 
 MOST = LIMITS["schools"].most
+PURPOSE = "before schools are stored"
 THERE = Result(DONE, "The register has it already, with the same data.")
 CHANGED = Result(DIFFERS, "The line was changed or removed since it was shown. Nothing was stored"
                           " for it.")
@@ -98,10 +101,12 @@ def is_ready(lines: list[Line]) -> bool:
     return bool(lines) and all(it.command is not None for it in lines)
 
 
-def store_all(desk: Desk, who: Person, draft: Draft, words: Words, shown: str) -> list[Outcome]:
-    """Stores the schools of a draft as it was shown, in its order. One that is stored leaves the
-    draft, so that after an interruption the others go on; one that the register has with the same
-    data is stored.
+def store_all(
+    desk: Desk, copies: Copies, who: Person, draft: Draft, words: Words, shown: str,
+) -> list[Outcome]:
+    """Stores the schools of a draft as it was shown, in its order, after a copy of the register.
+    One that is stored leaves the draft, so that after an interruption the others go on; one that
+    the register has with the same data is stored.
     """
     known = desk.now().schools
     lines = schools.lines_of(draft.rows(), known, words)
@@ -111,6 +116,8 @@ def store_all(desk: Desk, who: Person, draft: Draft, words: Words, shown: str) -
     if not is_ready(lines):
         raise Refused("the draft has lines that are not right. Nothing was stored")
     schools.see_count(lines, known)
+    if not all(it.is_there for it in lines):
+        copied(desk, copies, PURPOSE, who)
     found = []
     for line in lines:
         assert line.command is not None

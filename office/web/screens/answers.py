@@ -32,7 +32,7 @@ MANY = ("all", "marked")
 
 def all_piles() -> Piles:
     """The piles of this application."""
-    made = Piles(parts().store, parts().desk)
+    made = Piles(parts().store, parts().desk, parts().copies)
     return cast(Piles, flask.current_app.extensions.setdefault("piles", made))
 
 

@@ -15,7 +15,9 @@ from ..children import ACTIONS, FIELDS, Question
 from ..desk import Seen, seen_of
 from ..guard import needs, parts, person
 from ..people import NOTES, READ, RECORD
+from ..piles import BEFORE_PLANS
 from ..points import TYPED, Point
+from ..safeguard import copied
 from ..staging_points import Keys
 from ..staging_tools import tools
 from ..wording import sentence
@@ -180,7 +182,13 @@ def record(number: int, name: str) -> Answer:
                             " and not shown before. What becomes of it with this day is below.",
                             409)
         command["day"] = day.isoformat()
-    result = parts().desk.send(person(), command, Seen(form.get("seen", "")))
+    seen = Seen(form.get("seen", ""))
+    try:
+        if name == "plan" and not parts().desk.changed(child_in(number), command, seen):
+            copied(parts().desk, parts().copies, BEFORE_PLANS, person())
+    except Refused as error:
+        return ask_page(number, name, sentence(str(error)), 409)
+    result = parts().desk.send(person(), command, seen)
     if not result.is_done:
         return ask_page(number, name, result.said, 409)
     return flask.redirect(flask.url_for("child.show", number=number, recorded="yes"), 303)

@@ -212,7 +212,7 @@ def store() -> Answer:
         if flask.request.form.get("sure") != "yes" and (asked := ask(shown)):
             return asked
         found = school_drafts.store_all(
-            parts().desk, person(), draft(), flags.present(), shown)
+            parts().desk, parts().copies, person(), draft(), flags.present(), shown)
     except Refused as error:
         return page(said=sentence(str(error)), status=409)
     done = sum(it.result.outcome == DONE for it in found)
