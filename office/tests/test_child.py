@@ -3,7 +3,7 @@ history.
 """
 import datetime
 import pathlib
-from collections.abc import Iterator
+from collections.abc import Callable, Iterator
 from typing import Any
 
 import pytest
@@ -12,7 +12,9 @@ from conftest import ROOT
 from pages import Page, press
 from register_files import Refused
 
+from office.senders import Ended
 from office.web import children, corrections, effects, flags, wording
+from office.web.desk import LOST
 from office.web.people import Person
 from office.web.screens import child as screen
 
@@ -439,6 +441,30 @@ def test_an_import_is_the_first_entry_of_a_child(office: Site) -> None:
     assert table[1][2] == "data corrected: East, in metres 1 → 7"
 
 
+@pytest.mark.parametrize("before, command", [
+    ([], {"cmd": "apply", "child": 1, "day": "2024-10-31", "preferences": ["B", "A"]}),
+    ([{"cmd": "remind", "child": 3, "school": "B", "day": "2025-03-18"}],
+     {"cmd": "remind", "child": 3, "school": "B", "day": "2025-03-19"})])
+def test_what_was_refused_without_an_answer_is_not_done(
+    office: Site, monkeypatch: pytest.MonkeyPatch, before: list[dict[str, Any]],
+    command: dict[str, Any],
+) -> None:
+    """Also where the register has nearly the same: its list in another order, a reminder of another
+    day.
+    """
+    desk, sender = office.parts.desk, office.parts.desk.sender
+    for it in before:
+        assert desk.send(Person("bo", "officer"), it).is_done
+
+    def lost(line: bytes, send: Callable[[bytes], bytes] = sender.send) -> bytes:
+        assert b"refused" in send(line)
+        raise Ended("the answer is lost", True)
+
+    monkeypatch.setattr(sender, "send", lost)
+    result = desk.send(Person("jane", "officer"), command)
+    assert result.outcome == LOST and "It was not done" in result.said
+
+
 def test_an_import_is_read_as_the_register_reads_it(office: Site) -> None:
     """With a byte order mark, lines that end with CR, and quotes: it is in the history of its
     children, and is known to be done where its answer was lost.
@@ -447,6 +473,9 @@ def test_an_import_is_read_as_the_register_reads_it(office: Site) -> None:
     fay = "\"12\",\"Abel, Fay\",1,2,no,,,2024-10-20,A;B"
     data = "\ufeff" + "\r".join([header, fay, "13,Gil,1,2,no,,,2024-10-21,B", ""])
     assert not effects.is_imported(office.parts.desk.now(), data)
+    # (one whose child is there already, and another that is not)
+    known = f"{header}\n1,Ada Abel,0,100,no,,,2024-10-31,A;B\n13,Gil,1,2,no,,,2024-10-21,B\n"
+    assert not effects.is_imported(office.parts.desk.now(), known)
     result = office.parts.desk.send_import(Person("jane", "officer"), data.encode())
     assert result.is_done, result
     assert effects.is_imported(office.parts.desk.now(), data)

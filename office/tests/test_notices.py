@@ -296,6 +296,19 @@ def test_a_row_that_was_killed_is_settled_by_a_look(office: Site) -> None:
     assert len(sends) == 2 and len(office.parts.history.entries) == count_before
 
 
+def test_an_equal_reminder_of_before_is_not_this_one(office: Site) -> None:
+    """The application ended before it sent one: what was sent before that does not say that it is
+    recorded.
+    """
+    jane = office.browser("jane")
+    row = confirmed(jane, "remind", shown(jane, "remind", "18 March 2025", [1, 2])).location
+    with office.parts.store.writing() as db:
+        db.execute("UPDATE notice SET state='sending', said='', after=? WHERE place=0",
+                   (len(office.parts.history.entries),))
+    text = jane.get(row).text
+    assert "1 of 2 reminders recorded" in text and "Record the other 1" in text
+
+
 def test_who_may_have_answered_is_not_ticked_at_first(office: Site) -> None:
     """An answer in a pile, by its number or by a name alone; 'Tick all' has them too."""
     jane, bo = office.browser("jane"), office.browser("bo")

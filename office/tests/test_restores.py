@@ -25,6 +25,7 @@ from pages import Page, press
 from register_files import Refused
 
 from office.model import Register
+from office.senders import Ended
 from office.web import copies, draws_again, lineage, restores, restores_again
 from office.web.answers import Meant
 from office.web.desk import Result
@@ -223,6 +224,30 @@ def test_a_copy_is_restored_and_what_is_ticked_is_sent_again(small: Machine) -> 
         before.see(room.now())
         assert {it.number for it in office.parts.history.done()} == {
             at[it] for it in ("amend", "raise_pan", "add_child", "apply", "import")}
+
+
+def test_what_had_no_answer_is_among_what_came_since(
+    small: Machine, monkeypatch: pytest.MonkeyPatch,
+) -> None:
+    """The register has it, and by a look at it the history knows; it is sent again if it is ticked.
+    """
+    with small.office() as office:
+        room, sender = Room(office), office.parts.desk.sender
+        room.copy_now()
+
+        def lost(line: bytes, send: Callable[[bytes], bytes] = sender.send) -> bytes:
+            send(line)
+            raise Ended("the answer is lost", True)
+
+        with monkeypatch.context() as patch:
+            patch.setattr(sender, "send", lost)
+            sent(office, (HAL, RAISED))
+        number = room.begin(1)
+        listed = text_of(room.hal.get(f"/restores/{number}").text, "since")
+        assert "hal admission number of OAK raised to 2" in listed
+        assert room.press(room.hal, number, "ask", (room.since()["raise_pan"],)).status_code == 303
+        assert room.press(room.jane, number, "confirm").status_code == 303
+        assert room.now().schools["OAK"].pan == 2
 
 
 @pytest.mark.parametrize("is_again", [False, True])
