@@ -45,7 +45,7 @@ def seen_in(seen: str) -> Cells:
     """The data that somebody saw, as a form has them; nothing of what is no such data."""
     try:
         found = json.loads(seen)
-    except ValueError:
+    except (ValueError, RecursionError):
         return {}
     return {name: texts.cell_of(it) for name, it in found.items()} if isinstance(
         found, dict) else {}
