@@ -83,7 +83,7 @@ TEXTS: dict[str, set[str]] = {
     "new_schools.last_year": set(),
     "new_schools.remove": {"number", "digest"},
     "new_schools.sheet": set(),
-    "new_schools.store": {"digest", "sure"},
+    "new_schools.store": {"digest"},
     "notes.add": {"text"},
     "notes.add_file": {"text"},
     "notes.remove": {"why"},

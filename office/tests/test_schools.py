@@ -484,7 +484,7 @@ def test_nothing_is_stored_while_the_register_is_closed(empty: Site) -> None:
     empty.parts.desk.closed = lambda: "Closed for draw 1 by hal."
     found = stores(jane, "", page, "Store 2 schools")
     assert found.status_code == 409
-    assert Page(found.text).tables["outcomes"][1][2] == "Closed for draw 1 by hal."
+    assert Page(found.text).said() == "Closed for draw 1 by hal. Nothing was recorded."
     assert sent(empty) == [] and len(Draft(empty.parts.store).rows()) == 2
 
 

@@ -4,10 +4,11 @@ shown whole before, since a school is final.
 import dataclasses
 import hashlib
 import json
-from collections.abc import Iterable
+from collections.abc import Iterable, Mapping
 
 from register_files import Refused
 
+from office.model import School
 from office.rules import LIMITS
 
 from . import schools
@@ -101,14 +102,10 @@ def is_ready(lines: list[Line]) -> bool:
     return bool(lines) and all(it.command is not None for it in lines)
 
 
-def store_all(
-    desk: Desk, copies: Copies, who: Person, draft: Draft, words: Words, shown: str,
-) -> list[Outcome]:
-    """Stores the schools of a draft as it was shown, in its order, after a copy of the register.
-    One that is stored leaves the draft, so that after an interruption the others go on; one that
-    the register has with the same data is stored.
-    """
-    known = desk.now().schools
+def lines_shown(
+    known: Mapping[str, School], draft: Draft, words: Words, shown: str,
+) -> list[Line]:
+    """The lines of a draft as it was shown, each of which can be stored."""
     lines = schools.lines_of(draft.rows(), known, words)
     if digest(lines) != shown:
         raise Refused("the draft was changed since it was shown: look at it again. Nothing was"
@@ -116,6 +113,17 @@ def store_all(
     if not is_ready(lines):
         raise Refused("the draft has lines that are not right. Nothing was stored")
     schools.see_count(lines, known)
+    return lines
+
+
+def store_all(
+    desk: Desk, copies: Copies, who: Person, draft: Draft, words: Words, shown: str,
+) -> list[Outcome]:
+    """Stores the schools of a draft as it was shown, in its order, after a copy of the register.
+    One that is stored leaves the draft, so that after an interruption the others go on; one that
+    the register has with the same data is stored.
+    """
+    lines = lines_shown(desk.now().schools, draft, words, shown)
     if not all(it.is_there for it in lines):
         copied(desk, copies, PURPOSE, who)
     found = []

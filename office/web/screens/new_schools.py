@@ -171,18 +171,25 @@ def change(number: int) -> Answer:
 @screen.post("/remove")
 @needs(RECORD)
 def remove() -> Answer:
-    """Removes a line, or after a question all."""
+    """Removes a line, or all lines as they were shown."""
     given, seen = (flask.request.form.get(it, "") for it in ("number", "digest"))
     rows = [(it, cells) for it, cells in draft().rows() if given in ("all", str(it))]
     if given == "all" and rows and seen != school_drafts.digest_of_rows(rows):
-        return ask_removal(rows, bool(seen))
+        return removal(rows, True)
     guard.record("removed from the draft of schools", lines=[cells for _, cells in rows])
     draft().remove(*(it for it, _ in rows))
     return to_draft("removed")
 
 
-def ask_removal(rows: list[tuple[int, Cells]], is_changed: bool) -> Answer:
+@screen.get("/remove")
+@needs(RECORD)
+def ask_removal() -> Answer:
     """The question before all lines are removed."""
+    return removal(draft().rows(), False)
+
+
+def removal(rows: list[tuple[int, Cells]], is_changed: bool) -> Answer:
+    """All lines, to be removed."""
     said = "The draft has changed since it was shown. Nothing was removed: look at it again."
     return flask.render_template(
         "remove_all.html", said=said if is_changed else "",
@@ -192,12 +199,15 @@ def ask_removal(rows: list[tuple[int, Cells]], is_changed: bool) -> Answer:
         button=f"Remove {texts.count(len(rows), 'school')}"), 409 if is_changed else 200
 
 
-def ask(shown: str) -> Answer:
-    """The question before schools are stored, or "" where they cannot be, as storing says."""
-    words = flags.present()
-    lines = schools.lines_of(draft().rows(), parts().desk.now().schools, words)
-    if school_drafts.digest(lines) != shown or not school_drafts.is_ready(lines):
-        return ""
+@screen.get("/store")
+@needs(RECORD)
+def ask() -> Answer:
+    """The question before schools are stored, with the draft whole."""
+    shown, words = flask.request.args.get("digest", ""), flags.present()
+    try:
+        lines = school_drafts.lines_shown(parts().desk.now().schools, draft(), words, shown)
+    except Refused as error:
+        return page(said=sentence(str(error)), status=409)
     return flask.render_template(
         "store_schools.html", lines=lines, order={it.number: order_of(it, words) for it in lines},
         digest=shown, button=f"Store {texts.count(len(lines), 'school')}")
@@ -206,11 +216,9 @@ def ask(shown: str) -> Answer:
 @screen.post("/store")
 @needs(RECORD)
 def store() -> Answer:
-    """Shows the draft whole, or stores what was shown and confirmed."""
+    """Stores what was shown and confirmed."""
     shown = flask.request.form.get("digest", "")
     try:
-        if flask.request.form.get("sure") != "yes" and (asked := ask(shown)):
-            return asked
         found = school_drafts.store_all(
             parts().desk, parts().copies, person(), draft(), flags.present(), shown)
     except Refused as error:
