@@ -103,6 +103,9 @@ def taken_and_sent(office: Office, day: datetime.date, wanted: Mapping[int, Iter
     """
     report, hal, season = office.report, office.people[HAL], office.season
     count = f"{len(wanted)} letter{'s' * (len(wanted) != 1)}"
+    field = hal.driver.find_element(By.ID, "day").get_attribute("value") or ""
+    # (where no day can be today the letters are of another one, which the field proposes)
+    on = day if office.clock else datetime.date.fromisoformat(field)
     address = hal.driver.find_element(By.ID, "take").get_attribute("href") or ""
     hal.press(f"Take the file: {count}", is_new=False)
     number = address.split("/")[-2]
@@ -110,15 +113,21 @@ def taken_and_sent(office: Office, day: datetime.date, wanted: Mapping[int, Iter
     report.same(sorted(letters), sorted(wanted), f"whose letters about the {about} are in the file")
     for child, texts in wanted.items():
         letter = letters.get(child, "")
-        for it in (season.children[child].name, in_words(day), *texts):
+        for it in (season.children[child].name, in_words(on), *texts):
             report.see(plain(it) in letter, f"the letter of child {child} has {it!r}: {letter}")
     hal.press(f"Record {count} as sent")
-    sent = f"sent on {in_words(office.day)}, by {hal.who}"
+    if hal.has(sure := f"They were sent on {in_words(on)}"):
+        # (a day long ago)
+        hal.press(sure, is_new=False)
+        hal.press(f"Record {count} as sent")
+        office.ticks += 2
+    on = office.day if office.clock else on
+    sent = f"sent on {in_words(on)}, by {hal.who}"
     report.same(hal.facts().get("State"), sent, "the state of the letters")
     first = min(wanted)
     hal.open(f"/children/{first}", "A child with letters")
     rows = [row for row in hal.captioned("") if len(row) == 5 and about in row[1]]
-    report.same([(row[0], row[3]) for row in rows], [(in_words(office.day), hal.who)],
+    report.same([(row[0], row[3]) for row in rows], [(in_words(on), hal.who)],
                 f"the letter about the {about} on the screen of child {first}")
 
 

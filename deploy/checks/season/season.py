@@ -14,7 +14,7 @@ from .site import Site
 
 # what a season should cost in clicks; and how often what looks wrong is said to be right where the
 # draws are held on another day than that of the office: once for each
-AIM, TICKS = 60, 4
+AIM, TICKS = 60, 6
 # the school at which vacancies are filled, and how many; and so many days after the offer day are
 # the fills and the second round
 SCHOOL, FILLS, AFTER_FILLS, AFTER_SECOND = "A", 3, 21, 56
@@ -151,10 +151,10 @@ STEPS: tuple[tuple[Callable[[Office], None], int], ...] = (
     (fills, 6),
     # the same, and the ticks
     (withdrawals, 6),
-    # the wrong draw (6) and two answers (2); the close, the question, and for the officer the
-    # restore and its confirmation (4); the draw again (5 and the seal of all lots); and the answer
-    # to its offer (2)
-    (second_round, 19),
+    # the wrong draw (6) and two answers with their question (3); the close, the question, and for
+    # the officer the restore and its confirmation (4); the draw again (5 and the seal of all lots);
+    # and the answer to its offer (2)
+    (second_round, 20),
     (ending.figures, 3),
     (ending.question, 4),
     (other_screens, 0),
