@@ -118,8 +118,9 @@ def odd_days(
                     f"; it is after the closing date too, {closing}")
                 yield row, f"in the future: today is {today}{late}. Is it right?", False
             elif not register.is_in_time(day):
-                yield row, (f"after the closing date, {closing}: it takes no part in the first"
-                            " round"), False
+                what = ("the first round was held without it" if register.draws else
+                        "it takes no part in the first round")
+                yield row, f"after the closing date, {closing}: {what}", False
             elif (closing - day).days > days.EARLIEST_DAYS:
                 yield row, (f"{days.EARLIEST} before the closing date, {closing}: is the year"
                             " right?"), False

@@ -184,9 +184,11 @@ def codes(text: str, known: Mapping[str, School], limit: Limit) -> Field:
 
 
 def alike(code: str, known: Mapping[str, School]) -> str:
-    """A school's code that differs in one letter alone, as a question."""
+    """A school's code that differs by one letter alone, as a question."""
     near = [
-        it for it in known if len(it) == len(code) and sum(a != b for a, b in zip(it, code)) == 1
+        it for it in known
+        if len(it) == len(code) and sum(a != b for a, b in zip(it, code)) == 1
+        or texts.is_one_slip(code, it)
     ]
     return f"; is {near[0]} meant?" if len(near) == 1 else ""
 

@@ -21,8 +21,9 @@ from letter_site import (
 )
 from pages import Page
 from register_files import Refused
-from served import served
+from served import do_over, served
 
+from office import printed
 from office.web import letters_whom
 from office.web.screens import letters as screen
 from office.web.letters_sets import Asked
@@ -190,11 +191,14 @@ def test_nobody_is_sent_a_letter_twice_by_a_slip(office: Site) -> None:
     page = hal.get("/letters/whom?whom=offers&value=1").text
     assert page.count("sent on 3 March 2025, by jane") == 2
     assert "2 children have this letter already" in page
-    status, page = recorded(hal, other)
+    day = {"day": "4 March 2025", "sure_of": "2025-03-04"}
+    status, page = recorded(hal, other, **day)
     assert status == 409 and "2 children have this letter already. Nothing was recorded" in page
     assert count(office, "letter_set WHERE sent IS NOT NULL") == 1
-    assert jane.post(f"{one}/record", {"count": "2", **SENT_ON}).status_code == 400
-    assert recorded(hal, other, agreed="yes")[0] == 303
+    late = hal.post(f"{one}/record", {"count": "2", **SENT_ON})
+    assert late.status_code == 400
+    assert "These letters were recorded already, as sent on 3 March 2025 by jane." in late.text
+    assert recorded(hal, other, agreed="yes", **day)[0] == 303
     assert office.parts.history.entries[-1].about["again"] == [1, 2]
 
 
@@ -243,16 +247,43 @@ def test_neither_drafts_nor_fewer_letters_are_recorded_as_sent(tmp_path: pathlib
 def test_a_child_that_keeps_its_place_in_a_later_round_has_no_letter_of_an_offer(
     tmp_path: pathlib.Path,
 ) -> None:
-    """OAK has a second place: child 2 lives next and moves there, and all others stay where they
-    are. All five took part.
+    """OAK has a second place: of the four that wait there child 2 lives next and moves; all others,
+    who took part too, stay where they are.
     """
-    again = {"cmd": "round", "draw": 2, "day": "2025-03-17", "lots": list(range(1, 10))}
+    again = {"cmd": "round", "draw": 2, "day": "2025-03-17", "lots": [1, 2, 3, 4]}
     make(tmp_path / "reg.db", [
         *commands(), ROUND, {"cmd": "raise_pan", "school": "OAK", "pan": 2}, again])
     with served(tmp_path / "reg.db") as (address, _), audited(tmp_path, address) as office:
         jane = office.browser("jane")
         assert asked(jane, "offers", "2")["child"] == ["2"]
         assert asked(jane, "part", "2")["child"] == list("12345")
+
+
+def test_letters_of_a_register_that_changes_meanwhile_are_not_made(
+    tmp_path: pathlib.Path, monkeypatch: pytest.MonkeyPatch,
+) -> None:
+    """All letters of a set are of one state, also where another program changes it meanwhile."""
+    with after_round(tmp_path) as address, audited(tmp_path, address) as office:
+        jane, real = office.browser("jane"), printed.served
+
+        def late(*given: Any) -> Any:
+            do_over(address, [{"cmd": "decline", "child": 5, "school": "ELM"}])
+            return real(*given)
+
+        form = asked(jane, "offers", "1", child=["1", "2"])
+        monkeypatch.setattr(printed, "served", late)
+        page = waited(jane, jane.post("/letters/make", form).location)
+        assert "the register was changed while its letters were read" in page
+
+
+def test_a_withdrawal_that_the_register_has_not_is_told_to_nobody(office: Site) -> None:
+    """As where somebody restored it past the application: the child has its offer."""
+    lapse = {"cmd": "lapse", "child": 2, "school": "ELM", "day": "2025-04-02"}
+    history = office.parts.history
+    entry = history.add("jane", "sends", {"command": lapse})
+    history.add("jane", "answer", {"of": entry.number, "answer": {"done": True}})
+    page = office.browser("jane").get("/letters/whom?whom=withdrawn&value=2 April 2025").text
+    assert "Withdrawn on 2 April 2025" in page and 'name="child"' not in page
 
 
 def test_a_day_on_which_letters_cannot_have_been_sent_is_refused(

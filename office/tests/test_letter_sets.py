@@ -24,6 +24,7 @@ from office.letters_apart import Running
 from office.model import Draw
 from office.web import letters_audits, letters_sets, letters_whom, people, rehearsal
 from office.web.draws_store import DrawStore
+from office.web.draws_terms import AUDITED
 from office.web.history import History, now
 from office.web.letters_audits import Audits
 from office.web.letters_sets import Asked, Sets
@@ -260,6 +261,23 @@ def test_an_audit_passes_over_a_copy_that_is_gone(office: Office) -> None:
         found = Audits(office.store, mock.MagicMock(), copies)
         assert found.audit(JANE, mock.Mock(), 3) == (True, "agrees")
     assert read == ["3", "6"]
+
+
+def test_letters_of_another_outcome_than_the_audited_one_are_drafts(office: Office) -> None:
+    """As where a round was sent past the application after that of the screen was restored: its
+    number is the same, and nobody has audited it.
+    """
+    held = mock.Mock(state=AUDITED, audit={"wrong": []},
+                     rehearsal={"outcomes": [[1, 7, None, "OAK", True], [1, 8, None, None, False]]})
+    held.terms = mock.Mock(first=1, fills=1)
+    audits = Audits(office.store, mock.Mock(**{"listed.return_value": [held]}), mock.Mock())
+    for outcomes, fresh, agreed in (
+        ({7: "OAK", 8: None}, {7: True, 8: False}, {1}),
+        ({7: None, 8: "OAK"}, {7: False, 8: True}, set[int]()),
+        ({7: "OAK", 8: None}, {7: False, 8: False}, set[int]()),
+    ):
+        register = mock.Mock(draws=[mock.Mock(number=1)], outcomes={1: outcomes}, fresh={1: fresh})
+        assert audits.agreed(register) == agreed
 
 
 def test_a_mail_merge_is_written_by_a_process_that_can_be_ended(tmp_path: pathlib.Path) -> None:

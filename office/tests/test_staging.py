@@ -440,6 +440,22 @@ def test_a_row_of_another_form_is_kept_and_confirmed(office: Site, screens: Scre
     assert confirmed == ["row 2 of a.csv", "row 4 of a.csv"]
 
 
+def test_what_is_said_of_a_cell_fits_the_register(tmp_path: pathlib.Path) -> None:
+    """A code that lacks one letter is asked about; and a late day is said to be of no round to come
+    once the round was held.
+    """
+    held = {"cmd": "round", "draw": 1, "day": "2025-03-03", "lots": [1]}
+    with office_over(tmp_path, [school("OAK"), school("ELMS", east=500), child(7, east=9000),
+                                apply(7, ["ELMS"]), held]) as office:
+        screens = Screens(office.browser("jane"))
+        screens.add(("a.csv", lines([changed(changed(GOOD[3], 8, "ELM"), 7, "2024-11-05")])))
+        seen = screens.see()
+        row = seen.row("row 2 of a.csv")
+        assert "ELM is none of its schools; is ELMS meant?" in seen.said(row, "preferences")
+        assert seen.said(row, "day") == (
+            "after the closing date, 2024-10-31: the first round was held without it")
+
+
 def test_a_letter_that_was_lost_is_looked_for(screens: Screens) -> None:
     """A spreadsheet writes a question mark where its encoding has no such letter; and many rows of
     one file with other letters are one question, not one for each.

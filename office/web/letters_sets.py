@@ -247,8 +247,8 @@ class Sets:
         with self.lock, self.store.lock:
             found = self.get(number)
             if found.sent:
-                raise Refused(f"{found.sent_by} has recorded these letters as sent on"
-                              f" {in_words(found.sent)} already")
+                raise Refused("these letters were recorded already, as sent on"
+                              f" {in_words(found.sent)} by {found.sent_by}")
             if found.state not in (MADE, GONE) or not found.made:
                 raise Refused("these letters are not made")
             if found.is_draft:
