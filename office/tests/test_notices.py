@@ -309,6 +309,30 @@ def test_an_equal_reminder_of_before_is_not_this_one(office: Site) -> None:
     assert "1 of 2 reminders recorded" in text and "Record the other 1" in text
 
 
+def test_an_offer_that_changed_since_it_was_shown_is_not_withdrawn(
+    office: Site, address: str, monkeypatch: pytest.MonkeyPatch,
+) -> None:
+    """A colleague's accept that comes while the register is copied: it is compared before it is
+    sent, and who recorded it is said.
+    """
+    beside(office, address, [
+        {"cmd": "remind", "child": it, "school": "ELM", "day": "2025-03-18"} for it in (2, 3)])
+    jane, make = office.browser("jane"), office.parts.copies.make
+    question = shown(jane, "lapse", "2 April 2025", [2, 3])
+
+    def meanwhile(*given: Any) -> int:
+        accept = {"cmd": "accept", "child": 3, "school": "ELM"}
+        assert office.parts.desk.send(Person("bo", "officer"), accept).is_done
+        return make(*given)
+
+    monkeypatch.setattr(office.parts.copies, "make", meanwhile)
+    confirmed(jane, "lapse", question)
+    with office.app.app_context():
+        row = screen.rows().get(1)
+    assert [it.state for it in row.notices] == ["done", "failed"]
+    assert row.notices[1].said.startswith("Child 3: bo recorded accept at ")
+
+
 def test_who_may_have_answered_is_not_ticked_at_first(office: Site) -> None:
     """An answer in a pile, by its number or by a name alone; 'Tick all' has them too."""
     jane, bo = office.browser("jane"), office.browser("bo")
