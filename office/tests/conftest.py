@@ -2,15 +2,17 @@
 
 The program is ADMISSIONS, or bin/admissions, or `admissions` in PATH.
 """
+import functools
 import json
 import os
 import pathlib
 import shutil
 import subprocess
 import sys
-from collections.abc import Callable, Iterable
+from collections.abc import Callable, Iterable, Iterator
 from typing import Any, Protocol
 
+import argon2
 import pytest
 
 sys.dont_write_bytecode = True
@@ -51,6 +53,17 @@ def pytest_terminal_summary(terminalreporter: Any) -> None:
     for it in terminalreporter.getreports("passed"):
         for name, value in it.user_properties:
             terminalreporter.write_line(f"{it.nodeid.rpartition('::')[2]}: {name}: {value}")
+
+
+@pytest.fixture(scope="session", autouse=True)
+def cheap_hashes_fixture() -> Iterator[None]:
+    """Passwords cost little to hash in this process: at what they cost an office, they would take
+    a third of the time of all tests.
+    """
+    cheap = functools.partial(argon2.PasswordHasher, time_cost=1, memory_cost=8, parallelism=1)
+    with pytest.MonkeyPatch.context() as patch:
+        patch.setattr(argon2, "PasswordHasher", cheap)
+        yield
 
 
 @pytest.fixture(name="hide")

@@ -4,6 +4,8 @@ import json
 import os
 import pathlib
 import sqlite3
+import subprocess
+import sys
 import threading
 import time
 import urllib.parse
@@ -12,6 +14,7 @@ from typing import Any
 
 import pytest
 from applications import ORIGIN, ROUND, Browser, Site, child, office_over, site, town
+from conftest import ROOT
 from pages import Page, press
 from register_files import Refused
 
@@ -286,6 +289,21 @@ def test_a_program_has_a_token(office: Site) -> None:
     assert client.get("/child/1", base_url=ORIGIN, headers=wrong).status_code == 401
     office.parts.people.lock("portal", True)
     assert client.get("/child/1", base_url=ORIGIN, headers=token).status_code == 401
+
+
+def test_a_password_is_dear_to_guess(tmp_path: pathlib.Path) -> None:
+    """Seen in a process of its own: in this one the tests make it cheap."""
+    code = ("import sys; sys.path[:0] = sys.argv[1:3]; from office.web import people, store;"
+            "people.People(store.Store(sys.argv[3])).add('jane', people.HEAD)")
+    kept = tmp_path / "office.db"
+    words = [sys.executable, "-c", code, str(ROOT), str(ROOT / "tools"), str(kept)]
+    subprocess.run(words, check=True)
+    with contextlib.closing(sqlite3.connect(kept)) as file:
+        [[hashed]] = file.execute("SELECT hash FROM person").fetchall()
+    # (of Debian 12 and 13; RFC 9106 recommends 64 MiB for machines with little memory)
+    kind, _, costs = hashed.split("$")[1:4]
+    kilobytes, times, _ = (int(it.partition("=")[2]) for it in costs.split(","))
+    assert kind == "argon2id" and kilobytes >= 65536 and times >= 2
 
 
 def test_people_are_added_and_kept_out(office: Site) -> None:
