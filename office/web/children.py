@@ -52,8 +52,8 @@ ACTIONS = {
         "name_plan", "Record an EHC plan", "Give {child} a place at {school} by a plan",
         "The child is admitted, also above the admission number. Its application ends: it waits"
         " nowhere any more, and a place elsewhere is vacant. A plan that is"
-        " recorded stays: it cannot be ended or changed. A copy of the register is made first: nobody"
-        " can read it for some seconds."),
+        " recorded stays: it cannot be ended or changed. A copy of the register is made first:"
+        " nobody can read it for some seconds."),
 }
 
 
