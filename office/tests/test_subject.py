@@ -14,7 +14,7 @@ import zlib
 from collections.abc import Iterator
 
 import pytest
-from applications import ROUND, Browser, Site, office_over, town
+from applications import ROUND, SCHOOLS, Browser, Site, child, office_over, town
 from conftest import make
 from pages import Page, press
 
@@ -95,6 +95,7 @@ def in_the_store(store: Store) -> None:
         add(db, "staged_file", id=50, name="both.csv", digest="d", is_form=0, is_uk=0,
             changes="[]", who="jane", added=AT)
         add(db, "draw", id=1, first=1, fills=0, day="2025-03-03", state="held", version=1,
+            digest="sealed",
             audit=json.dumps({"audits": [[f"child {at}: {sign}-audit" for at, sign, _ in ROWS]],
                               "wrong": []}))
         add(db, "copy", number=1, purpose="before", asked=AT)
@@ -177,6 +178,50 @@ def test_all_that_was_typed_of_a_child_is_in_both_and_nothing_of_another(office:
     assert "MINE-letter &amp; more" in page and "<script" not in page
 
 
+def test_an_entry_about_several_children_names_the_one_alone(office: Site) -> None:
+    found = office.browser("jane").get("/children/1/held.json").json["history"]
+    abouts = [it["about"] for it in found if it["what"] == "recorded letters as sent"]
+    assert [(it["children"], it.get("again")) for it in abouts] == [([1], None)] * 2
+
+
+def test_a_child_is_known_by_its_whole_number_and_not_by_its_name(
+    tmp_path_factory: pytest.TempPathFactory,
+) -> None:
+    """Children 1, 12 and 2, of whom 1 and 2 have one name: what is typed of each is held of that
+    one alone, on each screen.
+    """
+    named = {1: "Ada Abel", 12: "Lou Lane", 2: "Ada Abel"}
+    children = [child(number, name, 100 * number) for number, name in named.items()]
+    with office_over(tmp_path_factory.mktemp("alike"), [*SCHOOLS, *children]) as office:
+        jane = office.browser("jane")
+        for number in named:
+            path = f"/children/{number}/notes"
+            page = Page(jane.get(path).text)
+            button, text = f"Add the note to child {number}", f"note-{number}."
+            done = press(jane, path, page, button, text=text)
+            assert done.status_code == 303
+            given = {"file": (io.BytesIO(FILE), f"file-{number}.pdf")}
+            page = Page(jane.get(path).text)
+            done = press(jane, path, page, f"Add the file to child {number}", **given)
+            assert done.status_code == 303
+            jane.post("/answers/", {"entry": f"perhaps unread-{number}."})
+            row = {"child": str(number), "name": f"form-{number}."}
+            with office.parts.store.writing() as db:
+                if number == 1:
+                    add(db, "staged_file", id=9, name="forms", digest="f", is_form=1, is_uk=0,
+                        changes="[]", who="jane", added=AT)
+                add(db, "staged_row", file=9, number=number, cells=json.dumps(row), others="{}",
+                    notes="[]", state="open", who="jane", added=AT, changed_by="jane", changed=AT)
+        for number in named:
+            found = jane.get(f"/children/{number}/held.json")
+            abouts = [it["about"].get("child", number) for it in found.json["history"]]
+            assert len(abouts) > 1 and {str(it) for it in abouts} == {str(number)}
+            text = found.text
+            for kind in ("note", "file", "unread", "form"):
+                got = set(re.findall(rf"\b{kind}-(\d+)\.", text))
+                assert got == {str(number)}, (number, kind, got)
+
+
 def test_who_asked_is_on_record_before(office: Site) -> None:
     jane, before = office.browser("jane"), len(office.parts.history.entries)
     assert jane.get("/children/1/held.json").status_code == 200
@@ -205,7 +250,7 @@ def test_each_table_of_the_application_is_known(tmp_path: pathlib.Path) -> None:
     for table in names:
         query_of = f"SELECT name FROM pragma_table_info('{table}')"
         columns = {it["name"] for it in store.rows(query_of)}
-        assert ("child" in columns) == (table in subject.OF_CHILD)
+        assert ("child" in columns) == (table in (*subject.OF_CHILD, "lot"))
     store.close()
 
 

@@ -13,21 +13,19 @@ from typing import Any, Protocol
 from office import pages, texts
 from office.model import Register
 
+from .draws_terms import ENDED
 from .history import ANSWER, SENDS, SETTLED, Entry
 from .records import came_of, ends_of, points_in, row_in
 
-# the tables of the application's file: those of which a row is of one child, whose number is in
-# this column; those whose texts may name children in their lines; those that are read by a way of
-# their own; and those that say nothing of a child
-OF_CHILD = {
-    "note": "child", "child_file": "child", "letter": "child", "notice": "child",
-    "answer": "child", "letter_address": "child", "lot": "child",
-}
+# the tables of the application's file: those of which a row is of the child in its column of this
+# name; those whose texts may name children in their lines; those that are read by a way of their
+# own; and those that say nothing of a child
+OF_CHILD = ("note", "child_file", "letter", "notice", "answer", "letter_address")
 IN_LINES = {
     "draw": ("rehearsal", "audit", "trouble"), "draw_step": ("said",), "restore_step": ("said",),
     "letter_audit": ("said",), "notice_row": ("said",),
 }
-BY_ITSELF = ("staged_row", "letter_set", "again")
+BY_ITSELF = ("staged_row", "letter_set", "again", "lot")
 OF_NOBODY = (
     "setting", "person", "session", "copy", "staged_file", "school_draft", "told", "restore",
     "letter_template", "letter_version", "letter_picture", "letter_sender", "list_view", "figures",
@@ -42,6 +40,12 @@ ELSEWHERE = (
     "Rows of applications that are not stored and have no number are on the screen Applications,"
     " by name.",
 )
+UNSEALED = {
+    False: "{} is in progress: the lots of this child in it are seen by the supervisor alone until"
+           " they are sealed, and are not in this.",
+    True: "{} was given up before its lots were sealed: those of this child were seen by the"
+          " supervisor alone, and are not in this.",
+}
 NO_OFFICE = "What the application keeps, and the history, were not read: no folder was named."
 NAMED = re.compile(r"\bchild (\d+)\b", re.I)
 # a form has no file, and a row is one of a file
@@ -218,9 +222,12 @@ def values(row: Mapping[str, Any]) -> dict[str, Any]:
 def of_tables(store: Rows, known: Known, entries: Iterable[int]) -> dict[str, list[Any]]:
     """The rows of the application's file that are of the child, by tables."""
     found: dict[str, list[Any]] = {}
-    for table, column in OF_CHILD.items():
-        rows = store.rows(f"SELECT * FROM {table} WHERE {column}=? ORDER BY 1, 2", known.number)
+    for table in OF_CHILD:
+        rows = store.rows(f"SELECT * FROM {table} WHERE child=? ORDER BY 1, 2", known.number)
         found[table] = [values(row) for row in rows]
+    found["lot"] = [values(row) for row in store.rows(
+        "SELECT lot.* FROM lot JOIN draw ON draw.id=lot.draw WHERE child=? AND digest IS NOT NULL"
+        " ORDER BY 1, 2", known.number)]
     for made in found["letter"]:
         made["html"] = zlib.decompress(base64.b64decode(made["html"])).decode()
     found["answer"] += of_answers(store, known)
@@ -243,6 +250,13 @@ def of_answers(store: Rows, known: Known) -> Iterator[dict[str, Any]]:
         first = re.search(r"\d+", row["typed"])
         if first and known.is_mine(first[0]):
             yield values(row)
+
+
+def unsealed(store: Rows, number: int) -> list[str]:
+    """What is said of the draws in which the child has lots that are not sealed."""
+    rows = store.rows("SELECT * FROM draw WHERE digest IS NULL AND id IN"
+                      " (SELECT draw FROM lot WHERE child=?) ORDER BY id", number)
+    return [UNSEALED[row["state"] in ENDED].format(f"Draw {row['first']}") for row in rows]
 
 
 def staged(store: Rows) -> Sequence[Any]:
@@ -306,6 +320,7 @@ def held(
     if office:
         store, entries = office
         known = known_of(store, number)
+        found["elsewhere"] += unsealed(store, number)
         found["history"] = list(of_history(entries, known))
         sent = (it["entry"] for it in found["history"] if it["what"] == SENDS)
         found["office"] = of_tables(store, known, sent)
