@@ -307,7 +307,7 @@ def given_up(office: Site, number: int) -> None:
         draws.ask_give_up(HAL, number, version(office, number), MISTYPED)
         draws.confirm_give_up(JANE, number, version(office, number))
     else:
-        draws.give_up(HAL, number, version(office, number))
+        draws.give_up(HAL, number, version(office, number), MISTYPED)
     assert draws.get(number).state == "given up"
 
 

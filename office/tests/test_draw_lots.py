@@ -184,6 +184,19 @@ def test_a_seed_draws_those_that_decide_nothing(small: Machine) -> None:
                 office.parts.lots.draw_by_seed(SUP, number, seed)
 
 
+def test_a_seed_draws_other_lots_for_each_fill(small: Machine) -> None:
+    """Each lot of a row by the number of its own draw: nobody keeps a bad one in each."""
+    with small.office() as office:
+        after_round(small, office)
+        number = begun(office, "OAK", 3, "2025-04-07")
+        brought(office, number, "lots")
+        assert office.parts.lots.draw_by_seed(SUP, number, "1 2 3") == 6
+        cells = office.parts.lots.sheet(number)[1].cells()
+        assert {cell: text for cell, text in cells.items() if text} == {
+            (pair, at): str(seeded("1 2 3", 2 + at, pair))
+            for pair in (("OAK", 4), ("OAK", 5)) for at in range(3)}
+
+
 def test_a_seed_with_two_equal_lots_is_refused(
     small: Machine, monkeypatch: pytest.MonkeyPatch
 ) -> None:

@@ -9,14 +9,16 @@ from typing import Any, cast
 
 import flask
 import pytest
-from applications import Browser, Site, site
+from applications import ORIGIN, Browser, Site, site
 from draw_site import (
-    HAL, MISTYPED, RAISED, Fields, Machine, Person, at_lots, begun, brought, lot_of, machine_over,
-    sealed, small_register, typed, version, waiting,
+    HAL, MISTYPED, RAISED, SUP, Command, Fields, Machine, Person, after_round, at_lots, begun,
+    brought, given_up, lot_of, machine_over, sealed, small_register, typed, version, waiting,
 )
 from pages import Page
+from served import do_over
 
 from office.web import copies, people
+from office.web.draws_drafts import Typed
 from office.web.draws_terms import Draw, Terms
 from office.web.history import Entry
 from office.web.screens import draws
@@ -28,6 +30,7 @@ UNSEALED, UNSENT = STATES[:4], STATES[4:7]
 # of hal, who has begun the draw, and jane: to whom something is done, and what
 HOWS = (("hal", "renewed"), ("hal", "locked"), ("jane", "renewed"), ("jane", "locked"))
 OWN = "a password of their own"
+DONE = {"done": True}
 
 
 @pytest.fixture(name="register", scope="module")
@@ -137,7 +140,7 @@ def test_one_gives_up_alone_whom_nobody_can_confirm(small: Machine) -> None:
         digest = office.parts.draws.get(number).digest
         found = hal.step(number, "give-up-alone")
         assert found.status_code == 409 and "Somebody else can confirm it" in found.text
-        renewed(office, "jane")
+        renewed(office, "jane", "root")
         jane = Person(office, "jane", "officer")
         seen = str(version(office, number))
         found = jane.press(number, seen, "give-up-alone")
@@ -145,7 +148,7 @@ def test_one_gives_up_alone_whom_nobody_can_confirm(small: Machine) -> None:
         for name in ("confirm", "ask-give-up", "confirm-give-up"):
             assert jane.press(number, seen, name).status_code == 409, name
         page = hal.browser.get(f"/draws/{number}").text
-        assert re.search(r"Nobody else can confirm it now: Jane was given another password by hal"
+        assert re.search(r"Nobody else can confirm it now: Jane was given another password by root"
                          r" at \d\d:\d\d, after this draw was begun\.", page)
         found = hal.step(number, "give-up-alone")
         assert found.status_code == 409 and "Type the reason for giving the draw up" in found.text
@@ -153,7 +156,7 @@ def test_one_gives_up_alone_whom_nobody_can_confirm(small: Machine) -> None:
         assert office.parts.desk.closed() == "" and office.parts.desk.now().draws == []
         last = office.parts.history.entries[-1]
         assert (last.who, last.what, last.about["lots"]) == ("hal", "gave up alone", digest)
-        assert last.about["why"].startswith("jane was given another password by hal")
+        assert last.about["why"].startswith("jane was given another password by root")
         assert last.about["reason"] == MISTYPED
         again = begun(office)
         for state in ("begun", "rehearsed"):
@@ -183,6 +186,122 @@ def test_a_draw_given_up_by_two_names_both(small: Machine) -> None:
         assert hal.step(second, "confirm-give-up").status_code == 303
         page = " ".join(jane.browser.get(f"/draws/{begun(office)}").text.split())
         assert page.count("was begun before") == 1 and "by jane and hal, " in page
+
+
+def test_a_draw_with_lots_is_given_up_for_a_reason(small: Machine) -> None:
+    """Also before its seal. Each draw of the same school, or round, shows it until one is held, and
+    one of another school does not; and what is held of another school does not hide it.
+    """
+    with small.office() as office:
+        after_round(small, office)
+        hal, jane = office_of_two(office)
+        first = begun(office, "OAK")
+        brought(office, first, "lots")
+        office.parts.lots.save(SUP, first, {(("OAK", 2), 0): Typed("", "14")})
+        found = hal.step(first, "give-up")
+        assert found.status_code == 409 and "Type the reason for giving the draw up" in found.text
+        assert jane.step(first, "give-up", reason=MISTYPED).status_code == 303
+        said = ("Draw 2 was begun before, and given up after the lots were entered, and before they"
+                " were sealed: by jane alone, ")
+        for school_code in (None, "OAK"):
+            number = begun(office, school_code)
+            assert said in words(hal, number) and f"because: {MISTYPED}" in words(jane, number)
+            if school_code:
+                brought(office, number, "opened")
+            else:
+                office.parts.draws.give_up(HAL, number, version(office, number))
+        assert said not in words(hal, begun(office, "OAK"))
+
+
+def test_other_lots_than_those_given_up_are_shown(small: Machine) -> None:
+    """To whoever confirms the next draw: first those that can decide a place, with both lots."""
+    with small.office() as office:
+        hal, jane = office_of_two(office)
+        first = begun(office)
+        brought(office, first, "sealed")
+        assert hal.step(first, "ask-give-up", reason=MISTYPED).status_code == 303
+        assert jane.step(first, "confirm-give-up").status_code == 303
+        number = begun(office)
+        brought(office, number, "lots")
+        # (of the ten lots two are others: that of 2 at OAK can decide against 3, that of 5 nothing)
+        others = {("OAK", 2): 41, ("OAK", 5): 77}
+        typed(office, number, lambda pair, at: others.get(pair, lot_of(pair, at)))
+        assert "of the same children and schools" not in words(jane, number)
+        sealed(office, number)
+        brought(office, number, "rehearsed")
+        page = words(jane, number)
+        assert ("Of 10 lots of the same children and schools 2 are another now; of these, 1 can"
+                " decide a place: OAK 2: 14 then, 41 now") in page
+        given_up(office, number)
+        again = begun(office)
+        brought(office, again, "rehearsed")
+        page = words(jane, again)
+        assert "10 lots of the same children and schools: all are the same now." in page
+        assert "OAK 2: 41 then, 14 now" in page
+
+
+def words(person: Person, number: int) -> str:
+    """The text of a draw's page."""
+    text = re.sub("<[^>]*>", " ", person.browser.get(f"/draws/{number}").text)
+    return re.sub(" ([.,;:])", r"\1", " ".join(text.split()))
+
+
+# what hal or jane did long before the draw, and why jane does not confirm it then
+LONG_BEFORE = {
+    "added": ("hal", "jane"), "gave a role": ("hal", "jane"),
+    "drew a new password": ("hal", "jane"), "added by the second": ("jane", "hal"),
+}
+
+
+@pytest.mark.parametrize("what", LONG_BEFORE)
+def test_who_could_act_in_both_names_does_not_confirm(small: Machine, what: str) -> None:
+    """Where one of the two has made the account of the other, or given it its role or a password,
+    whenever that was; until a third person has given these. The page says who may, and why not.
+    """
+    by, to = LONG_BEFORE[what]
+    whats = what.removesuffix(" by the second")
+    with small.office() as office:
+        hal, jane = office_of_two(office)
+        pat = Person(office, "pat", "officer")
+        office.parts.history.add(by, whats, {"person": to, "role": "officer"})
+        number = begun(office)
+        why = f"{to} was (added|given another (role|password)) by {by} at"
+        assert re.search(f"May confirm it pat. Others may not: hal began this draw; {why}",
+                         words(hal, number))
+        brought(office, number, "rehearsed")
+        assert re.search(f"May confirm it pat. Others may not: hal began this draw; {why}",
+                         words(pat, number))
+        assert "Confirm draw 1" not in ends(jane.browser, number)
+        found = jane.step(number, "confirm")
+        assert found.status_code == 409 and re.search(why, found.text, re.I)
+        assert office.parts.draws.get(number).state == "rehearsed"
+        assert hal.step(number, "ask-give-up", reason=MISTYPED).status_code == 303
+        assert jane.step(number, "confirm-give-up").status_code == 409
+        assert pat.step(number, "confirm-give-up").status_code == 303
+        for it in ("gave a role", "drew a new password"):
+            office.parts.history.add("root", it, {"person": to, "role": "officer"})
+        number = begun(office)
+        brought(office, number, "rehearsed")
+        assert jane.step(number, "confirm").status_code == 303
+
+
+def test_who_closed_it_does_not_confirm_it(small: Machine) -> None:
+    """Whoever read what looked wrong before the close, and said that it is right, is not the one
+    who is asked whether it is.
+    """
+    with small.office() as office:
+        hal, jane = office_of_two(office)
+        pat = Person(office, "pat", "head")
+        number = begun(office)
+        assert pat.step(number, "close").status_code == 303
+        brought(office, number, "rehearsed")
+        page = words(pat, number)
+        assert "pat closed the register for it. Somebody else confirms it." in page
+        assert "May confirm it jane. Others may not: hal began this draw; pat closed the" in page
+        for it in (hal, pat):
+            found = it.step(number, "confirm")
+            assert found.status_code == 409 and ": somebody else confirms it." in found.text
+        assert jane.step(number, "confirm").status_code == 303
 
 
 def test_an_officer_ends_what_a_locked_head_began(small: Machine) -> None:
@@ -283,7 +402,7 @@ def test_one_restores_alone_a_register_that_changed(small: Machine) -> None:
 
 
 MADE_UP: dict[str, Callable[[Site], object]] = {
-    "renewed": lambda office: renewed(office, "sup"),
+    "renewed": lambda office: renewed(office, "sup", "root"),
     "added": lambda office: (office.parts.history.add("hal", "added", {"person": "sue"}),
                              office.add("sue", "supervisor")),
 }
@@ -314,7 +433,7 @@ def test_a_supervisor_is_not_made_up(small: Machine, how: str) -> None:
             sealed(office, number)
             assert office.parts.draws.get(number).who("sealed") == "sup"
             return
-        assert jane.step(number, "give-up").status_code == 303
+        assert jane.step(number, "give-up", reason=MISTYPED).status_code == 303
         number = begun(office)
         brought(office, number, "lots")
         typed(office, number, lot_of)
@@ -331,7 +450,125 @@ def test_who_sealed_the_lots_reads_who_confirms(tmp_path: pathlib.Path) -> None:
     draw = Draw(1, terms, "rehearsed", 6, 1, None, "ab", {}, {}, "", "", "", "", done, None,
                 "")
     with site(tmp_path, "http://127.0.0.1:9") as office, office.app.test_request_context():
-        for name, said in (("sup", "Somebody other than hal and sup confirms it."),
-                           ("hal", "Somebody other than hal and sup confirms it."), ("jane", "")):
+        for name, said in (("sup", "sup sealed the lots. Somebody else confirms it."),
+                           ("hal", "hal began this draw. Somebody else confirms it."),
+                           ("jane", "")):
             flask.g.person = people.Person(name, "officer")
             assert draws.why_not(draw, "confirmed", register) == said
+
+
+def test_nothing_is_confirmed_before_its_rehearsal(small: Machine) -> None:
+    """A request to confirm a draw whose lots are sealed and not rehearsed yet does nothing."""
+    with small.office() as office:
+        _, jane = office_of_two(office)
+        number = begun(office)
+        brought(office, number, "sealed")
+        found = jane.press(number, str(version(office, number)), "confirm")
+        assert found.status_code == 409 and office.parts.draws.get(number).state == "sealed"
+
+
+def test_lots_that_changed_after_the_rehearsal_are_not_sent(small: Machine) -> None:
+    """Also where the outcome is the same: that of child 1, who lives nearest, decides nothing."""
+    with small.office() as office:
+        hal, _ = office_of_two(office)
+        number = begun(office)
+        brought(office, number, "confirmed")
+        with office.parts.store.writing() as db:
+            db.execute("UPDATE lot SET text='96' WHERE draw=? AND school='OAK' AND child=1",
+                       (number,))
+        found = hal.step(number, "send")
+        assert found.status_code == 409 and "are not those that were sealed" in found.text
+        assert office.parts.desk.now().draws == []
+
+
+def test_a_register_that_changed_between_two_fills_is_refused(
+    small: Machine, monkeypatch: pytest.MonkeyPatch
+) -> None:
+    """By somebody past the application, after the first fill of a row: the second is not sent."""
+    with small.office() as office:
+        after_round(small, office)
+        hal, _ = office_of_two(office)
+        number = begun(office, "OAK", 3, "2025-04-07")
+        brought(office, number, "confirmed")
+        real = office.parts.desk.sender.send
+
+        def sends(*given: Any) -> Any:
+            result = real(*given)
+            do_over(small.address, [{"cmd": "raise_pan", "school": "ELM", "pan": 10}])
+            return result
+
+        monkeypatch.setattr(office.parts.desk.sender, "send", sends)
+        found = hal.step(number, "send")
+        assert found.status_code == 409 and "not as it was rehearsed" in found.text
+        assert len(office.parts.desk.now().draws) == 2
+
+
+CHANGES: tuple[tuple[str, Command], ...] = (
+    ("jane", {"cmd": "amend", "child": 5, "name": "Child 5", "east": 0, "north": 400,
+              "looked_after": True, "flags": [], "siblings": []}),
+    ("pat", {"cmd": "amend", "child": 5, "name": "Child 5 x", "east": 0, "north": 390,
+             "looked_after": True, "flags": [], "siblings": []}),
+    ("jane", {"cmd": "raise_pan", "school": "ELM", "pan": 10}),
+    ("pat", {"cmd": "name_plan", "child": 4, "school": "OAK"}),
+)
+
+
+def test_what_moved_a_class_or_a_limit_is_named(small: Machine) -> None:
+    """Since the applications were stored, by child, with who and when: before the close, and to
+    whoever confirms. What came before that, and what moves nothing, is not.
+    """
+    with small.office() as office:
+        hal, jane = office_of_two(office)
+        people = {"jane": jane.browser, "pat": office.browser("pat", "officer")}
+        assert jane.browser.command({"cmd": "raise_pan", "school": "OAK", "pan": 2}).json == DONE
+        rows = "child,name,east,north,looked_after,flags,siblings,day,preferences\n6,Fay,0,450,no"
+        imported: Any = jane.browser.client.post(
+            "/import", base_url=ORIGIN, headers={"Origin": ORIGIN}, content_type="text/csv",
+            data=f"{rows},,,2024-10-31,OAK\n")
+        assert imported.status_code == 200, imported.text
+        moved: Command = {
+            "cmd": "amend", "child": 6, "name": "Fay", "east": 0, "north": 50,
+            "looked_after": False, "flags": [], "siblings": ["OAK"]}
+        for who, command in (*CHANGES, ("jane", moved)):
+            assert people[who].command(command).json == DONE, command
+        renamed: Command = {**moved, "name": "Fay Fox"}
+        assert jane.browser.command(renamed).json == DONE
+        number = begun(office)
+        wanted = [
+            ["", "", "admission number of ELM raised to 10", "jane"],
+            ["4", "Child 4", "plan that names OAK", "pat"],
+            ["5", "Child 5 x", "data corrected; what they were before is not in the history",
+             "jane"],
+            ["5", "Child 5 x", "North, in metres 400 → 390", "pat"],
+            ["6", "Fay Fox", "North, in metres 450 → 50; Siblings at none → OAK", "jane"]]
+        for state in ("begun", "rehearsed"):
+            brought(office, number, state)
+            rows_shown = Page(jane.browser.get(f"/draws/{number}").text).tables["changes"][1:]
+            assert [it[:4] for it in rows_shown] == wanted
+        assert re.fullmatch(r"\d+ \w+ \d{4}, \d\d:\d\d", rows_shown[0][4])
+
+
+def test_an_undone_draw_is_named_so(small: Machine) -> None:
+    """In each link and list, beside the one of the same number that is held again, which says the
+    number of its page too.
+    """
+    with small.office() as office:
+        hal, jane = office_of_two(office)
+        first = begun(office)
+        brought(office, first, "sending")
+        waiting(office, first)
+        assert hal.step(first, "ask-restore").status_code == 303
+        assert jane.step(first, "restore").status_code == 303
+        again = begun(office)
+        brought(office, again, "lots")
+        both = [["Draw 1 (page 2): a round"], ["Draw 1, undone: a round"]]
+        assert [it[:1] for it in Page(hal.browser.get("/draws/").text).tables[
+            "Rounds and fills"][1:]] == both
+        assert [it[:1] for it in Page(at_lots(office).get("/lots/").text).tables[
+            "Draws with lots"][1:]] == both
+        assert "Repeats Draw 1, undone: a round".lower() in words(hal, again).lower()
+        assert "<h1 id=\"heading\" tabindex=\"-1\">Draw 1, undone: a round</h1>" in (
+            hal.browser.get(f"/draws/{first}").text)
+        page = hal.browser.get("/").text
+        assert f'<a href="/draws/{again}">Draw 1 (page 2): a round</a> is in progress' in page
+        assert f'href="/draws/{again}">To draw 1 (page 2)</a>' in page

@@ -472,7 +472,7 @@ def test_the_second_person_is_another(small: Machine) -> None:
         at = version(office, number)
         with pytest.raises(Refused, match="hal began this draw: somebody else confirms it"):
             office.parts.draws.confirm(HAL, number, at)
-        with pytest.raises(Refused, match="sup sealed the lots: somebody else confirms the draw"):
+        with pytest.raises(Refused, match="sup sealed the lots: somebody else confirms it"):
             office.parts.draws.confirm(SUP, number, at)
         office.parts.draws.confirm(JANE, number, at)
         assert office.parts.draws.get(number).state == "confirmed"
@@ -868,11 +868,9 @@ def test_a_draw_is_given_up_before_it_is_sent_alone(small: Machine) -> None:
             assert office.parts.desk.closed() == ""
         number = begun(office)
         brought(office, number, "sending")
-        for step in (office.parts.draws.give_up, office.parts.draws.confirm_give_up):
-            with pytest.raises(Refused, match="in which this cannot be done"):
-                step(HAL, number, version(office, number))
-        with pytest.raises(Refused, match="in which this cannot be done"):
-            office.parts.draws.ask_give_up(HAL, number, version(office, number), MISTYPED)
+        for name in ("give-up", "ask-give-up", "confirm-give-up"):
+            found = Person(office, "hal", "head").step(number, name, reason=MISTYPED)
+            assert found.status_code == 409 and "in which this cannot be done" in found.text
 
 
 def test_two_give_up_a_draw_whose_lots_are_sealed(small: Machine) -> None:
@@ -960,7 +958,7 @@ MADE_UP = {
 @pytest.mark.parametrize("how", MADE_UP)
 def test_a_second_person_is_not_made_up(small: Machine, how: str) -> None:
     """Whom the head has added since the draw was begun, or given a role or a password, confirms
-    and requests nothing, even with a password of their own; before it was begun, they may.
+    and requests nothing, even with a password of their own.
     """
     given, said = MADE_UP[how]
     with small.office() as office:
@@ -985,7 +983,7 @@ def test_a_second_person_is_not_made_up(small: Machine, how: str) -> None:
             assert said.title()[:3] + said[3:] in found.text, found.text
 
         page = pat.browser.get(f"/draws/{number}").text
-        assert page.count(said) == 2 and ">Confirm draw 1<" not in page
+        assert page.count(said) == 3 and ">Confirm draw 1<" not in page
         assert "Ask to give up draw 1</button>" not in page
         for it in ("confirm", "ask-give-up"):
             refused(it)
@@ -999,11 +997,12 @@ def test_a_second_person_is_not_made_up(small: Machine, how: str) -> None:
         page = pat.browser.get(f"/draws/{number}").text
         assert said in page and "Restore the copy from before draw 1</button>" not in page
         refused("restore")
-        # (who was there before goes on, and for the next draw pat was)
+        # (who was there before goes on; and in the next draw of hal pat is none of the two either)
         office.parts.draws.restore(JANE, number, version(office, number))
         number = begun(office)
         brought(office, number, "rehearsed")
-        assert pat.step(number, "confirm").status_code == 303
+        found = pat.step(number, "confirm")
+        assert found.status_code == 409 and ", so that hal could act in both names" in found.text
 
 
 def test_what_looks_wrong_is_read_before_it_closes(small: Machine) -> None:

@@ -3,14 +3,19 @@
 What is whose is stated here for each address, and not taken from the application.
 """
 import datetime
+import io
 import pathlib
 import threading
 import types
-from collections.abc import Iterator
+import zipfile
+from collections.abc import Iterator, Mapping
 from typing import Any
 
 import pytest
 from applications import ORIGIN, ROUND, Browser, Site, office_over, town
+from draw_site import (
+    HAL, MISTYPED, SUP, begun, brought, machine_over, small_register, typed,
+)
 
 from office.web import guard
 
@@ -63,13 +68,15 @@ def office_fixture(tmp_path: pathlib.Path) -> Iterator[Site]:
         yield found
 
 
-def addresses(office: Site) -> list[tuple[str, str, str]]:
+def addresses(
+    office: Site, values: Mapping[str, Any] = VALUES,
+) -> list[tuple[str, str, str]]:
     """Each endpoint with a method and an address of it, but the files that all may read."""
     found: list[tuple[str, str, str]] = []
     with office.app.test_request_context(base_url=ORIGIN):
         urls = office.app.url_map.bind("admissions.example", url_scheme="https")
         for rule in office.app.url_map.iter_rules():
-            given: dict[str, Any] = {it: VALUES[it] for it in rule.arguments}
+            given: dict[str, Any] = {it: values[it] for it in rule.arguments}
             if rule.endpoint in NAMES:
                 given["name"] = NAMES[rule.endpoint]
             if rule.endpoint in ("file", "icon"):
@@ -224,3 +231,48 @@ def test_the_head_of_a_school_sees_no_other(office: Site) -> None:
         for other in ("B", "ZZ", "A%20", "a"):
             assert asked(browser, "GET", path.format(other)) in (403, 404), (path, other)
         assert asked(browser, "GET", path.format("B")) == 403
+
+
+def words_in(data: bytes) -> str:
+    """The text of a response: of an archive or a workbook that of its parts."""
+    if not data.startswith(b"PK"):
+        return data.decode("utf-8", "replace")
+    with zipfile.ZipFile(io.BytesIO(data)) as parts:
+        return "\n".join(words_in(parts.read(it)) for it in parts.namelist())
+
+
+def test_nobody_but_the_supervisor_sees_lots_before_the_seal(
+    tmp_path: pathlib.Path, tmp_path_factory: pytest.TempPathFactory,
+    monkeypatch: pytest.MonkeyPatch,
+) -> None:
+    """Neither the lots nor the seed of others, in no answer to anybody else: as long as they are
+    not sealed, and once the draw was given up before that.
+    """
+    seed = "61 83 97 of the urn"
+    lots = {(code, child): at + child for code, at in (("OAK", 3141592600), ("ELM", 2718281800))
+            for child in (2, 3)}
+    register = small_register(tmp_path_factory)
+    with machine_over(tmp_path, register, monkeypatch) as machine, machine.office() as office:
+        number = begun(office)
+        brought(office, number, "lots")
+        assert office.parts.lots.draw_by_seed(SUP, number, seed) == 6
+        typed(office, number, lambda pair, _: lots[pair])
+        _, sheet = office.parts.lots.sheet(number)
+        secret = {seed, *(text for row in sheet.rows for text in row.typed)}
+        assert len(secret) == 11 and all(map(str.isprintable, secret))
+        shown = words_in(office.browser("sup", SUPERVISOR).get(f"/lots/{number}?page=1").data)
+        assert all(it in shown for it in secret)
+        browsers = {role: office.browser(role.lower(), role)
+                    for role in (HEAD, OFFICER, READER, ADMINISTRATOR, "school-OAK")}
+        values: dict[str, Any] = {**VALUES, "code": "OAK"}
+        paths = {path for _, method, path in addresses(office, values) if method == "GET"}
+        assert len(paths) > 60
+        texts = {(role, path): words_in(browser.get(path).data) for role, browser
+                 in browsers.items() for path in sorted({*paths, "/children/1/held.html"})}
+        assert [(*where, it) for where, text in texts.items() for it in secret if it in text] == []
+        said = "Draw 1 is in progress: the lots of this child in it are seen by the supervisor"
+        for form in ("html", "json"):
+            assert said in texts[OFFICER, f"/children/1/held.{form}"]
+        office.parts.draws.give_up(HAL, number, office.parts.draws.get(number).version, MISTYPED)
+        held = browsers[OFFICER].get("/children/1/held.json").text
+        assert not any(it in held for it in secret) and "given up before its lots were" in held

@@ -13,12 +13,12 @@ from register_files import Refused
 from office import lot_sheets, next_draw, texts
 from office.model import Pair, Register
 
-from . import draws_again, draws_checks, effects
+from . import draws_again, draws_checks, draws_second, effects
 from .copies import Copies, is_same
 from .desk import Desk
 from .draws_checks import Check
 from .draws_lots import sheet_of, ties_in
-from .draws_second import alone_since, made_since
+from .draws_second import Case
 from .draws_store import DrawStore
 from .draws_terms import (
     AUDITED, BEGUN, CLOSED, CONFIRMED, COPIED, GIVEN_UP, IN_ORDER, LOTS, MOST_FILLS, OPENED,
@@ -31,6 +31,7 @@ from .store import Store
 
 GIVE_UP = "The draw must be given up, and begun again."
 RESTORE = "The draw cannot go on: the copy from before it must be restored."
+STEADY = "somebody does this who had their role and their password before"
 
 
 class Differs(Refused):
@@ -183,11 +184,7 @@ class Draws(DrawStore):
         """Confirms the rehearsed draw, as a second person."""
         with self.turn(number, seen, REHEARSED) as draw:
             see_goes_on(draw)
-            self.see_steady(who)
-            if who.name == draw.who(BEGUN):
-                raise Refused(f"{who.name} began this draw: somebody else confirms it")
-            if who.name == draw.who(SEALED):
-                raise Refused(f"{who.name} sealed the lots: somebody else confirms the draw")
+            self.see_second(who, case_of(draw), "somebody else confirms it")
             self.record(who, "confirmed", draw, lots=draw.digest)
             with self.moving(draw, who, CONFIRMED):
                 pass
@@ -256,23 +253,27 @@ class Draws(DrawStore):
 
     # other ends
 
-    def see_steady(self, who: Person) -> None:
-        """Refuses as one of two persons somebody whom the other one could have made up."""
-        if said := made_since(self.history, who.name):
-            raise Refused(said)
+    def see_second(self, who: Person, case: Case = Case(), otherwise: str = STEADY) -> None:
+        """Refuses as one of two persons somebody who is not another one than the first."""
+        draws_second.see(self.history, who, case, otherwise)
 
     def see_alone(self, who: Person) -> str:
         """Why nobody else can be the second of two persons; a refusal where somebody can."""
-        said = alone_since(self.store, self.history, who.name)
+        said = draws_second.alone(self.store, self.history, who.name)
         if not said:
             raise Refused("somebody else can confirm it: ask for it, and another person confirms")
         return said
 
-    def give_up(self, who: Person, number: int, seen: int) -> None:
-        """Ends a draw whose lots are not sealed yet."""
+    def give_up(self, who: Person, number: int, seen: int, why: str = "") -> None:
+        """Ends a draw whose lots are not sealed yet. Once one is saved it is shown, with the
+        reason, at each draw that follows: who draws lots again may have seen these.
+        """
         with self.turn(number, seen, *UNSEALED) as draw:
-            self.record(who, "gave up", draw)
-            with self.moving(draw, who, GIVEN_UP, f"In the state '{draw.state}'."):
+            why = reason_to_give_up(why) if self.has_lots(draw) else ""
+            self.record(who, "gave up", draw, reason=why)
+            said = f"In the state '{draw.state}'.{f' Reason: {why}' if why else ''}"
+            with self.moving(draw, who, GIVEN_UP, said, give_up_by=who.name if why else None,
+                             give_up_why=why):
                 pass
 
     def ask_give_up(self, who: Person, number: int, seen: int, why: str) -> None:
@@ -280,7 +281,7 @@ class Draws(DrawStore):
         So nobody alone has other lots drawn who has seen what these lead to.
         """
         with self.turn(number, seen, *UNSENT_SEALED) as draw:
-            self.see_steady(who)
+            self.see_second(who)
             why = reason_to_give_up(why)
             self.record(who, "asked to give up", draw, lots=draw.digest, reason=why)
             with self.moving(draw, who, draw.state, f"Asked to give it up. Reason: {why}",
@@ -298,12 +299,10 @@ class Draws(DrawStore):
     def confirm_give_up(self, who: Person, number: int, seen: int) -> None:
         """Ends a draw whose lots are sealed and not sent, as a second person."""
         with self.turn(number, seen, *UNSENT_SEALED) as draw:
-            self.see_steady(who)
             if not draw.give_up_by:
                 raise Refused("nobody has asked to give up the draw")
-            if who.name == draw.give_up_by:
-                raise Refused(f"{who.name} has asked to give up the draw: somebody else confirms"
-                              " it")
+            self.see_second(who, Case(others={draw.give_up_by: "has asked to give up the draw"}),
+                            "somebody else confirms it")
             self.record(who, "gave up", draw, lots=draw.digest, reason=draw.give_up_why)
             said = f"In the state '{draw.state}'. Digest of the lots {draw.digest}."
             with self.moving(draw, who, GIVEN_UP, said):
@@ -324,7 +323,7 @@ class Draws(DrawStore):
     def ask_restore(self, who: Person, number: int, seen: int) -> None:
         """Says that the copy from before the draw is to be restored, which another confirms."""
         with self.turn(number, seen, *SENT) as draw:
-            self.see_steady(who)
+            self.see_second(who)
             self.record(who, "asked to restore the copy from before it", draw)
             with self.moving(draw, who, draw.state, "Asked to restore the copy from before it.",
                              restore_by=who.name):
@@ -344,11 +343,10 @@ class Draws(DrawStore):
     def restore(self, who: Person, number: int, seen: int) -> None:
         """Restores the copy from before the draw, as a second person, and opens the register."""
         with self.turn(number, seen, *SENT) as draw:
-            self.see_steady(who)
             if not draw.restore_by:
                 raise Refused("nobody has asked for the restore")
-            if who.name == draw.restore_by:
-                raise Refused(f"{who.name} has asked for the restore: somebody else confirms it")
+            self.see_second(who, Case(others={draw.restore_by: "has asked for the restore"}),
+                            "somebody else confirms it")
             self.record(who, "restored the copy from before it", draw, copy=draw.before)
             self.copies.restore(draw.before or 0, who.name)
             with self.moving(draw, who, RESTORED, f"Copy {draw.before}."):
@@ -376,8 +374,15 @@ class Draws(DrawStore):
         return True
 
 
+def case_of(draw: Draw) -> Case:
+    """What a second person confirms, and who has done what of it so far."""
+    found = {draw.who(SEALED): "sealed the lots", draw.who(CLOSED): "closed the register for it",
+             draw.who(BEGUN): "began this draw"}
+    return Case(others={name: it for name, it in found.items() if name})
+
+
 def reason_to_give_up(text: str) -> str:
-    """Why a draw with sealed lots is given up, or a refusal."""
+    """Why a draw with lots is given up, or a refusal."""
     return draws_again.reason_in(text, "giving the draw up", "who confirms the next draw")
 
 

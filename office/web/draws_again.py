@@ -1,11 +1,13 @@
 """A draw that is held again after a restore has undone it: which one it repeats, and the lots that
-stay. Who knows an outcome could otherwise have lots drawn until another one is to their liking.
+stay. And one that follows another which was given up: whose lots are other ones. Who knows an
+outcome could otherwise have lots drawn until another one is to their liking.
 """
+import dataclasses
 from collections.abc import Sequence
 
 from register_files import Refused
 
-from .draws_lots import Cell
+from .draws_lots import Cell, sheet_of
 from .draws_store import DrawStore
 from .draws_terms import OPENED, RESTORED, Draw, Terms
 
@@ -52,3 +54,46 @@ def kept(draws: DrawStore, draw: Draw) -> dict[Cell, tuple[str, str | None]]:
     rows = draws.store.rows("SELECT * FROM lot WHERE draw=? AND text<>''", draw.repeats)
     return {((it["school"], it["child"]), it["fill"]): (it["text"], it["seed"] if is_same else None)
             for it in rows}
+
+
+@dataclasses.dataclass(frozen=True)
+class Other:
+    """A lot that is another one than in the draw that was given up before: of whom, at which place
+    of the row from 0 on; both lots; and whether only a lot can separate the child from another.
+    """
+
+    school: str
+    child: int
+    at: int
+    was: str
+    now: str
+    is_decisive: bool
+
+
+@dataclasses.dataclass(frozen=True)
+class Given:
+    """A draw that was given up before another one; of how many lots both have the pair and the
+    place in the row; and those of them that are other ones. None where one of the two draws is not
+    sealed, or they are not for the same school or not both rounds.
+    """
+
+    draw: Draw
+    count: int
+    others: list[Other] | None
+
+
+def given_up(draws: DrawStore, draw: Draw) -> list[Given]:
+    """The draws that were given up before one, with how its sealed lots differ from theirs."""
+    return [compared(draws, it, draw) for it in draws.given_up_before(draw)]
+
+
+def compared(draws: DrawStore, before: Draw, draw: Draw) -> Given:
+    """The sealed lots of a draw beside those of one that was given up before it."""
+    if not (before.digest and draw.digest and before.terms.school == draw.terms.school):
+        return Given(before, 0, None)
+    was = sheet_of(draws.store, before.number, before.terms).cells()
+    cells = [(row, at, text) for row in sheet_of(draws.store, draw.number, draw.terms).rows
+             for at, text in enumerate(row.typed) if (row.pair, at) in was]
+    return Given(before, len(cells), [
+        Other(*row.pair, at, was[row.pair, at], text, row.tie > 0)
+        for row, at, text in cells if was[row.pair, at] != text])

@@ -10,11 +10,11 @@ from office import texts
 from office.model import Pair
 
 from . import draws_again
-from .draws import Draws
+from .draws import Draws, case_of
 from .draws_lots import (
     MISSING, MOST_SEED, Cell, Sheet, by_seed, sheet_of, typed_lot,
 )
-from .draws_terms import BEGUN, LOTS, SEALED, Draw
+from .draws_terms import LOTS, SEALED, Draw
 from .people import Person
 
 CLOSED = "the lots of this draw cannot be changed: they are sealed, or the draw was given up"
@@ -114,15 +114,14 @@ class Drafts:
                      for at, text in enumerate(row.typed) if not text}
             if said := collision(sheet, drawn):
                 raise Refused(f"{said}: take another seed")
-            self.put(who, draw, drawn, seed, {"seed": seed, "lots": len(drawn)})
+            # (whoever reads the seed knows the lots: it is on record with the seal)
+            self.put(who, draw, drawn, seed, {"lots": len(drawn), "by": "a seed"})
             return len(drawn)
 
     def seal(self, who: Person, number: int, seen: int, digest: str) -> None:
         """Seals the lots, after which nobody changes them."""
         with self.draws.turn(number, seen, LOTS) as draw:
-            if who.name == draw.who(BEGUN):
-                raise Refused(f"{who.name} began this draw: somebody else seals the lots")
-            self.draws.see_steady(who)
+            self.draws.see_second(who, case_of(draw), "somebody else seals the lots")
             sheet = sheet_of(self.store, number, draw.terms)
             if wrong := sheet.wrong():
                 missing = sum(it == MISSING for it in wrong.values())
@@ -132,7 +131,7 @@ class Drafts:
                 raise Refused(f"the lots cannot be sealed yet: {texts.listed(said)}")
             if sheet.digest() != digest:
                 raise Refused("the lots have changed since this page was shown: read them again")
-            self.draws.record(who, "sealed the lots", draw, digest=digest)
+            self.draws.record(who, "sealed the lots", draw, digest=digest, seeds=sheet.seeds())
             with self.draws.moving(draw, who, SEALED, f"Digest {digest}.", digest=digest):
                 pass
 

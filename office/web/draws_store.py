@@ -11,7 +11,7 @@ from office import model
 
 from .desk import local
 from .draws_terms import (
-    AUDITED, CLOSED, CLOSING, ENDED, GIVEN_UP, OPENED, Draw, Terms, of_rows,
+    CLOSED, CLOSING, ENDED, GIVEN_UP, HELD, Draw, Terms, of_rows,
 )
 from .history import History, now
 from .people import Person
@@ -49,12 +49,28 @@ class DrawStore(StepStore[Draw]):
         row = self.store.row("SELECT * FROM draw WHERE state NOT IN (?, ?, ?)", *ENDED)
         return of_rows(row, self.steps_of(row["id"])) if row else None
 
+    def has_lots(self, draw: Draw) -> bool:
+        """Whether a lot of a draw was saved."""
+        return self.store.row(
+            "SELECT 1 FROM lot WHERE draw=? AND text<>''", draw.number) is not None
+
     def given_up_before(self, draw: Draw) -> list[Draw]:
-        """The draws of the same number that were given up before it, after their lots were sealed:
-        their outcome could be known.
+        """The draws that were given up before it with lots, until one is held: those of the same
+        school, a round being one of all schools.
         """
-        return [it for it in self.listed() if it.number < draw.number and it.digest
-                and it.state == GIVEN_UP and it.terms.first == draw.terms.first]
+        held: set[str | None] = set()
+        found = []
+        for it in self.listed():
+            one, other = it.terms.school, draw.terms.school
+            is_same = one is None or other is None or one == other
+            if it.number >= draw.number:
+                continue
+            if it.state in HELD:
+                held.add(one)
+            elif it.state == GIVEN_UP and is_same and held.isdisjoint((None, one or other)) and (
+                    self.has_lots(it)):
+                found.append(it)
+        return found
 
     def copy_before(self, draw: model.Draw) -> int | None:
         """The number of the copy from before a draw of the register, if it was held here, and was
@@ -63,7 +79,7 @@ class DrawStore(StepStore[Draw]):
         row = self.store.row(
             "SELECT copy_before FROM draw WHERE first<=? AND ?<first+fills AND school IS ?"
             " AND day=? AND state IN (?, ?) ORDER BY id DESC", draw.number, draw.number,
-            draw.school, draw.day.isoformat(), AUDITED, OPENED)
+            draw.school, draw.day.isoformat(), *HELD)
         return row["copy_before"] if row else None
 
     def closed(self) -> str:

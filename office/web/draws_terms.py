@@ -19,9 +19,10 @@ REHEARSED, CONFIRMED, SENDING, AUDITED = "rehearsed", "confirmed", "sending", "a
 OPENED, GIVEN_UP, RESTORED = "opened", "given up", "restored"
 # the states of a draw that is held to its end, in their order
 IN_ORDER = (BEGUN, CLOSED, COPIED, LOTS, SEALED, REHEARSED, CONFIRMED, SENDING, AUDITED, OPENED)
-ENDED = (OPENED, GIVEN_UP, RESTORED)
+ENDED, HELD = (OPENED, GIVEN_UP, RESTORED), (AUDITED, OPENED)
 # in these nobody else may send anything to the register, and before the first of the second nothing
-# of the draw was sent; there one person gives it up before the lots are sealed, and two after that
+# of the draw was sent; there one person gives it up before the lots are sealed, and two after that.
+# From the first lot on that takes a reason
 CLOSING = IN_ORDER[1:-1]
 SENT = (SENDING, AUDITED)
 UNSENT = IN_ORDER[:7]
@@ -54,10 +55,14 @@ class Terms:
         return f"draws {self.first} to {last}" if self.fills > 1 else f"draw {self.first}"
 
     @property
-    def in_words(self) -> str:
+    def what(self) -> str:
         """What is drawn."""
-        what = texts.count(self.fills, "fill") if self.school else "a round"
-        return f"{self.numbers}: {what}{f' at {self.school}' if self.school else ''}"
+        return f"{texts.count(self.fills, 'fill')} at {self.school}" if self.school else "a round"
+
+    @property
+    def in_words(self) -> str:
+        """The numbers of the draws, and what is drawn."""
+        return f"{self.numbers}: {self.what}"
 
     @property
     def path(self) -> str:
@@ -104,6 +109,20 @@ class Draw:
     # the draw of the store that it repeats, which was undone; and why with other lots, or ""
     repeats: int | None
     other_lots: str
+
+    @property
+    def numbered(self) -> str:
+        """The draws by their numbers in the register, and by that of their page if it is another
+        one; and whether a restore has undone them.
+        """
+        page = f" (page {self.number})" if self.number != self.terms.first else ""
+        undone = ", undone" if self.state == RESTORED else ""
+        return f"{self.terms.numbers}{page}{undone}"
+
+    @property
+    def in_words(self) -> str:
+        """The same with what is drawn."""
+        return f"{self.numbered}: {self.terms.what}"
 
     def came_to(self, state: str) -> Done:
         """Who brought it to a state, and when; nobody where it has not been there."""
@@ -190,8 +209,8 @@ STEPS = (
          "The draw is held on a scratch copy, and audited by a second program. Nothing is"
          " recorded. The outcome is shown here.", "Rehearse"),
     Step(CONFIRMED, "Confirmed by a second person",
-         "Somebody other than the person who began the draw has read the outcome, and says that it"
-         " may be held.", "Confirm"),
+         "Somebody other than those who began the draw and closed the register for it has read the"
+         " outcome, and says that it may be held.", "Confirm"),
     Step(SENDING, "Held",
          "The lots are sent to the register, which allots the places. Only a restore of the copy"
          " undoes it. The audit follows by itself.", "Hold"),

@@ -39,7 +39,7 @@ def waiting(parts: Parts, register: Register | None, today: datetime.date, draw:
 
 def of_draw(draw: Draw, next_step: str, next_state: str) -> Waits:
     """What a draw in progress waits for."""
-    said = sentence(draw.terms.in_words)
+    said = sentence(draw.in_words)
     if draw.give_up_by:
         said += f" {draw.give_up_by} has asked to give it up."
     elif draw.restore_by:

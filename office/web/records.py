@@ -2,7 +2,7 @@
 the draws in which the child took part.
 """
 import dataclasses
-from collections.abc import Callable, Iterator, Mapping, Sequence
+from collections.abc import Callable, Iterable, Iterator, Mapping, Sequence
 from typing import Any
 
 from office import commands, days, rules, texts
@@ -64,9 +64,11 @@ def in_words(command: Command, before: Command | None) -> str:
     return "child added" if name == "add_child" else "data corrected"
 
 
-def changes(before: Command, now: Command) -> Iterator[str]:
+def changes(
+    before: Command, now: Command, fields: Iterable[str] = tuple(rules.COMMANDS["amend"]),
+) -> Iterator[str]:
     """The fields in which the data of a child differ."""
-    for it in rules.COMMANDS["amend"]:
+    for it in fields:
         one, other = (texts.cell_of(data.get(it, "")) for data in (before, now))
         if one != other:
             yield f"{label(it)} {one or 'none'} → {other or 'none'}"

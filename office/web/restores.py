@@ -11,11 +11,11 @@ from register_files import Refused
 from office import texts
 from office.model import Register
 
-from . import plain, restores_draws, restores_rehearsal, restores_since
+from . import draws_second, plain, restores_draws, restores_rehearsal, restores_since
 from .copies import RESTORE, Copies, is_same
 from .desk import Desk, local
-from .draws import Draws
-from .draws_second import made_since
+from .draws import STEADY, Draws
+from .draws_second import Case
 from .history import Entry, History
 from .people import Person
 from .restores_again import Sending
@@ -152,15 +152,10 @@ class Restores(StepStore[Restore]):
                 pass
         return number
 
-    def see_steady(self, who: Person) -> None:
-        """Refuses as one of two persons somebody whom the other one could have made up."""
-        if said := made_since(self.history, who.name, BEGAN, "this restore was begun"):
-            raise Refused(said)
-
     def ask(self, who: Person, number: int, seen: int, chosen: Iterable[int]) -> None:
         """Asks for the restore, with what is to be sent again of what came since."""
         with self.step(number, seen, CLOSED) as found:
-            self.see_steady(who)
+            draws_second.see(self.history, who, case_of(found), STEADY)
             wanted = set(chosen)
             rows = self.sending.rows(found)
             if unknown := wanted - {it.entry for it in rows}:
@@ -185,9 +180,7 @@ class Restores(StepStore[Restore]):
     def confirm(self, who: Person, number: int, seen: int) -> None:
         """Confirms the restore, as a second person."""
         with self.step(number, seen, ASKED) as found:
-            self.see_steady(who)
-            if who.name == found.came_to(ASKED).who:
-                raise Refused(f"{who.name} has asked for the restore: somebody else confirms it")
+            draws_second.see(self.history, who, case_of(found), "somebody else confirms it")
             self.copies.register(found.copy)
             self.record(who, "confirmed the restore", found)
             with self.moving(found, who, CONFIRMED):
@@ -312,6 +305,13 @@ class Restores(StepStore[Restore]):
         return bool(rows) and self.store.row(
             "SELECT 1 FROM staged_row WHERE state=? AND sent LIKE ?", OPEN,
             f"% {digest_of(rows.encode())}") is not None
+
+
+def case_of(restore: Restore) -> Case:
+    """What a second person confirms, and who has asked for it."""
+    asker = restore.came_to(ASKED).who if restore.state == ASKED else ""
+    return Case(BEGAN, "this restore was begun",
+                {asker: "has asked for the restore"} if asker else {})
 
 
 def restored_at(record: History, restore: Restore) -> int:

@@ -22,6 +22,8 @@ from office.model import Register
 from . import archive, draws_second, numbers
 from .archive import Item
 from .copies import is_same
+from .draws import STEADY
+from .draws_second import Case
 from .history import now
 from .people import Person
 from .piles import DONE
@@ -126,7 +128,7 @@ def in_progress(parts: Parts) -> list[Open]:
     """What must end before anything else is done."""
     found = []
     if draw := parts.draws.present():
-        found.append(Open("A draw in progress", f"{draw.terms.in_words}: it must end first",
+        found.append(Open("A draw in progress", f"{draw.in_words}: it must end first",
                           "draws.show", is_stop=True))
     if restore := parts.restores.present():
         found.append(Open("A restore in progress",
@@ -335,23 +337,18 @@ class SeasonEnd:
             raise Refused(f"the archive lacks what was recorded here since it was made ({named}):"
                           " make it again, and take it")
 
-    def see_steady(self, who: Person) -> None:
-        """Refuses as one of two persons somebody whom the other one could have made up."""
-        if said := self.not_steady(who):
-            raise Refused(said)
-
-    def not_steady(self, who: Person) -> str:
-        """Why a person is none of the two since the day of deletion was set, or "". (A day that the
-        machine has refused since is in the history too, and is none.)
+    def case(self, found: End, asker: str = "") -> Case:
+        """What a second person confirms, and who has asked for it. (A day that the machine has
+        refused is in the history too, and is none.)
         """
-        return draws_second.made_since(
-            self.parts.history, who.name, self.get().day_entry, "the day of deletion was set")
+        return Case(found.day_entry, "the day of deletion was set",
+                    {asker: "has asked to delete the season"} if asker else {})
 
     def ask(self, who: Person, seen: int, name: str) -> None:
         """Says that the season is to be deleted, which another person confirms."""
         with self.turn(seen) as found:
             self.see_due(found)
-            self.see_steady(who)
+            draws_second.see(self.parts.history, who, self.case(found), STEADY)
             self.see_name(name)
             self.record(who, "asked to delete the season", digest=found.digest)
             self.store(found, asked_by=who.name, asked=now())
@@ -372,11 +369,9 @@ class SeasonEnd:
         with self.turn(seen) as found, self.parts.desk.lock:
             if not found.asked_by:
                 raise Refused("nobody has asked to delete the season")
-            if who.name == found.asked_by:
-                raise Refused(f"{who.name} has asked to delete the season: somebody else confirms"
-                              " it")
+            draws_second.see(self.parts.history, who, self.case(found, found.asked_by),
+                             "somebody else confirms it")
             self.see_due(found)
-            self.see_steady(who)
             self.see_name(name)
             counts = self.counts()
             if shown != read_counts(counts):

@@ -4,7 +4,7 @@ from selenium.webdriver.common.keys import Keys
 from . import town
 from .hands import Hands
 from .office import (
-    ABBEY, HAL, OFFICER, PROGRAM, READER, RITA, SUP, SUPERVISOR, Office,
+    ABBEY, ADMINISTRATOR, ANN, HAL, OFFICER, PROGRAM, READER, RITA, SUP, SUPERVISOR, Office,
 )
 
 
@@ -75,26 +75,36 @@ def flags(office: Office) -> None:
     office.report.same(rows.get("2"), "A, FERN", "the schools with flag 2 among their criteria")
 
 
+def added(office: Office, by: Hands, name: str, role: str) -> None:
+    """Somebody is added, and then the name of the next one can be typed."""
+    by.fill("Name or mail address, in small letters", name)
+    by.pick("Role", role, role)
+    if name == PROGRAM:
+        by.pick("Who it is", "a program", "a pr")
+    by.enter()
+    by.see(f"{name} is added as {role}.")
+    here = by.field("Name or mail address, in small letters")
+    office.report.see(here == by.driver.switch_to.active_element,
+                      f"the field of a name does not have the focus after {name}")
+    office.drawn[name] = by.text("#secret")
+
+
 def people(office: Office) -> None:
-    """People are added with their roles, and a program with a token."""
+    """The head adds an administrator, who adds the others with their roles, and a program with a
+    token.
+    """
     office.report.step("people are added, and sign in")
-    jane = office.jane
-    jane.press("People")
+    office.jane.press("People")
+    added(office, office.jane, ANN, ADMINISTRATOR)
+    ann = office.arrive(ANN)
+    sign_in(ann, office.drawn[ANN])
+    office.report.same(ann.title, "People", "the first screen of the administrator")
     roles = ((HAL, OFFICER), (SUP, SUPERVISOR), (RITA, READER), (ABBEY, "school-A"),
              (PROGRAM, READER))
     for name, role in roles:
-        jane.fill("Name or mail address, in small letters", name)
-        jane.pick("Role", role, role)
-        if name == PROGRAM:
-            jane.pick("Who it is", "a program", "a pr")
-        jane.enter()
-        jane.see(f"{name} is added as {role}.")
-        here = jane.field("Name or mail address, in small letters")
-        office.report.see(here == jane.driver.switch_to.active_element,
-                          f"the field of a name does not have the focus after {name}")
-        office.drawn[name] = jane.text("#secret")
-    jane.look("People, all of them")
-    listed = {row[0]: row[1] for row in jane.captioned("Who may sign in")}
+        added(office, ann, name, role)
+    ann.look("People, all of them")
+    listed = {row[0]: row[1] for row in ann.captioned("Who may sign in")}
     for name, role in roles:
         shown = f"{name} (program)" if name == PROGRAM else name
         office.report.see(shown in listed, f"{name} is not in the list of people: {listed}")

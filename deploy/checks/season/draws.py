@@ -31,6 +31,8 @@ class Draw:
     school: str = ""
     fills: int = 1
     is_workbook: bool = False
+    # the number of its page, if that is another one than that of the draw in the register
+    page: int = 0
     # the day of the office when the draw is held, if its own is wrong
     office_day: datetime.date | None = None
 
@@ -47,9 +49,15 @@ class Draw:
         return f"{self.numbers}: {f'{fills} at {self.school}' if self.school else 'a round'}"
 
     @property
+    def numbered(self) -> str:
+        """How the screens name it where they lead to it."""
+        return f"{self.numbers} (page {self.page})" if self.page else self.numbers
+
+    @property
     def title(self) -> str:
         """The same as a heading."""
-        return self.words[0].upper() + self.words[1:]
+        text = self.words.replace(self.numbers, self.numbered)
+        return text[0].upper() + text[1:]
 
 
 # the lots of each pair, one for each draw of the row
@@ -156,7 +164,7 @@ def drawn(office: Office, draw: Draw, pairs: Sequence[Pair], lots: Lots) -> None
     report, sup = office.report, office.people[SUP]
     tied = [pair for group in office.season.ties(pairs) for pair in group]
     sup.open("/")
-    report.same(sup.title, f"Lots of {draw.words}", "what the supervisor sees")
+    report.same(sup.title.lower(), f"lots of {draw.title}".lower(), "what the supervisor sees")
     sup.see(f"{len(pairs)} pairs of a school and a child. {len(tied)} ")
     if draw.is_workbook:
         by_workbook(office, sup, draw, {pair: lots[pair][0] for pair in tied})
@@ -246,7 +254,7 @@ def rehearsed(office: Office, draw: Draw, lots: Lots) -> None:
     report.same(shown, wanted, f"the outcome of the rehearsal of {draw.numbers}")
     hal.open("/")
     hal.see(f"{draw.title} is in progress. Next: confirm {draw.numbers}.")
-    hal.press(f"To {draw.numbers}")
+    hal.press(f"To {draw.numbered}")
     hal.press(f"Confirm {draw.numbers}")
 
 

@@ -17,8 +17,11 @@ from .site import Site
 # has the application see a day as today, where that can be
 Clock = Callable[[datetime.date], None]
 HEAD, OFFICER, SUPERVISOR, READER = "head", "officer", "supervisor", "reader"
-# the officer, the supervisor, who reads, the head of a school, and a program with a token
+ADMINISTRATOR = "administrator"
+# the officer, the supervisor, who reads, the head of a school, and a program with a token; and who
+# adds them, so that nobody of a draw has made the account of another
 HAL, SUP, RITA, ABBEY, PROGRAM = "hal", "sup", "rita", "abbey", "checker"
+ANN = "ann"
 
 
 @dataclasses.dataclass(frozen=True)

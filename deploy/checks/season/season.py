@@ -94,7 +94,7 @@ def withdrawals(office: Office) -> None:
 def second_round(office: Office) -> None:
     """The second round, in which late applications take part too, with a wrong day at first."""
     day = office.offer_day + datetime.timedelta(days=AFTER_SECOND)
-    wrong.held(office, Draw(2 + FILLS, day, "02 03 19 28 41 47"))
+    wrong.held(office, Draw(2 + FILLS, day, "02 03 19 28 41 47", page=3))
 
 
 def other_screens(office: Office) -> None:
@@ -127,7 +127,7 @@ STEPS: tuple[tuple[Callable[[Office], None], int], ...] = (
     # the file on the first screen, the schools in it, and the question
     (beginning.schools, 3),
     (beginning.flags, 1),
-    # the screen: each of five is added by typing
+    # the screen: each of six is added by typing
     (beginning.people, 1),
     (beginning.arrivals, 0),
     (ready, 0),

@@ -29,7 +29,7 @@ def held(office: Office, draw: Draw) -> None:
     stayed, fresh = answering(office, before)
     answered(office, stayed, fresh)
     restored(office, draw, before, (stayed, fresh))
-    draws.held_again(office, draw, lots)
+    draws.held_again(office, dataclasses.replace(draw, page=draw.page + 1), lots)
     sent_later(office, fresh)
     office.report.same(office.read(f"/draw/{draw.first}")["day"], draw.day.isoformat(),
                        f"the day of draw {draw.first}")

@@ -8,17 +8,21 @@ import flask
 from register_files import Refused
 from werkzeug.wrappers import Response
 
-from office import days, texts
+from office import days
 from office.model import Register
 
-from .. import draws_again, draws_checks, draws_outcome, explanations, numbers, restores_terms
-from ..draws import held_in, next_state
+from .. import (
+    draws_again, draws_changes, draws_checks, draws_outcome, draws_second, explanations, numbers,
+    restores_terms,
+)
+from ..draws import case_of, held_in, next_state
+from ..draws_changes import Change
 from ..draws_following import Work
 from ..draws_lots import sheet_of
-from ..draws_second import alone_since, made_since
+from ..draws_second import Case, Second
 from ..draws_terms import (
-    AUDITED, BEGUN, CLOSED, CONFIRMED, FOLLOWED, GIVEN_UP, IN_WORDS, MOST_FILLS, OPENED, REHEARSED,
-    RESTORED, RUNS, SEALED, SENDING, SENT, STEPS, UNSEALED, UNSENT_SEALED, Draw,
+    AUDITED, BEGUN, CLOSED, CONFIRMED, FOLLOWED, GIVEN_UP, IN_ORDER, IN_WORDS, MOST_FILLS, OPENED,
+    REHEARSED, RESTORED, RUNS, SEALED, SENDING, SENT, STEPS, UNSEALED, UNSENT_SEALED, Draw,
 )
 from ..guard import needs, parts, person
 from ..parts import Parts
@@ -32,6 +36,8 @@ Answer = str | Response | tuple[str, int]
 ACTIONS, AGAIN = {CLOSED: "close", CONFIRMED: "confirm", SENDING: "send"}, "go-on"
 # what a button says of the draws that it concerns
 NAMING = (CONFIRMED, SENDING, AUDITED)
+# in these a draw is still to be confirmed
+TO_CONFIRM = IN_ORDER[:IN_ORDER.index(CONFIRMED)]
 # seconds after which a page of what runs is loaded again
 LOOKS_AGAIN = 5
 
@@ -143,14 +149,16 @@ def draw_page(number: int, reason: str = "", status: int = 200) -> Answer:
     trouble = "" if work else trouble
     return flask.render_template(
         "draw.html", draw=draw, reason=reason or trouble, steps=STEPS, step=step,
-        action=action_of(draw, state), second=SECOND, button=button, standing=standing,
+        action=action_of(draw, state), by_second=SECOND, button=button, standing=standing,
         why_not=why_not(draw, state, register), register=register,
         checks=checks, outcome=outcome, agreed=agreed,
         is_agreed=flask.request.form.get("agreed") == agreed, ends=(GIVEN_UP, RESTORED),
-        may_give_up=draw.state in UNSEALED, needs_two=draw.state in UNSENT_SEALED,
+        may_give_up=draw.state in UNSEALED, has_lots=parts().draws.has_lots(draw),
+        second=second_of(draw), changes=changes_of(draw, register),
+        needs_two=draw.state in UNSENT_SEALED,
         may_restore=draw.state in SENT, not_second=not_second(draw), alone=alone(draw),
         is_opened=draw.state == OPENED, halted="" if reason else draw.trouble,
-        before=parts().draws.given_up_before(draw), is_explained=is_explained(draw, register),
+        before=draws_again.given_up(parts().draws, draw), is_explained=is_explained(draw, register),
         is_tried=is_tried(draw, register),
         repeats=found_draw(draw.repeats) if draw.repeats else None,
         may_undo=draw.state == OPENED and bool(draw.before), unsent=unsent_of(draw),
@@ -201,7 +209,7 @@ def unsent_of(draw: Draw) -> tuple[int, int] | None:
 def alone(draw: Draw) -> str:
     """Why nobody else can be the second of two persons, where two are needed to end it; or ""."""
     is_for_two = draw.state in (*UNSENT_SEALED, *SENT)
-    return alone_since(parts().store, parts().history, person().name) if is_for_two else ""
+    return draws_second.alone(parts().store, parts().history, person().name) if is_for_two else ""
 
 
 def is_explained(draw: Draw, register: Register | None) -> bool:
@@ -246,9 +254,25 @@ def button_of(draw: Draw, state: str, standing: int) -> str:
 
 
 def not_second(draw: Draw) -> str:
-    """Why the person is none of two who do something together, or ""."""
-    found = "" if draw.is_ended else made_since(parts().history, person().name)
+    """Why the person is none of two who end a draw together, or ""."""
+    asker = draw.give_up_by or draw.restore_by
+    others = {asker: "has asked for it"} if asker not in ("", person().name) else {}
+    found = "" if draw.is_ended else draws_second.hindered(
+        parts().history, person().name, Case(others=others))
     return f"{found}." if found else ""
+
+
+def second_of(draw: Draw) -> Second | None:
+    """Who may confirm a draw that is to be held, as far as it is brought now; before it is closed,
+    if the person who looks and may hold draws closes it.
+    """
+    if draw.state not in TO_CONFIRM:
+        return None
+    case = case_of(draw)
+    if draw.state == BEGUN and person().may(DRAW):
+        closes = {person().name: "would have closed the register for it"}
+        case = dataclasses.replace(case, others={**closes, **case.others})
+    return draws_second.second_of(parts().store, parts().history, case)
 
 
 def why_not(draw: Draw, state: str, register: Register | None) -> str:
@@ -262,13 +286,14 @@ def why_not(draw: Draw, state: str, register: Register | None) -> str:
         return f"{draw.restore_by} has asked to restore the copy from before the draw."
     if state == SEALED:
         return "The supervisor does this, on the screen of lots."
-    two = draw.who(BEGUN), draw.who(SEALED)
-    if state == CONFIRMED and who.name in two:
-        return f"Somebody other than {texts.listed(two)} confirms it."
+    said = draws_second.hindered(parts().history, who.name, case_of(draw)) if (
+        state == CONFIRMED and who.may(CONFIRM)) else ""
+    if said:
+        return f"{said}. Somebody else confirms it."
     action = action_of(draw, state)
     if action and not who.may(CONFIRM if action in SECOND else DRAW):
         return "Your role does not do this."
-    return not_second(draw) if state == CONFIRMED else ""
+    return ""
 
 
 def checks_of(draw: Draw, register: Register | None) -> list[Any]:
@@ -276,6 +301,15 @@ def checks_of(draw: Draw, register: Register | None) -> list[Any]:
     if register is None or draw.state != BEGUN:
         return []
     return parts().draws.checks(draw)
+
+
+def changes_of(draw: Draw, register: Register | None) -> list[Change] | None:
+    """What was changed since the applications were stored, for who reads it before the register is
+    closed, or before the draw is confirmed.
+    """
+    if register is None or draw.state not in (BEGUN, REHEARSED):
+        return None
+    return draws_changes.changes(parts().history, register, draw.terms)
 
 
 def outcome_of(draw: Draw, register: Register | None) -> dict[str, Any]:
@@ -338,7 +372,7 @@ OWN: dict[str, Step] = {
 SECOND: dict[str, Step] = {
     "confirm": lambda it, asked: it.draws.confirm(*asked.given),
     AGAIN: lambda it, asked: it.following.again(*asked.given),
-    "give-up": lambda it, asked: it.draws.give_up(*asked.given),
+    "give-up": lambda it, asked: it.draws.give_up(*asked.given, asked.why),
     "ask-give-up": lambda it, asked: it.draws.ask_give_up(*asked.given, asked.why),
     "keep-on": lambda it, asked: it.draws.go_on(*asked.given),
     "confirm-give-up": lambda it, asked: it.draws.confirm_give_up(*asked.given),

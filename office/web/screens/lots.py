@@ -14,9 +14,9 @@ from werkzeug.wrappers import Response
 
 from office import lot_sheets, texts
 
-from .. import draws_again, draws_sheet, numbers
+from .. import draws_again, draws_second, draws_sheet, numbers
+from ..draws import case_of
 from ..draws_drafts import Typed
-from ..draws_second import made_since
 from ..draws_lots import MISSING, MOST_SEED, MOST_TEXT, Cell, Sheet, errors_of_sheet
 from ..draws_terms import BEGUN, LOTS, Draw
 from ..guard import needs, parts, person
@@ -85,9 +85,10 @@ def not_own(draw: Draw) -> str:
     """Why the person is none who seals the lots of a draw, or ""."""
     if draw.who(BEGUN) == person().name:
         return "You have begun this draw: somebody else seals the lots."
-    said = made_since(parts().history, person().name) if draw.state == LOTS else ""
-    return (f"{said}. Another supervisor seals the lots, or the office gives the draw up and begins"
-            " again.") if said else ""
+    said = draws_second.hindered(parts().history, person().name, case_of(draw)) if (
+        draw.state == LOTS) else ""
+    return (f"{said}. Another supervisor seals the lots, or the office gives the draw up"
+            " and begins again.") if said else ""
 
 
 def sheet_page(

@@ -11,12 +11,12 @@ from werkzeug.wrappers import Response
 
 from office.model import Register
 
-from .. import draws_again, numbers, restores_since
+from .. import draws_again, draws_second, numbers, restores_since
 from ..copies import words_of
-from ..draws_second import made_since
+from ..draws_second import Second
 from ..guard import needs, parts, person
 from ..people import CONFIRM, DRAW, READ
-from ..restores import BEGAN, Restores
+from ..restores import Restores, case_of
 from ..restores_rehearsal import WOULD
 from ..restores_since import Difference
 from ..restores_terms import (
@@ -137,7 +137,7 @@ def page(
         asks_none=asks_none, lost_rows=[it for it in rows if not it.is_chosen and not it.is_later],
         sends_none=bool(rows) and not any(it.is_chosen or it.is_later for it in rows),
         would_fail=sum(it.is_chosen and it.came != WOULD for it in rows),
-        may_begin=may_begin(restore),
+        may_begin=may_begin(restore), second=second_of(restore),
     ), status
 
 
@@ -154,8 +154,14 @@ def not_steady(restore: Restore) -> str:
     """Why the person is none of the two, or ""."""
     if restore.is_ended:
         return ""
-    return sentence(made_since(
-        parts().history, person().name, BEGAN, "this restore was begun"))
+    return sentence(draws_second.hindered(parts().history, person().name, case_of(restore)))
+
+
+def second_of(restore: Restore) -> Second | None:
+    """Who may confirm the restore, once somebody has asked for it."""
+    if restore.state != ASKED:
+        return None
+    return draws_second.second_of(parts().store, parts().history, case_of(restore))
 
 
 def why_not(restore: Restore) -> str:

@@ -11,8 +11,9 @@ from werkzeug.wrappers import Response
 from office import days
 from office.model import Register
 
-from .. import numbers, season_end
+from .. import draws_second, numbers, season_end
 from ..archive import Item
+from ..draws_second import Second
 from ..guard import needs, parts, person
 from ..people import CONFIRM, END
 from ..season_end import DELETED, DELETING, End, WrongField
@@ -56,7 +57,8 @@ def page(said: str = "", status: int = 200, wrong: dict[str, str] | None = None)
         proposed=days.in_words(proposed) if proposed else "",
         soonest=soonest(register, end.today()) if register else None,
         is_due=is_due, counts=counts, shown=season_end.read_counts(counts),
-        not_second=not_second(found), deleting=DELETING, deleted=DELETED), status
+        not_second=not_second(found), second=second_of(found), deleting=DELETING,
+        deleted=DELETED), status
 
 
 def register_now(found: End) -> tuple[Register | None, str]:
@@ -79,7 +81,14 @@ def not_second(found: End) -> str:
     """Why the person cannot confirm the deletion, or ""."""
     if found.asked_by == person().name:
         return "You have asked for the deletion: somebody else confirms it."
-    return sentence(parts().end.not_steady(person()))
+    case = parts().end.case(found, found.asked_by)
+    return sentence(draws_second.hindered(parts().history, person().name, case))
+
+
+def second_of(found: End) -> Second | None:
+    """Who may confirm the deletion, once somebody has asked for it."""
+    case = parts().end.case(found, found.asked_by)
+    return draws_second.second_of(parts().store, parts().history, case) if found.asked_by else None
 
 
 def refused(error: Refused) -> Answer:
