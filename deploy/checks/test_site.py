@@ -49,6 +49,13 @@ def long_body_fixture(world: World) -> str:
     return f"@{world.room}/long-body"
 
 
+def changed(world: World, **given: str) -> Answer:
+    """What a change of a person on People gets, once what it does is shown."""
+    asked = world.ask(f"/people/ask?{urllib.parse.urlencode(given)}", "jane")
+    shown = group('name="shown" value="([^"]+)"', asked.body)
+    return world.submit("/people/", "jane", **given, shown=shown)
+
+
 def test_nginx_accepts_the_site(world: World) -> None:
     assert world.tested.returncode == 0, world.tested.stderr
 
@@ -190,7 +197,7 @@ def test_a_password_that_was_drawn_is_for_one_sign_in_and_does_nothing_else(worl
     assert world.submit("/password", "ivy", **own).status == 303
     assert world.ask("/child/1", "ivy").status == 200
     assert world.sign_in("ivy", drawn, "--interface", "127.0.2.51").status == 403
-    assert world.submit("/people/", "jane", what="remove", name="ivy").status == 200
+    assert changed(world, what="remove", name="ivy").status == 200
     assert world.ask("/child/1", "ivy").status == 401
 
 
@@ -999,10 +1006,10 @@ def test_who_is_locked_is_signed_in_no_more_and_who_is_not_any_more_signs_in_aga
     before = world.field(name)
     assert status_of(raw(world, "GET /child/1", before)) == 200
     try:
-        assert world.submit("/people/", "jane", what="lock", name=name).status == 200
+        assert changed(world, what="lock", name=name).status == 200
         assert status_of(raw(world, "GET /child/1", before)) == 401
     finally:
-        world.submit("/people/", "jane", what="unlock", name=name)
+        changed(world, what="unlock", name=name)
         world.sessions.pop(name, None)
     assert world.ask("/child/1", name).status == 200
 
@@ -1010,12 +1017,12 @@ def test_who_is_locked_is_signed_in_no_more_and_who_is_not_any_more_signs_in_aga
 def test_who_is_given_another_role_has_no_more_what_the_one_before_could(world: World) -> None:
     before = world.field("hal")
     try:
-        world.submit("/people/", "jane", what="role", name="hal", role="reader")
+        changed(world, what="role", name="hal", role="reader")
         world.sessions.pop("hal")
         assert status_of(raw(world, "GET /child/1", before)) == 401
         assert world.ask("/command", "hal", ACCEPT).status == 403
     finally:
-        world.submit("/people/", "jane", what="role", name="hal", role="officer")
+        changed(world, what="role", name="hal", role="officer")
         world.sessions.pop("hal")
     assert world.ask("/command", "hal", ACCEPT).status == 409
 

@@ -3,6 +3,8 @@ import base64
 import contextlib
 import html.parser
 import pathlib
+import re
+import urllib.parse
 from collections.abc import Iterator
 from typing import Any
 from unittest import mock
@@ -78,6 +80,12 @@ class Browser:
         if found.mimetype == "text/html":
             self.secret = Form(found.text).secret or self.secret
         return found
+
+    def change(self, **given: str) -> Answer:
+        """A change of a person, once what it does is shown."""
+        asked = self.get(f"/people/ask?{urllib.parse.urlencode(given)}")
+        shown = re.findall('name="shown" value="([0-9a-f]+)"', asked.text)
+        return self.post("/people/", {**given, "shown": shown[0]}) if shown else asked
 
     def command(self, command: dict[str, Any], seen: str | None = None) -> Answer:
         """A command, as the page sends it."""

@@ -687,7 +687,7 @@ def test_a_pile_of_somebody_who_has_left_is_taken_over(office: Site) -> None:
     assert office.parts.history.entries[-1].about == {
         "person": "bo", "answers": ["11", "12-", "Ada", "13"]}
     assert "has no answers that wait" in jane.get("/answers/of/bo").text
-    assert hal.post("/people/", {"what": "remove", "name": "bo"}).status_code == 200
+    assert hal.change(what="remove", name="bo").status_code == 200
     question = press(jane, PAGE, shown(jane), "Record 3 answers")
     press(jane, PAGE, Page(question.text), "Record 3 answers, with that of Ben Bell")
     assert sent(office) == [{"cmd": "accept", "child": 11, "school": "A"},

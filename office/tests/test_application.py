@@ -320,10 +320,10 @@ def test_people_are_added_and_kept_out(office: Site) -> None:
     given = {"present": drawn, "new": "a sea of grey boats", "again": "a sea of grey boats"}
     assert ann.post("/password", given).status_code == 303
     assert ann.get("/").status_code == 200
-    hal.post("/people/", {"what": "lock", "name": "ann"})
+    assert hal.change(what="lock", name="ann").status_code == 200
     assert ann.get("/").status_code == 302
     assert Browser(office.app).sign_in("ann", "a sea of grey boats").status_code == 403
-    said = hal.post("/people/", {"what": "role", "name": "hal", "role": "officer"})
+    said = hal.change(what="role", name="hal", role="officer")
     assert said.status_code == 409 and "nobody can do this for themselves" in said.text
     kept = [(it.who, it.what, it.about.get("person")) for it in office.parts.history.entries]
     assert ("hal", "added", "ann") in kept and ("hal", "locked", "ann") in kept
@@ -391,8 +391,7 @@ def test_a_role_that_is_given_is_what_somebody_may(office: Site) -> None:
     """From the next sign-in on, which follows at once; and on record with the one before."""
     hal, kim = office.browser("hal", "head"), office.browser("kim", "reader")
     for role, status in (("officer", 200), ("reader", 403)):
-        assert hal.post("/people/", {"what": "role", "name": "kim", "role": role}
-                        ).status_code == 200
+        assert hal.change(what="role", name="kim", role=role).status_code == 200
         assert kim.get("/").status_code == 302, "signed out"
         assert kim.sign_in("kim", office.passwords["kim"]).status_code == 303
         assert kim.get("/answers/").status_code == status, role
@@ -500,7 +499,7 @@ def test_a_person_with_a_pile_is_not_removed(office: Site) -> None:
     """The answers that wait would be gone with them. What is refused is not on record as done."""
     jane, hal = office.browser("jane"), office.browser("hal", "head")
     assert jane.post("/answers/", {"entry": "1"}).status_code == 303
-    found = hal.post("/people/", {"what": "remove", "name": "jane"})
+    found = hal.change(what="remove", name="jane")
     assert found.status_code == 409 and "1 answer in a pile" in Page(found.text).said()
     # (nor by an answer that is added between the question and the removal)
     with pytest.raises(Refused, match="1 answer in a pile"):
@@ -512,7 +511,7 @@ def test_a_person_with_a_pile_is_not_removed(office: Site) -> None:
                     ).status_code == 409
     assert hal.post("/people/", {"what": "add", "name": "hal", "role": "reader"}
                     ).status_code == 409
-    assert hal.post("/people/", {"what": "remove", "name": "jane"}).status_code == 200
+    assert hal.change(what="remove", name="jane").status_code == 200
     assert jane.get("/").status_code == 302
     assert [(it.what, it.about["person"]) for it in office.parts.history.entries
             if it.who == "hal" and it.what in ("added", "removed")] == [("removed", "jane")]

@@ -14,7 +14,7 @@ from draw_site import (
     HAL, MISTYPED, RAISED, SUP, Command, Fields, Machine, Person, after_round, at_lots, begun,
     brought, given_up, lot_of, machine_over, sealed, small_register, typed, version, waiting,
 )
-from pages import Page
+from pages import Page, press
 from served import do_over
 
 from office.web import copies, people
@@ -546,6 +546,47 @@ def test_what_moved_a_class_or_a_limit_is_named(small: Machine) -> None:
             rows_shown = Page(jane.browser.get(f"/draws/{number}").text).tables["changes"][1:]
             assert [it[:4] for it in rows_shown] == wanted
         assert re.fullmatch(r"\d+ \w+ \d{4}, \d\d:\d\d", rows_shown[0][4])
+
+
+def test_a_change_of_a_person_is_asked_first(small: Machine) -> None:
+    """By name, with what it does to the draw in progress: nothing is done before that is shown, nor
+    once it has changed.
+    """
+    with small.office() as office:
+        hal, jane = office_of_two(office)
+        listed = [it for it in Page(hal.browser.get("/people/").text).forms if "what" in dict(
+            it.buttons.values())]
+        assert {(it.action, it.method) for it in listed if "Add" not in it.buttons} == {
+            ("/people/ask", "get")}
+        before = hal.browser.get("/people/ask?what=lock&name=jane").text
+        assert "Draw 1" not in before and "Lock jane" in Page(before).buttons()
+        number = begun(office)
+        brought(office, number, "closed")
+        late = press(hal.browser, "/people/", Page(before), "Lock jane")
+        assert late.status_code == 409 and "jane could then not confirm it" in late.text
+        draw, later = "Draw 1: a round is in progress: ", "are not the two persons of any draw"
+        for given, button, said, is_later in (
+            ("what=lock&name=jane", "Lock jane", "jane could then not confirm it. Nobody else", 0),
+            ("what=remove&name=jane", "Remove jane", "jane could then not confirm it. Nobody", 0),
+            ("what=reset&name=jane", "Draw a new password of jane",
+             "jane could then not confirm it. Nobody else", 1),
+            ("what=role&name=jane&role=head", "Give jane the role head",
+             "jane could then not confirm it. Nobody else", 1),
+            ("what=reset&name=sup", "Draw a new password of sup",
+             "sup could then not seal its lots. Nobody else could.", 1),
+        ):
+            found = hal.browser.get(f"/people/ask?{given}")
+            page = Page(found.text)
+            assert found.status_code == 200 and button in page.buttons()
+            assert f"<title>{button}? " in found.text and draw + said in found.text
+            assert (later in found.text) == is_later
+            what, name = re.findall("=([a-z]+)", given)[:2]
+            sent = {"what": what, "name": name, "role": "head"}
+            assert hal.browser.post("/people/", sent).status_code == 409
+        assert not any(it.about.get("person") for it in office.parts.history.entries)
+        assert jane.browser.get("/").status_code == 200
+        assert hal.browser.change(what="lock", name="jane").status_code == 200
+        assert jane.browser.get("/").status_code == 302
 
 
 def test_an_undone_draw_is_named_so(small: Machine) -> None:

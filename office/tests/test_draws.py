@@ -968,7 +968,8 @@ def test_a_second_person_is_not_made_up(small: Machine, how: str) -> None:
         number = begun(office)
         brought(office, number, "rehearsed")
         hal.browser.get("/people/")
-        page = hal.browser.post("/people/", given)
+        add = given["what"] == "add"
+        page = hal.browser.post("/people/", given) if add else hal.browser.change(**given)
         assert page.status_code == 200, page.text
         drawn = re.findall(r'<code id="secret">([^<]{24})</code>', page.text)
         assert len(drawn) == (how != "another role")

@@ -90,7 +90,7 @@ TEXTS: dict[str, set[str]] = {
     "notes.strike": {"why"},
     "notices.ask": {"day", "child", "key", "digest", "ticked", "tick", "read"},
     "notices.go_on": set(),
-    "people.change": {"what", "name", "role", "kind"},
+    "people.change": {"what", "name", "role", "kind", "shown"},
     "preferences.record": {"day", "seen", "what", "preference-1", "preference-2"},
     "points.change": {"what", "version", "east", "north", "property", "postcode"},
     "points.look": {"property", "postcode"},
@@ -382,7 +382,7 @@ def test_no_role_reaches_a_place_that_is_not_its_own(world: World, role: str) ->
             for path in paths:
                 is_own = method == "GET" and (
                     path in OF_SCHOOL if role == "school-OAK" else path in ("/", "/help") or (
-                        role == "administrator" and path == "/people/"))
+                        role == "administrator" and view.startswith("people.")))
                 is_own = is_own or (role, view) == ("administrator", "people.change")
                 found = browser.get(path) if method == "GET" else browser.post(path)
                 assert is_own or found.status_code == 403, (method, path, found.status_code)

@@ -682,7 +682,7 @@ def test_nobody_is_one_of_two_whom_the_other_has_made(
         head.press("day", day="24/1/2026", reason=WHY)
         office.parts.end.today = lambda: DAY
         head.press("ask", name=NAME)
-        made = head.browser.post("/people/", {"what": "reset", "name": "jane"})
+        made = head.browser.change(what="reset", name="jane")
         assert made.status_code == 200
 
         def confirmed(name: str = "jane", role: str = "officer") -> None:

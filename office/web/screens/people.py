@@ -1,13 +1,16 @@
-"""Who may sign in: added, given a role, locked, and given a new password, each on record."""
-from collections.abc import Callable
+"""Who may sign in: added, given a role, locked, and given a new password, each asked before it is
+done, and on record.
+"""
+from collections.abc import Callable, Mapping
 
 import flask
 from register_files import Refused
 from werkzeug.wrappers import Response
 
-from .. import guard, people
+from .. import guard, people, people_asked
 from ..guard import needs, parts, person
 from ..people import PEOPLE, PERSON, PROGRAM
+from ..people_asked import Act
 from ..wording import sentence
 
 screen = flask.Blueprint("people", __name__, url_prefix="/people")
@@ -44,14 +47,6 @@ def show() -> Answer:
     return page()
 
 
-def role_and_kind(name: str) -> tuple[str, str]:
-    """The role of a person, and whether it is a program; or a refusal."""
-    row = parts().store.row("SELECT role, kind FROM person WHERE name=?", name)
-    if not row:
-        raise Refused(f"there is no {name}")
-    return row["role"], row["kind"]
-
-
 def see_another(name: str) -> None:
     """Refuses what would keep oneself out."""
     if name == person().name:
@@ -82,37 +77,71 @@ def add(name: str, role: str, kind: str) -> Answer:
     return page(f"{name} is added as {role}.", (name, secret, kind == PROGRAM))
 
 
+def asked(act: Act, said: str = "", status: int = 200) -> Answer:
+    """The question before a change."""
+    warnings = people_asked.warnings(parts(), person(), act)
+    return flask.render_template(
+        "people_ask.html", act=act, warnings=warnings, said=said,
+        shown=people_asked.shown_of(act, warnings)), status
+
+
+def given(values: Mapping[str, str]) -> Act:
+    """The change that is meant, or a refusal."""
+    what, name, role = (values.get(it, "").strip() for it in ("what", "name", "role"))
+    act = people_asked.act_of(parts(), what, name, role)
+    see_another(name)
+    return act
+
+
+@screen.get("/ask")
+@needs(PEOPLE)
+def ask() -> Answer:
+    """The question before a change of one person."""
+    if flask.request.args.get("what") not in people_asked.ACTS:
+        flask.abort(404)
+    try:
+        return asked(given(flask.request.args))
+    except Refused as error:
+        return page(f"Nothing was changed: {error}.", status=409)
+
+
 @screen.post("/")
 @needs(PEOPLE)
 def change() -> Answer:
-    """One change of one person."""
+    """Somebody is added; or one is changed, as it was asked."""
     form = flask.request.form
-    what, name, role = (form.get(it, "").strip() for it in ("what", "name", "role"))
-    found = parts().people
+    what = form.get("what", "")
+    if what not in (ADD, *people_asked.ACTS):
+        flask.abort(400)
     try:
         if what == ADD:
+            name, role = (form.get(it, "").strip() for it in ("name", "role"))
             return add(name, role, PROGRAM if form.get("kind") == PROGRAM else PERSON)
-        before, kind = role_and_kind(name)
-        see_another(name)
-        if what == "role":
-            people.see_role(role)
-            guard.record("gave a role", person=name, role=role, before=before)
-            found.set_role(name, role)
-            return page(f"{name} has the role {role} now, and is signed out.")
-        if what == "reset":
-            new = "token" if kind == PROGRAM else "password"
-            guard.record(f"drew a new {new}", person=name)
-            return page(f"{name} has a new {new}, and is signed out.",
-                        (name, found.reset(name), kind == PROGRAM))
-        if what in ("lock", "unlock"):
-            guard.record(f"{what}ed", person=name)
-            found.lock(name, what == "lock")
-            return page(f"{name} is {what}ed.")
-        if what == "remove":
-            found.see_removable(name)
-            guard.record("removed", person=name, role=before)
-            found.remove(name)
-            return page(f"{name} is removed. What {name} did stays in the history.")
+        with parts().store.lock:
+            act = given(form)
+            warnings = people_asked.warnings(parts(), person(), act)
+            if form.get("shown") != people_asked.shown_of(act, warnings):
+                return asked(act, "Nothing was changed yet: this is what it does now.", 409)
+            return done(act)
     except Refused as error:
         return page(f"Nothing was changed: {error}.", status=409)
-    flask.abort(400)
+
+
+def done(act: Act) -> Answer:
+    """Does a change that was asked, on record before."""
+    found, name = parts().people, act.name
+    if act.what == people_asked.ROLE:
+        guard.record("gave a role", person=name, role=act.role, before=act.role_now)
+        found.set_role(name, act.role)
+        return page(f"{name} has the role {act.role} now, and is signed out.")
+    if act.what == people_asked.RESET:
+        guard.record(f"drew a new {act.secret}", person=name)
+        return page(f"{name} has a new {act.secret}, and is signed out.",
+                    (name, found.reset(name), act.is_program))
+    if act.what == people_asked.REMOVE:
+        guard.record("removed", person=name, role=act.role_now)
+        found.remove(name)
+        return page(f"{name} is removed. What {name} did stays in the history.")
+    guard.record(f"{act.what}ed", person=name)
+    found.lock(name, act.what == people_asked.LOCK)
+    return page(f"{name} is {act.what}ed.")
