@@ -250,6 +250,24 @@ def test_what_had_no_answer_is_among_what_came_since(
         assert room.now().schools["OAK"].pan == 2
 
 
+def test_a_machine_that_did_not_restore_is_seen(
+    small: Machine, monkeypatch: pytest.MonkeyPatch,
+) -> None:
+    """It says that it has, and the register is as before: nothing is said to be restored."""
+    with small.office() as office:
+        room, real = Room(office), office.parts.copies.asked
+        room.copy_now()
+        sent(office, (HAL, RAISED))
+        number = room.begin(1)
+        assert room.press(room.hal, number, "ask", (room.since()["raise_pan"],)).status_code == 303
+        monkeypatch.setattr(office.parts.copies, "asked", lambda what, at: (
+            {} if what == copies.RESTORE else real(what, at)))
+        room.press(room.jane, number, "confirm")
+        assert room.state(number) == "restoring"
+        assert not [it for it in office.parts.history.entries if it.what == RESTORED]
+        assert room.now().schools["OAK"].pan == 2 and office.parts.desk.closed()
+
+
 @pytest.mark.parametrize("is_again", [False, True])
 def test_rows_whose_import_is_undone_are_in_the_table_again(small: Machine, is_again: bool) -> None:
     """Also where the application ended before it had marked them as stored; where the import is
