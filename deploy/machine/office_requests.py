@@ -114,10 +114,14 @@ def handled(register: Register, name: str, work: Callable[[int], Result]) -> int
                 answer = json.dumps(said, sort_keys=True)
                 put(folder, name + DONE, fd, f"{answer}\n")
         except OSError as error:
+            forget(folder, name + BEGUN)
             raise Refused(f"the request {name} has no answer, and is not done again:"
                           f" {error.strerror}") from error
-        finally:
+        except Exception:
+            # (whoever kills it has it done again, and a fault of its own does not)
             forget(folder, name + BEGUN)
+            raise
+        forget(folder, name + BEGUN)
         print(answer, file=sys.stderr if "error" in said else sys.stdout)
         return 1 if "error" in said else 0
 

@@ -113,9 +113,24 @@ def test_work_that_fails_in_a_way_of_its_own_is_answered(
     assert left(asked) == ["copy.done"]
 
 
+def test_a_fault_of_the_work_is_not_repeated(asked: Machine) -> None:
+    def faulty(_: int) -> Result:
+        asked.done += 1
+        raise ZeroDivisionError
+
+    with pytest.raises(ZeroDivisionError):
+        asked.watch(faulty)
+    assert (asked.watch(asked.work), asked.done, (asked.folder / "copy.begun").exists()) == (
+        [], 1, False)
+
+
 def test_what_is_killed_is_done_again(asked: Machine) -> None:
     """A request that was begun, and whose answer is not there."""
-    (asked.folder / "copy").rename(asked.folder / "copy.begun")
-    (asked.folder / ".copy.done").write_text("half", encoding="ascii")
+    def killed(_: int) -> Result:
+        raise KeyboardInterrupt
+
+    with pytest.raises(KeyboardInterrupt):
+        asked.watch(killed)
+    assert "copy.begun" in left(asked)
     assert (asked.watch(asked.work), asked.done) == ([0], 1)
     assert left(asked) == ["copy.done"]
