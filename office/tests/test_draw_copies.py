@@ -1,5 +1,6 @@
 """Copies of the register by a unit of the machine, asked for by the application; and restores."""
 import argparse
+import errno
 import functools
 import json
 import os
@@ -71,6 +72,9 @@ def test_a_copy_is_that_of_the_register(small: Machine, monkeypatch: pytest.Monk
                 found.make("a try")
         assert len(found.listed()) == 1
         monkeypatch.setattr(copies, "read", lambda _: {"number": 1, "copy": name.format(1)})
+        with pytest.raises(Refused, match="the machine could not answer"):
+            found.make("a try")
+        (small.state / "requests" / "copy.begun").touch()
         monkeypatch.setattr(copies, "END_SECONDS", 0.2)
         with pytest.raises(Refused, match="the machine has begun a copy and not ended it"):
             found.make("a try")
@@ -125,6 +129,18 @@ def test_what_the_machine_has_begun_is_awaited(
         found.restore(1, "hal")
         assert small.answered >= count + 1
         assert not list((small.state / "requests").glob("*.begun"))
+
+
+def test_a_machine_that_cannot_answer_is_not_awaited(
+    small: Machine, monkeypatch: pytest.MonkeyPatch
+) -> None:
+    """Its disk is full: it has removed the request, so nothing more comes of it."""
+    def full(*_: object) -> int:
+        raise OSError(errno.ENOSPC, "no room")
+
+    monkeypatch.setattr(os, "posix_fallocate", full)
+    with small.office() as office, pytest.raises(Refused, match="the machine could not answer"):
+        office.parts.copies.make("a try")
 
 
 def answer_of(machine: Machine, what: str) -> dict[str, Any]:

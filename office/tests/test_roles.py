@@ -45,7 +45,7 @@ SCREENS: dict[str, tuple[set[str], set[str]]] = {
 # what differs from its screen
 OTHERS: dict[tuple[str, str], set[str]] = {
     ("child.ask", "GET"): RECORDS, ("child.correct", "GET"): RECORDS,
-    ("letters.file", "GET"): RECORDS,
+    ("letters.file", "GET"): RECORDS, ("letters.again", "GET"): RECORDS,
     ("letters.audit", "POST"): {HEAD},
     ("letter_templates.previewed", "GET"): {HEAD}, ("notices.choose", "GET"): RECORDS,
     ("draws.second", "POST"): {HEAD, OFFICER}, ("register.question", "POST"): READS,

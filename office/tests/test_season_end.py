@@ -138,7 +138,7 @@ def test_what_is_open_is_read_before_the_last_copy(
         found = season_end.still_open(office.parts, register, office.parts.end.today())
         assert found[0].is_stop and found[0].title == "A draw in progress"
         refused = head.press("copy", 409)
-        assert "A draw in progress: draw 2: 1 fill at A" in refused.text
+        assert "A draw in progress: draw 2 (page 1): 1 fill at A" in refused.text
         assert len(office.copied) == 1
         office.parts.history.add("hal", history.SENDS, {
             "command": {"cmd": "accept", "child": 1, "school": "A"}})
@@ -565,6 +565,24 @@ def test_what_is_a_file_is_in_the_archive_as_it_is(tmp_path: pathlib.Path) -> No
     assert sorted(found) == ["office/child_file-1-data", "office/child_file.jsonl"]
     assert found["office/child_file-1-data"] == b"%PDF-"
     assert json.loads(found["office/child_file.jsonl"])["data"] == "office/child_file-1-data"
+    store.close()
+
+
+def test_lots_that_were_never_sealed_are_not_in_the_archive(tmp_path: pathlib.Path) -> None:
+    """They decided nothing, and are the supervisor's; so none is missed there either."""
+    store = Store(str(tmp_path / "office.db"))
+    with store.writing() as db:
+        for number, digest in ((1, None), (2, "d1")):
+            db.execute("INSERT INTO draw (id, first, fills, day, state, version, digest)"
+                       " VALUES (?, 1, 0, '', 'given up', 1, ?)", (number, digest))
+            db.execute("INSERT INTO lot VALUES (?, 'OAK', 3, 0, ?, NULL, 0)",
+                       (number, str(7700 + number)))
+    found = {name: data for name, _, data in archive.of_store(store)}
+    assert [json.loads(it)["text"] for it in found["office/lot.jsonl"].splitlines()] == ["7702"]
+    with zipfile.ZipFile(tmp_path / "archive.zip", "w") as made:
+        for name, data in found.items():
+            made.writestr(name, data)
+    assert archive.lacks(store, tmp_path / "archive.zip") == []
     store.close()
 
 

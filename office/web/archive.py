@@ -149,13 +149,21 @@ def tables(store: Store) -> list[str]:
     return [it["name"] for it in rows if it["name"] not in SECRET]
 
 
+def source_of(name: str) -> str:
+    """What of a table is of the season: lots that were never sealed decided nothing, and nobody
+    but the supervisor may see them.
+    """
+    return "lot WHERE draw IN (SELECT id FROM draw WHERE digest IS NOT NULL)" if name == "lot" \
+        else name
+
+
 def of_store(store: Store) -> Iterator[tuple[str, str, bytes]]:
     """What the application keeps of the season, by its tables: each row a line of JSON, and what is
     a file beside it.
     """
     for name in tables(store):
         lines, files = [], []
-        for at, row in enumerate(store.rows(f"SELECT * FROM {name}"), 1):
+        for at, row in enumerate(store.rows(f"SELECT * FROM {source_of(name)}"), 1):
             cells: dict[str, Any] = {}
             for column in row.keys():
                 cells[column] = row[column]
@@ -179,7 +187,8 @@ def lacks(store: Store, path: pathlib.Path) -> list[str]:
             lines = made.read(LINES.format(name)) if LINES.format(name) in there else b""
             kept = {packed(json.loads(it), columns) for it in lines.splitlines()}
             marks = ", ".join(f'"{it}"' for it in columns)
-            rows = store.rows(f"SELECT {marks} FROM {name}") if name not in PASSING else []
+            asked = f"SELECT {marks} FROM {source_of(name)}"
+            rows = store.rows(asked) if name not in PASSING else []
             if {packed(dict(it), columns) for it in rows} - kept:
                 found.append(name)
     return found

@@ -228,8 +228,10 @@ class Copies:
                 if self.clock() > end and self.is_taken_back(request):
                     raise Refused("the machine has not answered: tell whoever maintains it")
                 time.sleep(PAUSE)
-            self.wait(what, lambda: is_answer(read(answer), number) and not self.is_begun(what))
+            self.wait(what, lambda: not self.is_begun(what))
             found = read(answer)
+        if not is_answer(found, number):
+            raise Refused("the machine could not answer: tell whoever maintains it")
         if "error" in found:
             raise Refused(ERRORS.get(str(found["error"]), plain.said(str(found.get("why", "")))))
         return found

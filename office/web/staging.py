@@ -15,6 +15,7 @@ from register_files import Refused
 
 from office import fields
 from office.rules import LIMITS
+from office.turns import Turn
 
 from . import points
 from .history import History, now
@@ -42,7 +43,7 @@ class Staging:
     def __init__(self, store: Store, record: History) -> None:
         self.store, self.history = store, record
         # held while a row is compared and changed, and while rows are sent
-        self.lock = threading.RLock()
+        self.lock = Turn(threading.RLock(), "somebody else is storing these applications")
         # the rows as they were read last, of which each change makes another version
         self.read: dict[int, Staged] = {}
 

@@ -345,7 +345,7 @@ def of_child(number: int) -> Response:
 
 
 @screen.get("/again/<int:number>")
-@needs(READ)
+@needs(RECORD)
 def again(number: int) -> Response:
     """A letter that was sent, as it was."""
     with tempfile.TemporaryDirectory(prefix="admissions-") as room:
