@@ -15,7 +15,10 @@ from conftest import ROOT
 from machine import setup
 from office import libraries
 
-GATE = "rt: adm_types proved\nAll of it took 3310 seconds of wall-clock time, and 9000 of CPU time\n57 passed, 0 failed\n"
+GATE = """rt: adm_types proved
+All of it took 3310 seconds of wall-clock time, and 9000 of CPU time
+57 passed, 0 failed
+"""
 
 
 @pytest.fixture(name="package")
