@@ -7,6 +7,7 @@ PACKAGES = {
     "authlib": "python3-authlib",
     "flask": "python3-flask",
     "gunicorn": "python3-gunicorn",
+    "itsdangerous": "python3-itsdangerous",
     "jinja2": "python3-jinja2",
     "markdown": "python3-markdown",
     "markupsafe": "python3-markupsafe",
