@@ -112,8 +112,11 @@ def content_in(above: int, name: str) -> bytes | None:
         if error.errno in (errno.ENOENT, errno.ELOOP):
             return None
         raise
-    with open(handle, "rb") as file:
-        return file.read() if stat.S_ISREG(os.fstat(handle).st_mode) else None
+    with closing(handle):
+        if not stat.S_ISREG(os.fstat(handle).st_mode):
+            return None
+        with open(handle, "rb", closefd=False) as file:
+            return file.read()
 
 
 def replace(
@@ -183,10 +186,11 @@ def content_as(name: str, path: pathlib.Path) -> bytes:
     """What a file has, as a user reads it."""
     with acting_as(name):
         handle = os.open(path, os.O_RDONLY | AS_IT_IS)
-    with open(handle, "rb") as file:
+    with closing(handle):
         if not stat.S_ISREG(os.fstat(handle).st_mode):
             raise Refused(f"{path} is no file")
-        return file.read()
+        with open(handle, "rb", closefd=False) as file:
+            return file.read()
 
 
 def write_as(name: str, path: pathlib.Path, data: bytes) -> None:

@@ -869,7 +869,8 @@ def test_a_draw_is_given_up_before_it_is_sent_alone(small: Machine) -> None:
         number = begun(office)
         brought(office, number, "sending")
         for name in ("give-up", "ask-give-up", "confirm-give-up"):
-            found = Person(office, "hal", "head").step(number, name, reason=MISTYPED)
+            seen = str(office.parts.draws.get(number).version)
+            found = Person(office, "hal", "head").press(number, seen, name, reason=MISTYPED)
             assert found.status_code == 409 and "in which this cannot be done" in found.text
 
 

@@ -696,7 +696,7 @@ def test_a_draw_with_a_wrong_day_is_held_again_with_its_lots(small: Machine) -> 
         assert "This draw was undone." in page and f"{link}Begin draw 1: a round again</a>" in page
         page = room.hal.get("/draws/").text
         assert page.count(f"{link}begin draw 1 again</a>") == 2
-        assert "This form is for another draw. To hold draw 1: a round again" in page
+        assert "This form is for another draw. To hold draw 1 again, follow" in page
         assert link not in room.jane.get("/draws/").text + room.jane.get(f"/draws/{number}").text
         page = room.hal.get(f"/draws/?again={number}").text
         assert "This form is for another draw" not in page

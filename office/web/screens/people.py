@@ -98,7 +98,7 @@ def given(values: Mapping[str, str]) -> Act:
 def ask() -> Answer:
     """The question before a change of one person."""
     if flask.request.args.get("what") not in people_asked.ACTS:
-        flask.abort(404)
+        return flask.redirect(flask.url_for("people.show"), 303)
     try:
         return asked(given(flask.request.args))
     except Refused as error:
