@@ -1,0 +1,38 @@
+"""A season that six people live over HTTP: what is observed of it is what the committed files of
+season_trace/ have. These were recorded from the product as it was: a difference says that behaviour
+moved, and not that it is wrong. If it was meant to move, `season_trace.py --update` writes them
+anew, and the change is reviewed with the others.
+"""
+import difflib
+import pathlib
+
+import pytest
+from season_observed import EXPECTED, KINDS, Trace
+from season_trace import live
+
+# lines of a difference that are shown
+MOST_LINES = 200
+
+
+@pytest.fixture(scope="module", name="folder")
+def folder_fixture(tmp_path_factory: pytest.TempPathFactory) -> pathlib.Path:
+    """Where the season is lived."""
+    return tmp_path_factory.mktemp("season")
+
+
+@pytest.fixture(scope="module", name="trace")
+def trace_fixture(folder: pathlib.Path) -> Trace:
+    """A season from its first sign-in to its deletion."""
+    return live(folder)
+
+
+@pytest.mark.parametrize("kind", KINDS)
+def test_a_season(trace: Trace, kind: str) -> None:
+    """What is observed of it is as it was."""
+    path = EXPECTED / f"{kind}.txt"
+    was, now = path.read_text("utf-8").splitlines(), trace.found()[kind].splitlines()
+    assert len(was) > 40
+    lines = list(difflib.unified_diff(was, now, f"{path.name}, as it was", "now", "", "", 1, ""))
+    if lines:
+        cut = [f"and {len(lines) - MOST_LINES} lines more"] if len(lines) > MOST_LINES else []
+        pytest.fail("\n".join([*lines[:MOST_LINES], *cut]), pytrace=False)
