@@ -196,6 +196,14 @@ class Hand:
         assert found.status == 200, f"{self.who} at {path}: {found.status}\n{in_short(found)}"
         return found.data
 
+    def links(self, begin: str) -> list[str]:
+        """The links of the page to numbers below a path."""
+        return re.findall(f'href="({begin}[0-9]+)', self.last.text)
+
+    def button(self, name: str) -> str:
+        """The text of the button that has an identifier."""
+        return " ".join(self.page.by_id[name].split())
+
     def form(self, button: str, at: int = 0) -> Form:
         """The form that has a button whose text begins so; of several, one of them."""
         found = [(it, text) for it in self.page.forms for text in it.buttons

@@ -7,6 +7,9 @@ import difflib
 import pathlib
 
 import pytest
+from conftest import make
+from season_colleague import CASES, Case
+from season_hands import Room, room
 from season_observed import EXPECTED, KINDS, Trace
 from season_trace import live
 
@@ -36,3 +39,27 @@ def test_a_season(trace: Trace, kind: str) -> None:
     if lines:
         cut = [f"and {len(lines) - MOST_LINES} lines more"] if len(lines) > MOST_LINES else []
         pytest.fail("\n".join([*lines[:MOST_LINES], *cut]), pytrace=False)
+
+
+def see_refused(lived: Room, case: Case) -> None:
+    """A button of a page that a colleague has outdated: it is refused, nothing is sent, and the
+    register is as the colleague left it.
+    """
+    hand, button, typed = case(lived)
+    document, passed = lived.document(), len(lived.way.passed)
+    hand.press(button, typed, status=409)
+    assert hand.page.said(), case.__name__
+    assert lived.way.passed[passed:] == [] and lived.document() == document, case.__name__
+
+
+@pytest.mark.usefixtures("trace")
+@pytest.mark.parametrize("kept", CASES)
+def test_a_colleague_was_first(folder: pathlib.Path, tmp_path: pathlib.Path, kept: str) -> None:
+    """What is shown is changed by a colleague before the button is pressed."""
+    day, cases = CASES[kept]
+    make(tmp_path / "reg.db", [])
+    with room(tmp_path / "machine", tmp_path / "reg.db", folder / kept) as lived:
+        lived.today(day)
+        lived.begin()
+        for it in cases:
+            see_refused(lived, it)
