@@ -1,24 +1,19 @@
-"""The application with a machine in tests: a register that is served at one port; a stand-in for
-the units of the machine, which end its server, copy or restore by the commands of the machine, and
-begin it again; and a draw that is brought from state to state.
+"""The application with a machine in tests: a register that is served at one port; what does the
+work of the machine's units; and a draw that is brought from state to state.
 """
-import argparse
 import contextlib
 import datetime
 import html.parser
-import os
 import pathlib
 import shutil
-import socket
-import subprocess
-import sys
-import threading
 from collections.abc import Callable, Iterator
 from typing import Any
 
 import pytest
+import try_machine
 from applications import ORIGIN, Browser, Site
 from conftest import PROGRAM, ROOT, apply, child, do, make, school
+from machine import office_delete, office_deletion_day
 from register_files import Refused
 
 from office.model import Pair
@@ -27,88 +22,29 @@ from office.web.draws import Draws
 from office.web.draws_drafts import Typed
 from office.web.parts import Config
 
-sys.path.append(str(ROOT / "deploy"))
-from machine import (  # noqa: E402
-    office_copy, office_delete, office_deletion_day, office_requests, office_restore, registers,
-)
-
 NAME = "secondary-2025"
 HAL, JANE = people.Person("hal", "head"), people.Person("jane", "officer")
 SUP = people.Person("sup", "supervisor")
 OFFER_DAY = "2025-03-03"
 RAISED = {"cmd": "raise_pan", "school": "OAK", "pan": 2}
 Command = dict[str, Any]
-# what the application asks of the machine, and who answers
-REQUESTS = (("copy", office_copy), ("restore", office_restore),
-            ("deletion-day", office_deletion_day), ("delete", office_delete))
 
 
-class Machine:
-    """A machine with one register."""
+class Machine(try_machine.Machine):
+    """A machine with one register, which deletes it too."""
+
+    requests = (*try_machine.Machine.requests, ("deletion-day", office_deletion_day),
+                ("delete", office_delete))
 
     def __init__(self, folder: pathlib.Path, register: pathlib.Path) -> None:
-        self.folder = folder
-        self.lib, self.backups = folder / "lib", folder / "backups"
-        self.copies = self.backups / NAME / "office"
-        self.file = self.lib / NAME / "reg.db"
-        self.state = folder / "state" / NAME
-        for it in (self.lib / NAME, self.copies, self.state / "requests"):
-            it.mkdir(parents=True)
+        super().__init__(folder, NAME, PROGRAM)
         shutil.copy(register, self.file)
-        self.held = socket.socket()
-        # (a port that is bound so is given to nobody else, and the program can listen on it)
-        self.held.setsockopt(socket.SOL_SOCKET, socket.SO_REUSEADDR, 1)
-        self.held.bind(("127.0.0.1", 0))
-        self.port = self.held.getsockname()[1]
-        self.run: subprocess.Popen[str] | None = None
-        self.is_ended = threading.Event()
-        self.answered = 0
-        self.thread = threading.Thread(target=self.watch)
-
-    @property
-    def address(self) -> str:
-        """Where the register is served."""
-        return f"http://127.0.0.1:{self.port}"
-
-    def start(self, *_: object) -> None:
-        """Begins the server."""
-        if self.run is None:
-            # pylint: disable-next=consider-using-with
-            self.run = subprocess.Popen([PROGRAM, "serve", str(self.file), str(self.port)],
-                                        stdout=subprocess.PIPE, text=True)
-            assert self.run.stdout
-            assert self.run.stdout.readline() == f"serving on 127.0.0.1:{self.port}\n"
-
-    def stop(self, *_: object) -> None:
-        """Ends the server, and leaves the register in its file alone."""
-        if self.run is not None:
-            self.run.terminate()
-            self.run.communicate()
-            self.run = None
-        subprocess.run([PROGRAM, "do", str(self.file)], stdin=subprocess.DEVNULL, check=True)
 
     def do(self, commands: list[Command]) -> None:
         """Has the program do commands behind the application's back."""
         self.stop()
         do(self.file, commands)
         self.start()
-
-    def watch(self) -> None:
-        """Answers requests, as the units of the machine do."""
-        given = argparse.Namespace(name=NAME)
-        while not self.is_ended.wait(0.01):
-            for name, command in REQUESTS:
-                if os.path.lexists(self.state / "requests" / name):
-                    command.main(given)
-                    self.answered += 1
-
-    def close(self) -> None:
-        """Ends it."""
-        self.is_ended.set()
-        self.thread.join()
-        if self.run is not None:
-            self.stop()
-        self.held.close()
 
     def config(self) -> Config:
         """Where the application finds what it needs."""
@@ -127,34 +63,16 @@ class Machine:
             found.extensions["office"].close()
 
 
-def tools_in(folder: pathlib.Path) -> pathlib.Path:
-    """A folder with the program and the tools under their names."""
-    folder.mkdir()
-    os.symlink(os.path.realpath(PROGRAM), folder / "admissions")
-    for name in ("backup", "restore"):
-        os.symlink(ROOT / "tools" / name, folder / f"admissions-{name}")
-    return folder
-
-
 @contextlib.contextmanager
 def machine_over(
     folder: pathlib.Path, register: pathlib.Path, patch: pytest.MonkeyPatch
 ) -> Iterator[Machine]:
     """A machine whose folders are below one, with the register of a file, and whose units run."""
-    tools = tools_in(folder / "tools")
     patch.setenv("ADMISSIONS", PROGRAM)
     machine = Machine(folder, register)
-    patch.setattr(registers, "REGISTERS", machine.lib)
-    patch.setattr(registers, "COPIES", machine.backups)
-    patch.setattr(registers, "SETTINGS", folder / "etc")
-    patch.setattr(registers, "OFFICES", folder / "state")
-    patch.setattr(office_requests, "start", machine.start)
-    patch.setattr(office_requests, "stop", machine.stop)
-    for it in (office_copy, office_restore, registers):
-        patch.setattr(it, "program", lambda name: str(tools / name))
-    for one in (office_copy, office_restore):
-        patch.setattr(one, "USER", "root")
-    patch.setattr("machine.files.numbers", lambda user, group: (os.getuid(), os.getgid()))
+    machine.link_tools()
+    for target, name, value in machine.places():
+        patch.setattr(target, name, value)
     machine.start()
     machine.thread.start()
     try:
