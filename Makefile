@@ -1,5 +1,9 @@
 # How the program is built, shown, tested, measured and installed.
 #
+#   make try      the office's application over an invented season of 1,500 children, at an address that it prints, until Ctrl-C; it needs no root and no
+#                 proof: bin/admissions if it is there, or a build of some minutes, which is slow, so that it shows 60 children. AT=applications: a file with
+#                 faults waits; AT=round: a round waits for the second person; AT=march, the default: two weeks after the offers. DIR=.. keeps the season
+#                 there; RELOAD=1 begins anew for a changed module
 #   make look     the commands of an example answered within minutes, without a proof: to see what it is
 #   make build    the proved program, at bin/admissions
 #   make demo     the examples, run and compared with what they must print
@@ -34,7 +38,11 @@ EXAMPLES := first_path applications season
 
 LOOKED_AT := $(addprefix examples/applications/,schools.jsonl children.jsonl applications.jsonl)
 
-.PHONY: look build demo cases test check-release reference evidence mutants sweep killed-opens laws audits races costs bench bench-more deploy-check pictures install package release needs-demo needs-cases needs-sweep needs-office office
+.PHONY: try look build demo cases test check-release reference evidence mutants sweep killed-opens laws audits races costs bench bench-more deploy-check pictures install package release needs-demo needs-cases needs-sweep needs-office office
+
+try:
+	@tools/needs try $(PROGRAM)
+	@exec tools/try $(if $(AT),--at $(AT)) $(if $(DIR),--dir '$(DIR)') $(if $(RELOAD),--reload) $(PROGRAM)
 
 look:
 	@tools/needs look
