@@ -22,7 +22,6 @@ import urllib.parse
 from collections.abc import Callable, Iterator, Mapping
 from typing import Any
 
-import draw_site
 import pytest
 from conftest import ROOT
 from draw_site import NAME, Machine, machine_over
@@ -361,8 +360,8 @@ def room(folder: pathlib.Path, register: pathlib.Path, kept: pathlib.Path | None
     """
     with pytest.MonkeyPatch.context() as patch:
         requests = [(name, Told(name, it, [] if asked is None else asked))
-                    for name, it in draw_site.REQUESTS]
-        patch.setattr(draw_site, "REQUESTS", requests)
+                    for name, it in Machine.requests]
+        patch.setattr(Machine, "requests", requests)
         folder.mkdir()
         with machine_over(folder, register, patch) as machine:
             if kept:
