@@ -91,7 +91,7 @@ class Tried:
 
 def processes_of(room: pathlib.Path) -> list[str]:
     """The processes that were begun with a folder for their files."""
-    found, mark = [], f"TMPDIR={room}\0".encode()
+    found, mark = [], f"TRIED={room}\0".encode()
     for it in pathlib.Path("/proc").glob("[0-9]*"):
         with contextlib.suppress(OSError):
             if mark in (it / "environ").read_bytes():
@@ -108,7 +108,8 @@ def tried(room: pathlib.Path, *given: str, tree: pathlib.Path = ROOT) -> Iterato
     with subprocess.Popen(
             ["make", "-s", "-C", str(tree), "try", f"PROGRAM={pathlib.Path(PROGRAM).resolve()}",
              *given], stdin=subprocess.DEVNULL, stdout=subprocess.PIPE, stderr=subprocess.STDOUT,
-            text=True, env={**environment, "TMPDIR": str(room)}, start_new_session=True) as run:
+            text=True, env={**environment, "TMPDIR": str(room), "TRIED": str(room)},
+            start_new_session=True) as run:
         try:
             assert run.stdout
             printed = ""
@@ -238,8 +239,8 @@ def test_an_end_while_the_season_is_made(tmp_path: pathlib.Path) -> None:
         room.mkdir()
         with subprocess.Popen(
                 [ROOT / "tools" / "try", PROGRAM], stdout=subprocess.PIPE,
-                stderr=subprocess.STDOUT, text=True, env={**os.environ, "TMPDIR": str(room)},
-                start_new_session=True) as run:
+                stderr=subprocess.STDOUT, text=True, start_new_session=True,
+                env={**os.environ, "TMPDIR": str(room), "TRIED": str(room)}) as run:
             assert run.stdout
             for _ in range(at):
                 run.stdout.readline()
