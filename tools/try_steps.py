@@ -73,10 +73,10 @@ class Browser:
         """A form with a file."""
         return self.post(path, {name: (io.BytesIO(data), file)}, status)
 
-    def waited(self, path: str) -> Answer:
+    def waited(self, path: str, running: str = 'http-equiv="refresh"') -> Answer:
         """A page, once nothing runs any more of what it shows."""
         end = time.monotonic() + LONGEST_WAIT
-        while 'http-equiv="refresh"' in (found := self.get(path)).text:
+        while running in (found := self.get(path)).text:
             if time.monotonic() > end:
                 raise NotMade(f"{path} runs for more than {LONGEST_WAIT:.0f} seconds")
             time.sleep(0.3)
@@ -207,6 +207,7 @@ class Making:
         officer.post("/answers/several", {"pasted": "\n".join([titles, *rows])})
         digest = field(officer.get("/answers/").text, "digest")
         officer.post("/answers/record", {"digest": digest})
+        officer.waited("/answers/", "The pile is being recorded")
 
     def drawn(self, name: str, step: str) -> None:
         """A button of the draw, and what follows by itself."""
