@@ -488,7 +488,8 @@ def test_a_stale_page_does_nothing(small: Machine) -> None:
         given_up(office, number)
         found = jane.press(number, seen, "confirm")
         assert found.status_code == 409
-        assert "jane brought it to the state &#39;given up&#39; at " in found.text
+        assert re.search("jane changed it at .+, and it is in the state &#39;given up&#39;",
+                         found.text)
         other = begun(office)
         brought(office, other, "rehearsed")
         assert jane.press(other, "1", "confirm").status_code == 409
@@ -893,7 +894,10 @@ def test_two_give_up_a_draw_whose_lots_are_sealed(small: Machine) -> None:
         assert found.status_code == 409 and "in which this cannot be done" in found.text
         found = jane.step(number, "confirm-give-up")
         assert found.status_code == 409 and "Nobody has asked to give up the draw." in found.text
+        seen = Fields(jane.browser.get(f"/draws/{number}").text).values["seen"]
         assert hal.step(number, "ask-give-up", reason=MISTYPED).status_code == 303
+        stale = jane.press(number, seen, "confirm").text
+        assert re.search("hal changed it at .+, and it is in the state &#39;rehearsed&#39;", stale)
         page = hal.browser.get(f"/draws/{number}").text
         assert "hal has asked to give up the draw." in page and ">Confirm draw 1<" not in page
         assert ">Give up draw 1</button>" not in page

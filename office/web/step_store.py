@@ -85,8 +85,8 @@ class StepStore(Generic[One]):
             if found.version != seen:
                 last = found.done[-1]
                 raise Refused(f"the {self.table} has changed since this page was shown: {last.who}"
-                              f" brought it to the state '{last.state}' at {local(last.at)}."
-                              " Nothing was done")
+                              f" changed it at {local(last.at)}, and it is in the state"
+                              f" '{found.state}'. Nothing was done")
             if found.state not in states:
                 raise Refused(f"the {self.table} is in the state '{found.state}', in which this"
                               " cannot be done")
