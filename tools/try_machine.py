@@ -49,7 +49,7 @@ class Machine:
         return f"http://127.0.0.1:{self.port}"
 
     def places(self) -> list[tuple[object, str, object]]:
-        """What the machine's commands are told of this machine, each as an attribute: where all is,
+        """The attributes that the machine's commands have here: where all is,
         how the server is ended and begun, and that nobody else owns anything.
         """
         def tool(name: str) -> str:

@@ -189,7 +189,7 @@ def test_files_of_several_children_are_on_record(office: Site) -> None:
 def test_heads_of_schools_see_a_round_from_its_day_on_and_audited(
     office: Site, monkeypatch: pytest.MonkeyPatch
 ) -> None:
-    """Families are told first, and of a draw that is right."""
+    """Families hear of a draw first, and only of an audited one."""
     alpha, jane = office.browser("alpha", SCHOOL), office.browser("jane", OFFICER)
     today = ["2025-03-02"]
 

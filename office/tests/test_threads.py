@@ -130,7 +130,7 @@ def statuses(asked: Callable[[], int]) -> list[int]:
 
 
 def test_a_provider_that_is_silent_holds_few_threads(tmp_path: pathlib.Path) -> None:
-    """Others are told at once, and what needs no provider is answered meanwhile."""
+    """Others get an answer at once, as does what needs no provider."""
     with silent() as issuer:
         provider = authority.Provider("Council", issuer, "admissions", "secret")
         with serving(tmp_path, lambda it: authority.set_provider(it, provider)) as office:
