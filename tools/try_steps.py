@@ -35,6 +35,8 @@ ANSWERED = ("03-02", "03-03", "03-04", "03-05", "03-08", "03-09", "03-10", "03-1
 # the schools that plans name, each for a child of the town
 PLANS = ("DEAN", "HIGH", "QUAY", "CLIFF", "HIGH")
 LONGEST_WAIT = 600.0
+# what a page has while a step of it goes on
+RUNNING = ("data-running", 'http-equiv="refresh"')
 Answer = Any
 
 
@@ -73,13 +75,15 @@ class Browser:
         """A form with a file."""
         return self.post(path, {name: (io.BytesIO(data), file)}, status)
 
-    def waited(self, path: str, running: str = 'http-equiv="refresh"') -> Answer:
+    def waited(self, path: str, *running: str) -> Answer:
         """A page, once nothing runs any more of what it shows."""
         end = time.monotonic() + LONGEST_WAIT
-        while running in (found := self.get(path)).text:
+        found = self.get(path)
+        while any(it in found.text for it in running or RUNNING):
             if time.monotonic() > end:
                 raise NotMade(f"{path} runs for more than {LONGEST_WAIT:.0f} seconds")
             time.sleep(0.3)
+            found = self.get(path)
         return found
 
 

@@ -116,7 +116,7 @@ def waited(browser: Browser, path: str) -> str:
     end = time.monotonic() + 600
     while True:
         page: str = browser.get(path).text
-        if 'http-equiv="refresh"' not in page:
+        if "data-running" not in page:
             return page
         assert time.monotonic() < end, page
         time.sleep(0.2)

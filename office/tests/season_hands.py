@@ -33,7 +33,7 @@ ORIGIN = "http://admissions.example"
 FIRST = "hal"
 BETWEEN = "----a-part-of-a-form"
 # what the application says of a step that goes on by itself
-LOOKS_AGAIN = 'http-equiv="refresh"'
+LOOKS_AGAIN = re.compile('data-running=|http-equiv="refresh"')
 ELSEWHERE = re.compile('http-equiv="refresh" content="0; url=([^"]*)"')
 MOST_SECONDS = 120.0
 # what is typed into the fields of a form, by their names; files by field and a number
@@ -173,7 +173,7 @@ class Hand:
             if found.status in (302, 303):
                 path = found.location.removeprefix(ORIGIN)
                 continue
-            if LOOKS_AGAIN not in found.text or time.monotonic() > end:
+            if not LOOKS_AGAIN.search(found.text) or time.monotonic() > end:
                 break
             if to := ELSEWHERE.search(found.text):
                 path = html.unescape(to[1])
@@ -235,7 +235,7 @@ class Hand:
         found = self.ask("POST", path, body, kind)
         if found.status in (302, 303):
             return self.get(found.location.removeprefix(ORIGIN), status)
-        if found.status == 200 and LOOKS_AGAIN in found.text:
+        if found.status == 200 and LOOKS_AGAIN.search(found.text):
             return self.get(path, status)
         return self.seen(path, found, status)
 

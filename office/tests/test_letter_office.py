@@ -301,12 +301,12 @@ def test_addresses_are_uploaded_once_and_stand_on_the_letters(office: Site) -> N
     assert office.parts.history.entries[-1].about == {"children": [3], "in place of all": True}
 
 
-def test_the_page_of_a_set_says_that_it_looks_again(office: Site) -> None:
+def test_the_page_of_a_set_is_looked_at_again(office: Site) -> None:
     """While it is made, and not afterwards."""
     jane = office.browser("jane")
     sets = office.app.extensions["letters"]
     sets.wake = lambda: None
     path = jane.post("/letters/make", asked(jane, "offers", "1", child=["1"])).location
     page = jane.get(path).text
-    assert '<meta http-equiv="refresh" content="5">' in page
-    assert "This page looks again by itself." in page
+    assert f'<div id="set" data-running="{path}">' in page
+    assert f'<a href="{path}">Look again</a>' in page

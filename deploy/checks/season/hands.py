@@ -219,10 +219,11 @@ class Hands:
         until(lambda: self.driver.execute_script(
             "return document.documentElement.dataset.mark !== arguments[0] &&"
             " document.readyState === 'complete'", mark), f"a page after {name!r}")
-        # (one that says how far something is loads itself again, until that is done)
+        # (one that says how far something is goes on until that is done)
         until(lambda: self.driver.execute_script(
             "return document.readyState === 'complete' &&"
-            " !document.querySelector('meta[http-equiv=refresh]')"), f"the end after {name!r}")
+            " !document.querySelector('meta[http-equiv=refresh], [data-running]')"),
+            f"the end after {name!r}")
         self.look()
 
     def resize(self, width: int, height: int) -> None:

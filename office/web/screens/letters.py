@@ -32,10 +32,8 @@ TYPES = {
     letters_sets.PDF: "application/pdf",
     letters_sets.MERGE: "application/vnd.openxmlformats-officedocument.spreadsheetml.sheet",
 }
-# how often the page of a set that is being made looks again, in seconds
 # so many days before today letters are recorded as sent without a question
 FAR_DAYS = 7
-LOOKS_AGAIN = 5
 
 
 @screen.record_once
@@ -209,8 +207,7 @@ def set_page(
     found = set_of(number)
     return flask.render_template(
         "letters_set.html", it=found, said=said, is_bad=status != 200, template=template_of(found),
-        looks_again=LOOKS_AGAIN, recording=recording(found, day, wrong, sure_of),
-        reason=reason,
+        recording=recording(found, day, wrong, sure_of), reason=reason,
         rests=letters_back.rests(sets(), found) if found.sent else "",
         has_example=sets().has_example(found), children=letters_of(number)), status
 

@@ -27,7 +27,6 @@ KINDS = f"any({REMIND}, {LAPSE})"
 WAIT_SECONDS = 4.0
 WHAT = {REMIND: ("reminder", "reminders"), LAPSE: ("withdrawal", "withdrawals")}
 TITLES = {REMIND: "Reminders", LAPSE: "Withdrawals of offers"}
-LOOKS_AGAIN = 5
 CHANGED = "What was shown has changed meanwhile. Nothing was recorded: look at it again."
 
 
@@ -218,7 +217,7 @@ def one(number: int) -> Answer:
     return flask.render_template(
         "notices_row.html", row=row, title=TITLES[row.kind], what=WHAT[row.kind], names=names,
         done=row.count(DONE), is_running=is_running,
-        looks_again=LOOKS_AGAIN, it=made, recording=letters.recording(made) if made else {},
+        it=made, recording=letters.recording(made) if made else {},
         template=letters.template_of(made) if made else "",
         has_sender=bool(letters.sets().sender.number))
 
