@@ -5,6 +5,8 @@ The first row is the header.
 import collections
 import datetime
 import json
+from collections.abc import Mapping
+from typing import TypeVar
 
 from register_files import Refused
 
@@ -15,6 +17,7 @@ from .model import (
 
 Cell = str | int | None
 Rows = list[list[Cell]]
+Key = TypeVar("Key", int, str)
 # what became of a school of a child's list where the child has no place
 CAME = {LEFT: "left", WAITS: "waiting", BEFORE: "wanted", BELOW: "below its place"}
 # the schools of a list that are counted by their preference; the others are counted together
@@ -70,23 +73,29 @@ def listed(application: Application, place: Place | None) -> Rows:
 
 
 def find(register: Register, text: str) -> Rows:
-    """The children whose name has each word of a text in it, or, where there is none, those with
-    words that differ in one letter; or the child of a number.
-    """
+    """The children of a name or a number."""
     header: list[Cell] = ["child", "name", "applied", "school", "place", "east", "north"]
-    words = texts.folded(text).split()
-    names = {number: texts.folded(it.name) for number, it in register.children.items()}
-    found = [number for number, name in names.items()
-             if words and all(word in name or word == str(number) for word in words)]
-    if not found and words:
-        found = [number for number, name in names.items()
-                 if all(is_near(word, name.split()) for word in words)]
+    names = {number: it.name for number, it in register.children.items()}
+    found = of_text(names, text) or of_text(names, text, True)
     if not found:
         raise Refused(f"no child has a name like {texts.shown(text)}")
     rows: Rows = [[it.number, it.name, applied(register, it.number),
                    *place_of(register, it.number), it.east, it.north]
                   for it in (register.children[number] for number in found)]
     return [header, *rows]
+
+
+def of_text(names: Mapping[Key, str], text: str, may_differ: bool = False) -> list[Key]:
+    """Those whose name has each word of a text in it, or whose number or code is a word of it; or
+    those with words that may differ in one letter.
+    """
+    words = texts.folded(text).split()
+    folded = {key: texts.folded(it) for key, it in names.items() if words}
+    if may_differ:
+        return [key for key, name in folded.items()
+                if all(is_near(word, name.split()) for word in words)]
+    return [key for key, name in folded.items()
+            if all(word in name or word == str(key).casefold() for word in words)]
 
 
 def is_near(word: str, others: list[str]) -> bool:

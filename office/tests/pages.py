@@ -17,6 +17,8 @@ class Form:
     action: str
     method: str
     name: str
+    # whether it is one of the frame: the search, and the sign-out
+    is_frame: bool = False
     values: dict[str, list[str]] = dataclasses.field(default_factory=dict)
     buttons: dict[str, tuple[str, str]] = dataclasses.field(default_factory=dict)
 
@@ -62,7 +64,7 @@ class Page(html.parser.HTMLParser):
             self._open.append((tag, str(found.get("id") or "")))
         if tag == "form":
             self._form = Form(found.get("action") or "", found.get("method") or "get",
-                              found.get("id") or "")
+                              found.get("id") or "", "header" in (it for it, _ in self._open))
             self.forms.append(self._form)
         elif tag == "table":
             self._table, self._table_name = [], str(found.get("id") or "")
@@ -127,8 +129,8 @@ class Page(html.parser.HTMLParser):
         return next(it for it in self.forms if button in it.buttons)
 
     def buttons(self) -> list[str]:
-        """The texts of all buttons."""
-        return [text for it in self.forms for text in it.buttons]
+        """The texts of all buttons of the screen itself."""
+        return [text for it in self.forms if not it.is_frame for text in it.buttons]
 
     def error(self, field: str) -> str:
         """The error that is tied to a field, or ""."""
@@ -138,7 +140,7 @@ class Page(html.parser.HTMLParser):
         if error not in tied:
             return ""
         assert found.get("aria-invalid") == "true" or "aria-invalid" not in found
-        return " ".join(self.by_id[error].split())
+        return " ".join(self.by_id[error].split()).removeprefix("Error: ")
 
     def said(self) -> str:
         """What is said above a page, or ""."""

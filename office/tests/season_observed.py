@@ -130,10 +130,15 @@ class Trace:
 
 
 def menu(hand: Hand) -> list[str]:
-    """The paths of somebody's menu."""
-    text = hand.get("/password").last.text
-    nav = re.search('<nav aria-label="Screens">(.*?)</nav>', text, re.S)
-    return re.findall('href="([^"]+)"', nav[1]) if nav else []
+    """The paths of somebody's menu: of its groups, and of the screens of each group."""
+    found = dict.fromkeys(links(hand, "/password"))
+    return list(found | dict.fromkeys(it for group in found for it in links(hand, group)))
+
+
+def links(hand: Hand, path: str) -> list[str]:
+    """What the menu of a page leads to."""
+    navs = re.findall('<nav class="(?:groups|screens)"(.*?)</nav>', hand.get(path).last.text, re.S)
+    return re.findall('href="([^"]+)"', " ".join(navs))
 
 
 def page_lines(hand: Hand, path: str) -> list[str]:

@@ -538,8 +538,8 @@ def test_a_page_that_is_none_has_the_menu(tmp_path: pathlib.Path) -> None:
         for path in ("/nowhere", "/draws/x"):
             page = jane.client.get(path, base_url=ORIGIN, headers=head)
             assert page.status_code == 404 and "No such page" in page.text
-            assert '<nav aria-label="Screens">' in page.text and ">Draws</a>" in page.text
-            assert ">People</a>" not in page.text
+            assert 'aria-label="Main">' in page.text and ">Offers</a>" in page.text
+            assert ">Office</a>" in page.text and "People" not in page.text
             page = office.app.test_client().get(path, base_url=ORIGIN, headers=head)
             assert page.status_code == 404 and "<nav" not in page.text
 

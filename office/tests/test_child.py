@@ -56,7 +56,7 @@ def test_a_child_is_shown_with_its_place_its_list_and_its_data(office: Site) -> 
     assert page.tables["list"][1:] == [
         ["1", "A Alpha", "waits, position 1 of 2", "ranked by distance alone", "300"],
         ["2", "B Beta", "offered", "ranked by distance alone", "300"]]
-    assert page.buttons() == ["Sign out"]
+    assert page.buttons() == []
     assert not [it for it in page.stops if it.startswith("/children/3/") and "/w" not in it]
     page = Page(rita.get("/children/5").text)
     assert "medical need; flag 5" in page.text and "The child has no application." in page.text
@@ -64,14 +64,33 @@ def test_a_child_is_shown_with_its_place_its_list_and_its_data(office: Site) -> 
     assert rita.get("/children/6").status_code == 404
 
 
-def test_children_are_found(office: Site) -> None:
-    """By words of their names, and by number."""
+def test_children_and_schools_are_found(office: Site) -> None:
+    """By words of their names, by number and by code: the one, or a list; and suggested."""
     rita = office.browser("rita", "reader")
-    for text, numbers in (("abel", ["1"]), ("3", ["3"]), ("cole cyd", ["3"]), ("Beil", ["2"])):
-        rows = Page(rita.get(f"/children/?find={text}").text).tables
-        assert [it[0] for it in next(iter(rows.values()))[1:]] == numbers, text
-    page = Page(rita.get("/children/?find=<script>").text)
-    assert "No child has a name like" in page.said() and "<script>" not in page.text
+    for text, path in (("abel", "/children/1"), ("3", "/children/3"), ("cole cyd", "/children/3"),
+                       ("Beil", "/children/2"), ("alph", "/schools/A"), ("Betta", "/schools/B")):
+        assert rita.get(f"/find?q={text}").location == path, text
+        assert [it[1] for it in rita.get(f"/find/near?q={text}").json or []] == [path], text
+    page = Page(rita.get("/find?q=a").text)
+    assert [it[0] for it in page.tables["found"][1:]] == ["1", "4"]
+    assert [it[0] for it in page.tables["schools"][1:]] == ["A", "B"]
+    assert rita.get("/find/near?q=a").json == [
+        ["Ada Abel, child 1", "/children/1"], ["Dai O'Dare, child 4", "/children/4"],
+        ["Alpha, school A", "/schools/A"], ["Beta, school B", "/schools/B"]]
+    for text in ("<script>", "Xylophone"):
+        page = Page(rita.get(f"/find?q={text}").text)
+        assert "Nothing was found" in page.text and "<script>" not in page.text
+        assert page.tables == {} and rita.get(f"/find/near?q={text}").json == []
+    assert rita.get("/find").status_code == 200 and rita.get("/find/near").json == []
+
+
+@pytest.mark.parametrize("role", ["supervisor", "administrator", "school-A"])
+def test_who_sees_no_child_finds_none(office: Site, role: str) -> None:
+    """Neither a list, nor a suggestion, nor the field."""
+    browser = office.browser(role.lower(), role)
+    for path in ("/find?q=abel", "/find/near?q=abel", "/find"):
+        assert browser.get(path).status_code == 403, path
+    assert "/find" not in browser.get("/password").text
 
 
 # what each role finds at a child: (path, what is asked, the command)

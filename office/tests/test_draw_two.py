@@ -70,8 +70,7 @@ def locked(office: Site, name: str) -> None:
 
 def ends(browser: Browser, number: int) -> set[str]:
     """The buttons of a draw's page by which it ends, or goes on."""
-    found = Page(browser.get(f"/draws/{number}").text).buttons()
-    return {it for it in found if it != "Sign out"}
+    return set(Page(browser.get(f"/draws/{number}").text).buttons())
 
 
 def wanted(state: str, of: str, how: str, who: str) -> set[str]:

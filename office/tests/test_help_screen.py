@@ -8,7 +8,7 @@ import pytest
 from applications import Site, office_over, town
 
 from office import rules
-from office.web import app, wording
+from office.web import frame, wording
 from office.web.people import Person
 from office.web.screens import help as help_screen
 
@@ -65,8 +65,8 @@ def page_fixture(office: Site) -> Text:
 
 def test_the_help_has_a_line_for_each_screen_of_the_menu(page: Text) -> None:
     table = page.text.partition("What you do there")[2]
-    for _, title, _ in app.MENU:
-        assert re.search(rf"^{title}$", table, re.MULTILINE), title
+    for it in (it for screens in frame.GROUPS.values() for it in screens):
+        assert re.search(rf"^{it.title}$", table, re.MULTILINE), it.title
 
 
 def test_each_link_of_the_help_leads_somewhere(page: Text, office: Site) -> None:

@@ -238,7 +238,7 @@ def test_children_on_other_screens_have_the_files_of_their_list(
 ) -> None:
     """Those who are found by a name, and those of whom a reminder is due on a day."""
     jane = office.browser("june", "officer")
-    for who, path, wanted in ((browser, "/children/?find=bell", ["2"]),
+    for who, path, wanted in ((browser, "/find?q=a", ["1", "4"]),
                               (jane, "/notices/remind?day=18+March+2025", ["1", "2", "3"])):
         page = who.get(path).text
         links = [it.replace("&amp;", "&")
@@ -248,7 +248,7 @@ def test_children_on_other_screens_have_the_files_of_their_list(
         assert [it[0] for it in rows] == ["child", *wanted]
         book_of = openpyxl.load_workbook(io.BytesIO(who.get(links[0]).data)).active
         assert [str(it.value) for it in book_of["A"]] == ["child", *wanted]
-    assert "/csv" not in browser.get("/children/?find=zzzz").text
+    assert "/csv" not in browser.get("/find?q=zzzz").text
 
 
 def test_a_long_list_has_pages(browser: Browser, monkeypatch: pytest.MonkeyPatch) -> None:

@@ -533,7 +533,7 @@ def test_a_head_sees_the_own_school_alone(held: Site) -> None:
     page = Page(ann.get("/schools/A").text)
     assert page.tables["waiting"][1][2] == "Cyd <b>Cole</b>"
     assert "/children/" not in page.text and "raise" not in page.text
-    assert page.buttons() == ["Sign out"]
+    assert page.buttons() == []
     assert ann.get("/schools/A/workbook").status_code == 200
     for path in ("/schools/B", "/schools/B/workbook", "/schools/", "/schools/A/raise",
                  "/schools/ZZ", "/schools/new/", "/flags/"):
@@ -563,7 +563,7 @@ def test_a_raise_shows_both_numbers(held: Site) -> None:
     for typed, said in (("2", "more than the present number, 2"), ("1", "more than the present"),
                         ("501", "from 1 to 500"), ("x", "a whole number")):
         page = Page(jane.get(f"/schools/A/raise?pan={typed}").text)
-        assert said in page.error("pan") and page.buttons() == ["Sign out", "Show"]
+        assert said in page.error("pan") and page.buttons() == ["Show"]
     page = Page(jane.get("/schools/A/raise?pan=30").text)
     assert "This is 28 places more" in page.text
     page = Page(jane.get("/schools/A/raise?pan=3").text)
@@ -615,7 +615,7 @@ def test_flags_have_words_on_each_screen(tmp_path: pathlib.Path) -> None:
         shown = jane.get("/schools/").text
         assert "1. with a verified priority: a &#34;medical&#34; &lt;need&gt; مدرسة" in shown
         rita = office.browser("rita", "reader")
-        assert Page(rita.get("/flags/").text).buttons() == ["Sign out"]
+        assert Page(rita.get("/flags/").text).buttons() == []
         assert rita.post("/flags/", {"flag-3": "x"}).status_code == 403
 
 

@@ -226,5 +226,6 @@ def test_a_name_with_a_slip_is_found(office: Site) -> None:
     """Where no name has what was typed, those that differ in one letter are shown."""
     jane = office.browser("jane")
     for typed in ("Zoe Zandre", "Zandr", "zoee zander"):
-        assert "Zoe Zander" in jane.get(f"/children/?find={typed}").text, typed
-    assert "Zoe Zander" not in jane.get("/children/?find=Xylophone").text
+        found = jane.get(jane.get(f"/find?q={typed}").location)
+        assert "Zoe Zander" in found.text, typed
+    assert "Zoe Zander" not in jane.get("/find?q=Xylophone").text

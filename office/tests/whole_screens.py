@@ -34,7 +34,7 @@ SCREENS = {
         "/schools/A/raise?pan=x", "/schools/new/", "/flags/", "/applications/",
         "/applications/?show=errors", "/applications/?see=1&row=2", "/applications/add/",
         "/applications/duplicates", "/applications/withdrawn", "/applications/commit/",
-        "/children/", "/children/?find=child", "/children/?find=nobody", "/children/11",
+        "/find", "/find?q=child", "/find?q=nobody", "/children/11",
         "/children/41", "/children/11/accept", "/children/11/decline", "/children/11/remind",
         "/children/11/plan", "/children/11/plan?school=B", "/children/11/correct", "/answers/",
         "/answers/of/bo", "/draws/", "/draws/1", "/lists/", "/people/", "/activity/",

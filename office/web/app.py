@@ -11,22 +11,21 @@ import werkzeug.routing
 
 from office import texts
 
-from . import authority, flags, guard, numbers, uploads, wording
+from . import authority, flags, frame, guard, numbers, uploads, wording
 from .guard import PUBLIC, needs
 from .parts import Config, Parts
-from .people import READ
 from .screens import (
     activity, answers, applications, applications_add, applications_commit, child, copies, draws,
-    figures, gazetteer, health, help, letter_addresses, letter_sender, letter_templates, letters,
-    lists, lots, new_schools, notes, notices, people, points, preferences, register, restores,
-    schools, season, season_end, signing, subject, trials, why,
+    figures, find, gazetteer, health, help, letter_addresses, letter_sender, letter_templates,
+    letters, lists, lots, new_schools, notes, notices, people, points, preferences, register,
+    restores, schools, season, season_end, signing, subject, trials, why,
 )
 from .screens import answers_of
 from .screens import flags as flag_screen
 
 HERE = pathlib.Path(__file__).resolve().parent
 SCREENS = (
-    signing, season, new_schools, schools, flag_screen, applications, applications_add,
+    signing, season, find, new_schools, schools, flag_screen, applications, applications_add,
     applications_commit, points, gazetteer, child, preferences, why, notes, subject, answers,
     notices, letters, letter_templates, letter_sender, letter_addresses, draws, trials, lots, lists,
     figures, copies, restores, people, activity, season_end, register, help, answers_of,
@@ -37,27 +36,6 @@ MOST_BYTES = 16 << 20
 # so many objects are made between two looks for garbage among them: a page of a long list makes
 # tens of thousands, nearly all of which end without one
 OBJECTS = 50_000
-# what the menu has, in its order: the view, its title, and the right
-MENU = (
-    ("season.show", "Season", "read"),
-    ("schools.show", "Schools", "read"),
-    ("applications.show", "Applications", "record"),
-    ("child.find", "Children", "read"),
-    ("answers.show", "Answers", "record"),
-    ("notices.show", "Reminders", "read"),
-    ("letters.show", "Letters", "read"),
-    ("draws.show", "Draws", "read"),
-    ("trials.show", "Trials", "read"),
-    ("lots.show", "Lots", "lots"),
-    ("lists.show", "Lists", "read"),
-    ("figures.show", "Figures", "read"),
-    ("flags.show", "Flags", "read"),
-    ("register.page", "Register", "read"),
-    ("copies.show", "Copies", "read"),
-    ("people.show", "People", "people"),
-    ("activity.show", "Activity", "notes"),
-    ("season_end.show", "End of the season", "confirm"),
-)
 
 
 def create(config: Config) -> flask.Flask:
@@ -83,12 +61,14 @@ def create(config: Config) -> flask.Flask:
     for it in SCREENS:
         app.register_blueprint(it.screen)
     app.context_processor(shared)
+    app.context_processor(frame.shared)
     app.jinja_env.filters["day"] = day
     app.jinja_env.filters["moment"] = wording.moment
     app.jinja_env.filters["sentence"] = wording.sentence
     app.jinja_env.filters["by_refusals"] = wording.by_refusals
     app.jinja_env.filters["flag_words"] = flags.flag_words
     app.jinja_env.filters["visible"] = texts.visible
+    app.jinja_env.filters["at_fields"] = wording.at_fields
     app.jinja_env.globals["count"] = texts.count
 
     @needs(PUBLIC)
@@ -121,17 +101,11 @@ class FileName(werkzeug.routing.BaseConverter):
 
 def shared() -> dict[str, Any]:
     """What each template has."""
-    found = flask.g.get("person")
-    parts, config = guard.parts(), guard.parts().config
-    # (who sees no child is not told of draws either)
-    closed = parts.desk.closed() if found and found.may(READ) else ""
+    found, config = flask.g.get("person"), guard.parts().config
     return {
         "person": found,
         "authority": config.authority,
         "register_name": config.name,
-        "closed_now": closed,
-        "closed_for": parts.closed_for() if closed else None,
-        "menu": [it for it in MENU if found and found.may(it[2])],
         "form_secret": found.form if found else "",
     }
 

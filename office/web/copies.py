@@ -176,6 +176,12 @@ class Copies:
                      json.loads(it["test"] or "{}"))
                 for it in rows]
 
+    def last(self) -> str:
+        """When the last copy was asked for, or ""."""
+        row = self.store.row("SELECT asked FROM copy WHERE name IS NOT NULL"
+                             " ORDER BY number DESC LIMIT 1")
+        return row["asked"] if row else ""
+
     def get(self, number: int) -> Copy:
         """A copy by its number, also where its file is gone."""
         found = next((it for it in self.listed() if it.number == number), None)

@@ -115,3 +115,8 @@ LABELS = {
 def label(field: str) -> str:
     """A field of a command in words; one that is new in the program by its name."""
     return LABELS.get(field) or field.replace("_", " ").capitalize()
+
+
+def at_fields(wrong: Mapping[str, str]) -> list[tuple[str, str]]:
+    """What is wrong with fields, each with its label, and where the field is."""
+    return [(f"#{it}", f"{label(it)}: {words}") for it, words in wrong.items() if words]

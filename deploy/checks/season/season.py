@@ -104,7 +104,7 @@ def other_screens(office: Office) -> None:
     placed = next(it for it in season.places if it not in season.plans)
     hal.open("/", "Season, near its end")
     hal.open("/draws/", "Draws, all of them")
-    for path in ("/schools/", f"/schools/{SCHOOL}", f"/children/?find={placed}",
+    for path in ("/schools/", f"/schools/{SCHOOL}", f"/find?q={placed}",
                  f"/children/{placed}", f"/children/{placed}/correct", "/lists/", "/lists/list",
                  "/lists/children", "/lists/vacancies", "/activity/", "/applications/add/",
                  "/applications/duplicates", "/applications/withdrawn", f"/schools/{SCHOOL}/raise"):

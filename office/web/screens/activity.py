@@ -6,13 +6,23 @@ import flask
 
 from office import texts
 
+from .. import tables
 from ..guard import needs, parts
 from ..history import ANSWER, RESTORED, SENDS, SETTLED, Entry
 from ..people import NOTES
 from ..records import ends_of, first_by, row_in
+from ..tables import Column
 
 screen = flask.Blueprint("activity", __name__, url_prefix="/activity")
 SHOWN = 200
+# an entry, and in words what it is and what came of it
+Row = tuple[Entry, str, str]
+COLUMNS: dict[str, Column[Row]] = {
+    "when": Column("When", "", lambda it: it[0].number),
+    "who": Column("Who", "", lambda it: it[0].who),
+    "what": Column("What", "", lambda it: it[1]),
+    "came": Column("Came to", "", lambda it: it[2]),
+}
 
 
 def day_of(it: Entry) -> str:
@@ -47,8 +57,10 @@ def show() -> str:
     rows = [(it, in_words(it), outcome(came.get(it.number)) if it.what == SENDS else "")
             for it in found[:SHOWN]]
     names = sorted({it.who for it in entries})
-    return flask.render_template("activity.html", rows=rows, who=who, day=day, child=child,
-                                 names=names, count_all=len(found))
+    made = tables.table(COLUMNS, rows)
+    return flask.render_template(
+        "activity.html", rows=made.rows, columns=made.columns, sort=made.sort, who=who, day=day,
+        child=child, names=names, count_all=len(found))
 
 
 def in_words(it: Entry) -> str:

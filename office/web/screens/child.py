@@ -7,7 +7,7 @@ import flask
 from register_files import Refused
 from werkzeug.wrappers import Response
 
-from office import criteria, register_lists
+from office import criteria
 from office.model import Register
 
 from .. import children, corrections, explanations, flags, records, staging_points, wording
@@ -30,19 +30,6 @@ NAMES = f"any({', '.join(ACTIONS)})"
 def today() -> datetime.date:
     """The day of today."""
     return datetime.date.today()
-
-
-@screen.get("/")
-@needs(READ)
-def find() -> Answer:
-    """The children of a name or a number."""
-    text, rows, said = flask.request.args.get("find", "").strip(), [], ""
-    if text:
-        try:
-            rows = register_lists.find(parts().desk.register(), text)[1:]
-        except Refused as error:
-            said = sentence(str(error))
-    return flask.render_template("children.html", text=text, rows=rows, said=said)
 
 
 @dataclasses.dataclass(frozen=True)

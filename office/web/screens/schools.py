@@ -8,14 +8,38 @@ from werkzeug.wrappers import Response
 from office import book, fields, risks, rules, texts
 from office.model import Register, School
 
-from .. import flags, guard, intake
+from .. import flags, guard, intake, tables
 from ..desk import Seen, seen_of
 from ..guard import needs, parts, person
 from ..people import LISTS, READ, RECORD
+from ..tables import Column
 from ..wording import classes, sentence
 
 screen = flask.Blueprint("schools", __name__, url_prefix="/schools")
 Answer = str | Response | tuple[str, int]
+# the columns of the tables, by which their links put them in order
+COLUMNS: dict[str, Column[tuple[School, list[str]]]] = {
+    "code": Column("Code", "", lambda it: it[0].code),
+    "name": Column("Name", "", lambda it: it[0].name),
+    "number": Column("Admission number", "number", lambda it: it[0].pan),
+    "held": Column("Places held", "number", lambda it: it[0].taken),
+    "vacant": Column("Vacant", "number", lambda it: it[0].vacancies),
+    "waiting": Column("Waiting", "number", lambda it: it[0].waiting),
+    "criteria": Column("Criteria"),
+}
+INTAKE: dict[str, Column[intake.Held]] = {
+    "child": Column("Number", "number", lambda it: it.child),
+    "name": Column("Name", "", lambda it: it.name),
+    "place": Column("Place", "", lambda it: it.kind),
+    "since": Column("Offered on", "", lambda it: it.since),
+}
+WAITING: dict[str, Column[intake.Waiting]] = {
+    "position": Column("Position", "number", lambda it: it.position),
+    "child": Column("Number", "number", lambda it: it.child),
+    "name": Column("Name", "", lambda it: it.name),
+    "class": Column("Class", "", lambda it: it.number),
+    "metres": Column("Metres", "number", lambda it: it.metres),
+}
 WORKBOOK = "application/vnd.openxmlformats-officedocument.spreadsheetml.sheet"
 
 
@@ -37,7 +61,9 @@ def show() -> Answer:
     """All schools."""
     register, words = parts().desk.register(), flags.present()
     rows = [(it, classes(it, words)) for it in register.schools.values()]
-    return flask.render_template("schools.html", rows=rows)
+    made = tables.table(COLUMNS, rows)
+    return flask.render_template("schools.html", rows=made.rows, columns=made.columns,
+                                 sort=made.sort)
 
 
 def school_of(register: Register, code: str) -> School:
@@ -56,7 +82,8 @@ def one(code: str) -> Answer:
     school = school_of(register, code)
     return flask.render_template(
         "school.html", school=school, criteria=classes(school, words), register=register,
-        intake=intake.intake(register, code), waiting=intake.waiting(register, code, words),
+        intake=tables.table(INTAKE, intake.intake(register, code), "intake"),
+        waiting=tables.table(WAITING, intake.waiting(register, code, words), "waiting"),
         last=intake.last_offered(register, code, words),
         said="The admission number is raised." if "raised" in flask.request.args else "")
 
