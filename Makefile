@@ -24,8 +24,8 @@
 #   make costs    the CPU seconds of each crate's proof in the build here, beside a unit of this hour, and the longest chain of crates
 #   make bench    the aims for the costs, beside the measured costs, as one page, which it writes to bench/RESULTS.md; some minutes once the program is built
 #   make bench-more  the costs of commands in more tables, beside a baseline in the same run
-#   make deploy-check  the deployment (site, desk in its own network, page), on this machine alone; needs nginx, openssl, curl, chromium, sqlite3, poppler-utils and python3-pytest; not in test
-#   make pictures  the pictures of the pages (docs/pictures), of screens and a letter of an invented season; needs what deploy-check needs, python3-selenium
+#   make deploy-check  the deployment (site, desk in its own network), on this machine alone; needs nginx, openssl, curl, sqlite3 and python3-pytest; not in test
+#   make pictures  the pictures of the pages (docs/pictures), of screens and a letter of an invented season; needs nginx, openssl, python3-selenium, chromium
 #                 and chromium-driver
 #   make install  the proved program that is at bin/admissions (it builds nothing), the office's tools, their manual pages and completions, and the office's
 #                 pages; PREFIX=/usr/local by default, below DESTDIR; deploy/install adds what serves registers (docs/DEPLOYMENT.md)

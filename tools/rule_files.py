@@ -1,6 +1,6 @@
 """The files that follow from the rules of the source, and from the words for them.
 
-They are office/rules.json, the module of the page that has both, and tables of docs/ERRORS.md.
+They are office/rules.json, and tables of docs/ERRORS.md.
 office/words.json, which is written by hand, has words for each refusal, error and kind of field,
 and for no other. The names in docs/ERRORS.md have anchors (error_names.py).
 """
@@ -16,11 +16,6 @@ import error_names
 import source_rules
 
 RULES, WORDS, PAGE = Path("office/rules.json"), Path("office/words.json"), Path("docs/ERRORS.md")
-MODULE = Path("deploy/site/rules.js")
-MODULE_HEAD = (
-    "// The rules of the program and the words for them: office/rules.json and office/words.json.\n"
-    "// tools/reference --update writes this file.\n"
-)
 # the groups of words, and how the table of each begins
 TITLES = {
     "refusals": "| Refusal | Meaning | What to do |",
@@ -106,12 +101,6 @@ def with_tables(text: str, made: dict[str, list[str]]) -> str:
     return text
 
 
-def module_of(document: dict[str, Any], words: str) -> str:
-    """The text of the module of the page."""
-    rules = source_rules.text_of(document).rstrip()
-    return f"{MODULE_HEAD}export const rules = {rules};\n\nexport const words = {words.rstrip()};\n"
-
-
 def text_in(path: Path) -> str:
     """What a file has, or nothing where it is not there."""
     return path.read_text(encoding="utf-8") if path.exists() else ""
@@ -127,8 +116,6 @@ def failures(texts: dict[tuple[str, str, str], str]) -> Iterator[str]:
         words = text_in(WORDS)
         wrong = list(wrong_words(document, json.loads(words)))
         yield from wrong or [""]
-        has_module = text_in(MODULE) == module_of(document, words)
-        yield "" if has_module else f"{MODULE} has other rules or words: {advice}"
         if is_same and not wrong:
             text = text_in(PAGE)
             has_tables = with_tables(text, tables(document)) == text
@@ -145,5 +132,4 @@ def update(texts: dict[tuple[str, str, str], str]) -> None:
     RULES.write_text(source_rules.text_of(document), encoding="utf-8")
     if wrong := list(wrong_words(document, json.loads(words))):
         raise source_rules.FormError("\n".join(wrong))
-    MODULE.write_text(module_of(document, words), encoding="utf-8")
     PAGE.write_text(with_tables(text_in(PAGE), tables(document)), encoding="utf-8")

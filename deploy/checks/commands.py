@@ -41,7 +41,7 @@ def round_of(draw: int, day: str, lots: Iterable[int]) -> Command:
 
 
 def compact(command: Command) -> str:
-    """A command as the page writes it."""
+    """A command in one line."""
     return json.dumps(command, separators=(",", ":"), ensure_ascii=False)
 
 

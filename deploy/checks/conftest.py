@@ -1,8 +1,8 @@
 """What the checks share: the machine's part of the site with two registers, which are started once,
-and options of pytest for what is tested. deploy/check runs all of them, in its order. A file that
-makes a register of its own can be run alone, from the top of the repository:
+and an option of pytest for what is tested. deploy/check runs all of them, in its order. From the
+top of the repository one file can be run alone, if it does not need what those before it did:
 
-/usr/bin/python3 -m pytest deploy/checks/test_work.py --program=bin/admissions
+/usr/bin/python3 -m pytest deploy/checks/test_site.py --program=bin/admissions
 """
 
 import pathlib
@@ -22,7 +22,6 @@ def pytest_addoption(parser: pytest.Parser) -> None:
     options = parser.getgroup("deploy/check")
     options.addoption("--program", type=path, help="the program that is tested, with the files of"
                       " the repository; without it, the package that is installed")
-    options.addoption("--picture", type=path, help="a file in which a picture of the page is left")
 
 
 def path(given: str) -> pathlib.Path:
@@ -55,15 +54,11 @@ def world_fixture(pytestconfig: pytest.Config) -> Iterator[World]:
 
 
 @pytest.fixture(autouse=True)
-def ready_fixture(world: World, request: pytest.FixtureRequest) -> Iterator[None]:
-    """After each test, even one that failed, desk and application answer, and the page gets what
-    they answer."""
-    page = request.getfixturevalue("page") if "page" in request.fixturenames else None
+def ready_fixture(world: World) -> Iterator[None]:
+    """After each test, even one that failed, desk and application answer."""
     yield
     world.continue_desk()
     if world.desk.poll() is not None:
         world.start_desk()
     if world.office.poll() is not None:
         world.start_office()
-    if page:
-        page.rule = None

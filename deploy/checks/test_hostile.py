@@ -1,6 +1,6 @@
 """What somebody hostile sends to the site and to the office's application behind it: odd addresses,
-methods and fields, requests within requests, HTTP/2 by hand, long bodies, and names and addresses
-that are markup."""
+methods and fields, requests within requests, HTTP/2 by hand, long bodies, and names that would be
+more than a name."""
 
 import contextlib
 import itertools
@@ -14,9 +14,7 @@ from collections.abc import Iterator
 
 import pytest
 
-from checks.browser import Browser, browsing
 from checks.commands import amendment
-from checks.page import opened, visit
 from checks.raw import raw, status_of
 from checks.world import FORM, NAME, World, basic
 
@@ -32,12 +30,12 @@ OF_CHILDREN = re.compile('Ada Abel|Ben Bell|Cyd Cole|"children"|"place"|Waiting 
 
 
 ODD_PATHS = (
-    "//", "/./records", "/records/", "/records/../register", "/%72egister", "/register%00",
+    "//", "/./register", "/register/", "/people/../register", "/%72egister", "/register%00",
     "/register?x", "/REGISTER", "/register;x", "/child/1/", "/child/01", "/child/+1", "/child/1.0",
     "/child/1%2fletter", "/child/1/letter/", "/\\register", "/..%2fregister",
     "/sign-in/../register", "/page.css/../register", "/page.css%2f..%2fregister",
     "/page.css?/register", "/signed-in", "/..%2f..%2fetc/passwd", "/../../etc/passwd",
-    "/page.css%00.html", "/.git/config", "/office.db", "/static/page.js", "/index.html",
+    "/page.css%00.html", "/.git/config", "/office.db", "/static/pile.js", "/index.html",
     "/child/1%0d%0aX:%20y", "/school//waiting", "/school/./waiting", "/school/%2e%2e/register",
     f"{ORIGIN}/register", f"{ORIGIN}/child/1", "*", "https://evil.example/register", "/draw/1%20",
     "/pairs/", "/what-if", "/\x01", "/\xff\xfe",
@@ -77,7 +75,8 @@ OVERRIDES = (
     "PATH_INFO: /child/2", "SCRIPT_NAME: /school", "X-Script-Name: /x", "X-Forwarded-Prefix: /x",
     "X-Forwarded-User: jane", "Remote-User: jane", "X-Remote-User: jane", "REMOTE_USER: jane",
     "X-Forwarded-For: 127.0.0.1", "X-Forwarded-Host: evil.example", "X-Forwarded-Proto: http",
-    "X-Real-IP: 127.0.0.9", "Forwarded: for=127.0.0.1;host=evil.example", "X-Accel-Redirect: /who",
+    "X-Real-IP: 127.0.0.9", "Forwarded: for=127.0.0.1;host=evil.example",
+    "X-Accel-Redirect: /register",
 )
 
 
@@ -388,10 +387,10 @@ ODD_FRAMES: dict[str, list[tuple[str, str]]] = {
     "a zero byte in a value": [*h2(), ("x", "a\0b")],
     "a line end in a name": [*h2(), ("x\r\ny", "a")], "a colon in a name": [*h2(), ("x:y", "a")],
     "a blank in a name": [*h2(), ("x y", "a")], "large letters in a name": [*h2(), ("X", "a")],
-    "no name": [*h2(), ("", "a")], "two paths": [*h2(), (":path", "/who")],
+    "no name": [*h2(), ("", "a")], "two paths": [*h2(), (":path", "/register")],
     "two methods": [*h2(), (":method", "POST")], "no path": h2()[:-1],
     "an empty path": h2(path=""), "a path without a slash": h2(path="child/1"),
-    "no method": h2()[1:], "a blank in the method": h2(method="GET /who HTTP/1.1\r\nX:"),
+    "no method": h2()[1:], "a blank in the method": h2(method="GET /pairs HTTP/1.1\r\nX:"),
     "a field before the path": [("x", "a"), *h2()], "an unknown field of that kind": [
         *h2(), (":x", "a")],
     "a coding": [*h2("POST", "/sign-in"), ("transfer-encoding", "chunked")],
@@ -454,7 +453,7 @@ def test_the_longest_import_is_in_the_history_whole(world: World, way: str) -> N
         ("sends", rows), ("answer", rows)]
 
 
-# Names of children that would forge an entry of the history, or be markup
+# Names of children that would forge an entry of the history
 
 NAMES = {
     "a line of its own": 'x\n{"about":{},"n":1,"who":"mary"}\n', "a quote": '"},"who":"mary"',
@@ -476,63 +475,6 @@ def test_a_command_is_two_entries_whatever_is_in_it(world: World, what: str) -> 
     assert added[1]["about"] == {"of": added[0]["n"], "answer": json.loads(answer.body)}
     assert [status for key, status in {"done": 200, "refused": 409, "fault": 400}.items()
             if key in added[1]["about"]["answer"]] == [answer.status]
-
-
-@pytest.fixture(scope="module", name="browser")
-def browser_fixture(world: World) -> Iterator[Browser]:
-    """A browser of the head of the office, where a child and a school have names that are markup.
-    """
-    world.send(**amendment(6, NAMES["markup"], 300))
-    with browsing(world, "2025-03-20") as page:
-        yield page
-    world.send(**amendment(6, "Fay Ford", 300))
-
-
-def test_no_screen_of_the_application_takes_a_name_for_markup(
-        world: World, browser: Browser) -> None:
-    menu = re.findall('href="(/[^"]*)"', world.ask("/", "jane").body.partition("<nav")[2])
-    screens = sorted({*menu, "/children/6", "/children/4", "/children/4/correct", "/schools/C"})
-    shown = 0
-    for path in screens:
-        browser.open(path)
-        assert browser.value("document.title") != "hit"
-        assert browser.value("document.querySelectorAll('img, main script').length") == 0
-        shown += "onerror" in browser.value("document.body.innerText")
-    assert shown >= 3
-    assert browser.errors == []
-
-
-@pytest.mark.parametrize("address", [
-    "#find/<img src=x onerror=document.title='hit'>",
-    "#child/<script>document.title='hit'</script>", "#letters/1,<b>x</b>",
-    "#school/A'\"><b>x</b>", "#list/__proto__", "#constructor", "#child/1/../2",
-    "#javascript:document.title='hit'", "#%00", "#%", "#child/1e3", "#child/0x1", "#round/-1",
-    "#find/%3Cimg%20src%3Dx%20onerror%3Ddocument.title%3D'hit'%3E"])
-def test_no_address_of_a_view_is_taken_for_markup(browser: Browser, address: str) -> None:
-    opened(browser)
-    browser.errors.clear()
-    visit(browser, address.replace("'", "\\'"))
-    assert browser.value("document.title") != "hit"
-    assert browser.value("document.querySelectorAll('main img, main b, main script').length") == 0
-    assert browser.errors == []
-
-
-@pytest.mark.parametrize("path", ["/records", "/sign-in", "/people/", "/page.css"])
-def test_no_other_site_shows_one_of_this_in_a_frame(browser: Browser, path: str) -> None:
-    """So nobody is led to press a button that is not seen."""
-    # (each time another page, so that the one before is not taken for it)
-    browser.call("Page.navigate", url=f"data:text/html,<p>{path}")
-    browser.wait(f"document.querySelector('p')?.innerText === '{path}'")
-    # (a browser under load sometimes loads no frame at all: it is then added once more)
-    add = (f"document.querySelector('iframe')?.remove(); document.body.append(Object.assign("
-           f"document.createElement('iframe'), {{src: '{ORIGIN}{path}'}})); 0")
-    shown = ""
-    for _ in range(6):
-        browser.value(add)
-        with contextlib.suppress(TimeoutError):
-            shown = browser.until(lambda: browser.framed(f"{ORIGIN}{path}"), "a frame", 20)
-            break
-    assert shown == "chrome-error://chromewebdata/"
 
 
 # What other users of the machine can read of the processes

@@ -7,9 +7,7 @@ from typing import NamedTuple
 
 import pytest
 
-from checks.browser import browsing
 from checks.commands import amendment, compact
-from checks.page import opened, visit
 from checks.primary import MAIL
 from checks.raw import raw, status_of
 from checks.world import Answer, World, basic
@@ -46,8 +44,8 @@ def test_a_desk_is_not_reached_in_the_network_of_the_other_one(
 
 
 def test_each_register_has_a_user_of_the_office_and_its_name(world: World, other: World) -> None:
-    assert world.ask("/who", "jane").body == "secondary-2025\njane"
-    assert other.ask("/who", "mary").body == "primary-2026\nmary"
+    assert "secondary-2025" in world.ask("/password", "jane").body
+    assert "primary-2026" in other.ask("/password", "mary").body
 
 
 def test_a_user_of_one_is_nobody_at_the_other(world: World, other: World) -> None:
@@ -143,29 +141,6 @@ def test_the_letter_of_child_1_is_that_of_its_own_register(world: World, other: 
                for it, who in ((world, "jane"), (other, "mary"))]
     assert letters == [["Admission 2025 secondary", "Child 1 Ada Abel"],
                        ["Admission 2026 primary", "Child 1 Zoe Zeal"]]
-
-
-# The page
-
-
-@pytest.mark.parametrize("is_second, who, season, own, foreign", [
-    pytest.param(False, "jane", "secondary entry 2025", "Cyd Cole", "Yew", id="secondary"),
-    pytest.param(True, "mary", "primary entry 2026", NAMED, "Cyd", id="primary"),
-])
-def test_the_page_of_each_register_finds_its_own_children(
-        world: World, other: World, is_second: bool, who: str, season: str, own: str,
-        foreign: str) -> None:
-    with browsing(other if is_second else world, "2025-03-20", who) as page:
-        opened(page)
-        text = page.value("document.body.innerText")
-        assert season in text
-        assert who in text
-        found = {}
-        for name in (own.split()[0], foreign):
-            visit(page, f"#find/{name}")
-            found[name] = own in page.value("document.querySelector('main').innerText")
-        assert found == {own.split()[0]: True, foreign: False}
-        assert page.errors == []
 
 
 # One register is restarted

@@ -70,8 +70,8 @@ def screens_fixture(world: World) -> list[str]:
     return re.findall('href="([^"]+)"', menu)
 
 
-@pytest.mark.parametrize("path", ["/", "/records", "/child/1", "/child/1/letter", "/who",
-                                  "/authority", "/school/A/waiting", "/round/1", *WHOLE])
+@pytest.mark.parametrize("path", ["/", "/lists/", "/child/1", "/child/1/letter",
+                                  "/school/A/waiting", "/round/1", *WHOLE])
 def test_nobody_gets_anything_without_signing_in(world: World, path: str) -> None:
     assert world.ask(path).status == 401
 
@@ -81,7 +81,7 @@ def test_nobody_gets_a_screen_of_the_menu(world: World, screens: list[str]) -> N
     assert {path: world.ask(path).status for path in screens} == dict.fromkeys(screens, 401)
 
 
-@pytest.mark.parametrize("path", ["/", "/records", "/child/1", "/people/", "/register"])
+@pytest.mark.parametrize("path", ["/", "/lists/", "/child/1", "/people/", "/register"])
 def test_a_browser_of_nobody_is_led_to_the_form_and_from_there_to_the_page(
         world: World, path: str) -> None:
     led = world.ask(path, options=PAGE)
@@ -219,8 +219,8 @@ def test_a_wrong_token_and_a_password_in_the_place_of_one_are_refused(
 
 def test_a_program_with_its_token_is_known_and_needs_no_session(world: World) -> None:
     token = world.passwords["robot"]
-    answer = world.ask("/who", None, options=("--user", f"robot:{token}"))
-    assert (answer.status, answer.body) == (200, f"{world.name}\nrobot")
+    answer = world.ask("/pairs", None, options=("--user", f"robot:{token}"))
+    assert (answer.status, answer.body[:4]) == (200, "A 2\n")
 
 
 def test_the_session_is_in_a_cookie_that_no_script_and_no_other_site_gets(world: World) -> None:
@@ -268,21 +268,15 @@ def who_fixture(request: pytest.FixtureRequest) -> str:
     return name
 
 
-def test_people_of_the_office_get_the_page_and_a_program_does_not(world: World, who: str) -> None:
-    page = world.ask("/records", who)
+def test_people_of_the_office_get_a_screen_and_a_program_does_not(world: World, who: str) -> None:
+    screen = world.ask("/lists/", who)
     wanted = (403, False) if who == "robot" else (200, True)
-    assert (page.status, "School admissions" in page.body) == wanted
-
-
-def test_the_page_may_load_nothing_from_elsewhere_and_run_no_script_but_its_own(
-        world: World) -> None:
-    policy = world.ask("/records", "jane").fields.get("content-security-policy", "")
-    assert policy.split("; ")[:2] == ["default-src 'none'", "script-src 'self'"]
+    assert (screen.status, "School admissions" in screen.body) == wanted
 
 
 @pytest.mark.parametrize("path, kind", [("/page.css", "text/css; charset=utf-8"),
-                                        ("/page.js", "text/javascript; charset=utf-8")])
-def test_a_file_of_the_page_has_its_type(world: World, path: str, kind: str) -> None:
+                                        ("/pile.js", "text/javascript; charset=utf-8")])
+def test_a_file_of_the_screens_has_its_type(world: World, path: str, kind: str) -> None:
     assert world.ask(path, "jane").fields.get("content-type") == kind
 
 
@@ -331,7 +325,7 @@ def test_what_is_not_there_is_not_found(world: World, path: str) -> None:
 @pytest.mark.skipif(not HAS_IPV6, reason="this machine has no IPv6")
 def test_the_site_is_at_ipv6_too(world: World) -> None:
     at = ("--connect-to", f"{NAME}:443:[::1]:{world.site_port}")
-    assert world.ask("/page.js", "jane", options=at).status == 200
+    assert world.ask("/pile.js", "jane", options=at).status == 200
 
 
 @pytest.mark.parametrize("method, path, status", [("GET", "/command", 405),
@@ -349,8 +343,7 @@ def test_a_school_reads_its_own_list(world: World) -> None:
 
 
 @pytest.mark.parametrize("path", ["/school/B/waiting", "/school/AA/waiting", "/school/a/waiting",
-                                  "/child/2", "/child/2/letter", "/round/1", "/records", "/who",
-                                  "/authority", *WHOLE])
+                                  "/child/2", "/child/2/letter", "/round/1", "/lists/", *WHOLE])
 def test_a_school_reads_nothing_else(world: World, path: str) -> None:
     assert world.ask(path, "alpha").status == 403
 
@@ -388,8 +381,8 @@ def test_a_school_gets_only_screens_of_its_own(world: World, screens: list[str])
 # What others get who sign in
 
 
-@pytest.mark.parametrize("path", ["/records", "/child/1", "/child/1/letter", "/school/A/waiting",
-                                  "/round/1", "/who", "/authority", *WHOLE])
+@pytest.mark.parametrize("path", ["/lists/", "/child/1", "/child/1/letter", "/school/A/waiting",
+                                  "/round/1", *WHOLE])
 @pytest.mark.parametrize("name", ["sup", "adam"])
 def test_who_draws_lots_and_who_adds_people_see_no_child(
         world: World, name: str, path: str) -> None:
@@ -639,7 +632,7 @@ REFUSED: dict[str, tuple[Ask, int, str]] = {
     "no such file": (
         lambda world: world.ask("/nothing.js", "jane"), 404, "there is no such page"),
     "a POST to the page": (
-        lambda world: world.ask("/records", "jane", ACCEPT), 405, "the page takes no such request"),
+        lambda world: world.ask("/lists/", "jane", ACCEPT), 405, "the page takes no such request"),
     "a long command": (
         lambda world: world.ask("/command", "jane", f"@{world.room}/long-body"), 413, LONG_COMMAND),
     "a long body": (
@@ -660,7 +653,7 @@ REFUSED: dict[str, tuple[Ask, int, str]] = {
         lambda world: world.ask("/child/1", "jane", options=(
             "--http1.1", "--header", "Content-Length: x")), 400, NO_REQUEST),
 }
-PATHS = ("/", "/records", "/page.js", "/who", "/authority", "/register", "/child/2",
+PATHS = ("/", "/lists/", "/pile.js", "/register", "/child/2",
          "/child/2/letter", "/school/A/waiting", "/round/1", "/child/7", "/command", "/people/")
 # Others, of which the desk refuses some
 OTHERS: dict[str, Ask] = {
@@ -668,18 +661,18 @@ OTHERS: dict[str, Ask] = {
         "/command", "jane", ACCEPT.replace('"A"', '"B"')),
     "not JSON": lambda world: world.ask("/command", "jane", "{"),
     "PUT": lambda world: world.ask("/child/1", "jane", options=("--request", "PUT")),
-    "a part": lambda world: world.ask("/page.js", "jane", options=("--range", "0-1")),
-    "no such part": lambda world: world.ask("/page.js", "jane", options=("--range", "99999999-")),
+    "a part": lambda world: world.ask("/pile.js", "jane", options=("--range", "0-1")),
+    "no such part": lambda world: world.ask("/pile.js", "jane", options=("--range", "99999999-")),
     "compressed": lambda world: world.ask("/register", "jane", options=("--compressed",)),
     "the form": lambda world: world.ask("/sign-in"),
-    "a page of nobody": lambda world: world.ask("/records", options=PAGE),
+    "a page of nobody": lambda world: world.ask("/lists/", options=PAGE),
     "a form of nobody": lambda world: world.ask(
         "/people/", None, "what=lock", kind=FORM, options=PAGE),
     "a long form": lambda world: world.ask(
         "/people/", "jane", f"@{world.room}/longest-body", kind=FORM, options=PAGE),
     "a sign-in": lambda world: world.sign_in("adam", world.passwords["adam"]),
     "a wrong sign-in": lambda world: world.sign_in("adam", "wrong", "--interface", "127.0.2.41"),
-    "a page that is refused": lambda world: world.ask("/records", "alpha", options=PAGE),
+    "a page that is refused": lambda world: world.ask("/lists/", "alpha", options=PAGE),
     "a page that is not there": lambda world: world.ask("/nothing", "jane", options=PAGE),
 }
 
@@ -727,7 +720,7 @@ def test_the_register_is_compressed_for_whoever_takes_that_and_is_the_same(
     assert compressed.body == plain.body
 
 
-@pytest.mark.parametrize("path", ["/page.js", "/", "/records", "/people/", "/child/2", "/who"])
+@pytest.mark.parametrize("path", ["/pile.js", "/", "/lists/", "/people/", "/child/2"])
 def test_what_has_a_secret_beside_something_of_the_request_is_not_compressed(
         world: World, path: str) -> None:
     answer = world.ask(path, "jane", options=("--compressed",))
@@ -742,19 +735,19 @@ def test_the_answers_have_each_status_of_the_desk(answers: dict[str, Answer]) ->
 @pytest.mark.parametrize("what", [*REFUSED, *PATHS, *OTHERS])
 def test_an_answer_has_each_header_of_the_list_and_no_other(
         answers: dict[str, Answer], what: str) -> None:
-    """A browser may keep the files of the page, which are everybody's, and asks whether they are
+    """A browser may keep the files of the screens, which are everybody's, and asks whether they are
     still the same."""
     fields = answers[what].fields
-    if what in ("/page.js", "a part"):
+    if what in ("/pile.js", "a part"):
         assert fields["cache-control"] == "no-cache"
         fields = fields | {"cache-control": "no-store"}
     assert headers_differ(fields) == []
 
 
-def test_a_file_of_the_page_is_not_sent_again_while_it_is_the_same(
+def test_a_file_of_the_screens_is_not_sent_again_while_it_is_the_same(
         world: World, answers: dict[str, Answer]) -> None:
-    etag = answers["/page.js"].fields["etag"]
-    again = world.ask("/page.js", options=("--header", f"If-None-Match: {etag}"))
+    etag = answers["/pile.js"].fields["etag"]
+    again = world.ask("/pile.js", options=("--header", f"If-None-Match: {etag}"))
     assert (again.status, again.body) == (304, "")
 
 

@@ -13,8 +13,6 @@ import openpyxl
 from season_hands import HERE, Hand, Room
 
 EXPECTED = HERE / "season_trace"
-# the page that is a script alone
-PAGE_BY_SCRIPT = "/records"
 KINDS = ("register", "wire", "history", "machine", "files", "pages")
 MOMENTS = re.compile(r"\d{4}-\d\d-\d\dT\d\d:\d\d:\d\d(?:\.\d+)?(?:\+00:00|Z)?")
 SHOWN = re.compile(r"\b\d{1,2} [A-Z][a-z]+ \d{4}, \d\d:\d\d\b")
@@ -120,8 +118,7 @@ class Trace:
         paths = dict.fromkeys(path for it in menus.values() for path in it)
         for it in self.room.people.values():
             for path in (paths if all_of_them else menus[it.who]):
-                if path != PAGE_BY_SCRIPT:
-                    self.page(it, path)
+                self.page(it, path)
 
     def page(self, hand: Hand, path: str = "", when: str = "") -> None:
         """What somebody sees at a page: the present one, if none is named."""

@@ -41,7 +41,7 @@ def test_nobody_reads_without_a_sign_in(office: Site) -> None:
     there = urllib.parse.urlsplit(found.location)
     assert (found.status_code, there.path) == (302, "/sign-in")
     assert urllib.parse.parse_qs(there.query) == {"to": ["/activity/?who=jane"]}
-    for path in ("/register", "/child/1", "/pairs", "/school/A/waiting", "/who", "/draw/1"):
+    for path in ("/register", "/child/1", "/pairs", "/school/A/waiting", "/draw/1"):
         asked = stranger.client.get(path, base_url=ORIGIN)
         assert (asked.status_code, asked.json) == (
             401, {"reason": "sign in first", "status": 401}), path
@@ -67,7 +67,6 @@ def test_a_browser_that_asks_for_an_icon_finds_no_error(office: Site) -> None:
 RIGHTS = [
     # (method and path, and who may)
     ("GET /", "head officer supervisor reader administrator school-A"),
-    ("GET /records", "head officer reader"),
     ("GET /register", "head officer reader"),
     ("GET /child/1", "head officer reader"),
     ("GET /draw/1", "head officer reader"),

@@ -198,8 +198,13 @@ def test_an_error_of_the_application_keeps_what_was_typed(
     assert page.status_code == 500 and is_plain(Page(page.text).said())
 
 
-def test_no_template_names_anything_of_the_machine() -> None:
-    """The words of all screens."""
+def test_no_template_and_no_script_names_anything_of_the_machine() -> None:
+    """The words of all screens, and those that their scripts put there."""
+    scripts = list((ROOT / "deploy" / "site").glob("*.js"))
+    assert scripts
+    for path in scripts:
+        # (an address of the site, which is asked for)
+        assert is_plain(re.sub("[`\"]/[a-z/]+", "", path.read_text("utf-8"))), path.name
     folder = ROOT / "office" / "web" / "templates"
     for path in folder.glob("*.html"):
         # (a page of the archive, which names the files beside it)

@@ -150,9 +150,9 @@ def test_each_role_sees_what_is_its_own(office: Site) -> None:
 
 
 # what a program with a token may ask for
-OF_PROGRAMS = {"register.who", "register.authority", "register.register", "register.draw",
-               "register.read", "register.pairs", "register.waiting", "register.command",
-               "register.rows", "register.question", "signing.signed_in"}
+OF_PROGRAMS = {"register.register", "register.draw", "register.read", "register.pairs",
+               "register.waiting", "register.command", "register.rows", "register.question",
+               "signing.signed_in"}
 # what nobody needs a sign-in for
 OPEN = {"signing.sign_in", "signing.go_out", "signing.come_back", "health.health", "health.counts"}
 

@@ -18,7 +18,6 @@ test of their own elsewhere are named here too, so that this is the whole list.
 | A session that ends with a form half typed | test_application |
 | An import that was sent when the application ended | test_staging: a crash |
 | A reload while a pile is being recorded, or one press more | test_answers: not recorded twice |
-| A reload while a file of commands is being sent | deploy/checks/test_files |
 | Save of one row with others half typed | test_staging: all rows of a page |
 | Two officers at the same rows | test_staging: two officers |
 | An empty or a wrong file | here; test_staging, test_schools, test_answers |

@@ -67,8 +67,7 @@ GROUPS: dict[str, tuple[Screen, ...]] = {
         Screen("lists.show", "Lists", READ, ("lists",)),
         Screen("figures.show", "Figures", READ, ("figures",)),
         Screen("trials.show", "Trials", READ, ("trials",)),
-        Screen("activity.show", "Activity", NOTES, ("activity",)),
-        Screen("register.page", "Register", READ, ("register",))),
+        Screen("activity.show", "Activity", NOTES, ("activity",))),
     "Office": (
         Screen("people.show", "People", PEOPLE, ("people",)),
         Screen("copies.show", "Copies", READ, ("copies", "restores")),

@@ -46,8 +46,7 @@ HEADERS = {
 REFUSED_SECONDS = 60
 # what a program with a token may ask for, and no page: the register's own answers
 OF_PROGRAMS = {"signing.signed_in", *(f"register.{it}" for it in (
-    "who", "authority", "register", "draw", "read", "pairs", "waiting", "command", "rows",
-    "question"))}
+    "register", "draw", "read", "pairs", "waiting", "command", "rows", "question"))}
 # files that have more than one child, which are on record: each by a person once an hour
 EXPORTS = ("register.register", "lists.csv", "lists.workbook", "schools.workbook",
            "trials.workbook", "trials.pdf")

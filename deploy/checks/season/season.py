@@ -109,7 +109,6 @@ def other_screens(office: Office) -> None:
                  "/lists/children", "/lists/vacancies", "/activity/", "/applications/add/",
                  "/applications/duplicates", "/applications/withdrawn", f"/schools/{SCHOOL}/raise"):
         hal.open(path)
-    hal.open("/records", "Register")
     rita.open("/")
     rita.see("held for")
     abbey = office.people[ABBEY]

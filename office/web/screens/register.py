@@ -1,4 +1,4 @@
-"""What the pages of children and schools read and send: the answers of the register as they are."""
+"""What other programs read and send: the answers of the register as they are."""
 import flask
 from register_files import Refused
 
@@ -38,27 +38,6 @@ def sent(kind: str) -> bytes:
         reason = f"the register takes at most {most:,} bytes at once"
         flask.abort(answer(413, reason=reason, status=413))
     return body
-
-
-@screen.get("/records")
-@needs(READ)
-def page() -> str:
-    """The page."""
-    return flask.render_template("records.html")
-
-
-@screen.get("/who")
-@needs(READ)
-def who() -> flask.Response:
-    """The name of the register, and who asks."""
-    return flask.Response(f"{parts().config.name}\n{person().name}", mimetype="text/plain")
-
-
-@screen.get("/authority")
-@needs(READ)
-def authority() -> flask.Response:
-    """The name of the authority."""
-    return flask.Response(parts().config.authority, mimetype="text/plain")
 
 
 @screen.get("/register")
@@ -135,7 +114,7 @@ def answered(result: Result) -> flask.Response:
 @screen.post("/command")
 @needs(RECORD)
 def command() -> flask.Response:
-    """A command of the page, or of a program."""
+    """A command."""
     body = sent(JSON)
     given = commands.read(body)
     if not isinstance(given, dict) or commands.wrong_field(given):
