@@ -3,7 +3,7 @@
 // chosen, Enter sends the form.
 
 const MOST_WAIT = 150;
-const field = /** @type {HTMLInputElement | null} */ (document.getElementById("find"));
+const field = /** @type {HTMLInputElement | null} */ (document.getElementById("search"));
 const list = document.createElement("ul");
 /** @type {ReturnType<typeof setTimeout> | undefined} */
 let waiting;

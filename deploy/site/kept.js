@@ -59,11 +59,11 @@ function write(place, values) {
 /** @param {HTMLFormElement} form @param {string} place */
 function say(form, place) {
   const note = document.createElement("p");
-  note.className = "warning";
+  note.className = "banner warn";
   note.setAttribute("role", "status");
   const forget = document.createElement("button");
   forget.type = "button";
-  forget.className = "small";
+  forget.className = "button second small";
   forget.textContent = "Forget it";
   forget.addEventListener("click", () => { write(place, {}); location.reload(); });
   note.append(`${NOTE} `, forget);

@@ -297,7 +297,7 @@ def test_a_step_that_begins_with_a_file_has_its_form_on_the_first_screen(
             hal, rita = office.browser("hal"), office.browser("rita", "reader")
             own = {"/sign-out", action} if action else {"/sign-out"}
             assert {it.action for it in Page(hal.get("/").text).forms} == own
-            assert {it.action for it in Page(rita.get("/").text).forms} == {"/sign-out"}
+            assert all(it.is_frame for it in Page(rita.get("/").text).forms)
             if not action:
                 continue
             page = Page(hal.get("/").text)
@@ -309,17 +309,45 @@ def test_a_step_that_begins_with_a_file_has_its_form_on_the_first_screen(
             assert said in " ".join(found.text.split()), found.text
 
 
+def navs(text: str) -> str:
+    """The menus of a page."""
+    return "".join(re.findall("<nav.*?</nav>", text, re.S))
+
+
+def test_each_page_marks_its_group_and_leads_back(office: Site) -> None:
+    """Also below a screen of the menu, and to the screen above."""
+    jane = office.browser("jane")
+    for path, marked, back in (
+            ("/", [("/", "page")], ""),
+            ("/schools/", [("/schools/", "true"), ("/schools/", "page")], ""),
+            ("/schools/A", [("/schools/", "true"), ("/schools/", "true")], "/schools/"),
+            ("/lists/unplaced", [("/find", "true"), ("/lists/unplaced", "page")], ""),
+            ("/lists/draws", [("/lists/", "true"), ("/lists/", "true")], "/lists/"),
+            ("/children/1/accept", [("/find", "true"), ("/find", "true")], "/children/1"),
+            ("/password", [], "")):
+        text = jane.get(path).text
+        found = re.findall('href="([^"]*)" aria-current="([a-z]*)"', navs(text))
+        assert found == marked, path
+        link = re.search('<p class="back"><a href="([^"]*)"', text)
+        assert (link[1] if link else "") == back, path
+
+
 def test_the_menu_has_what_a_person_may_see(office: Site) -> None:
-    """By role; and each can sign out."""
-    screens = {"rita": ("reader", "/schools/ /children/ /lists/ /flags/", "/answers/ /people/"),
-               "jane": ("officer", "/schools/ /children/ /answers/ /lists/", "/people/"),
-               "sue": ("supervisor", "", "/schools/ /children/ /answers/ /lists/ /flags/")}
+    """By role, on the first screen of each group; and each can sign out."""
+    screens = {"rita": ("reader",
+                        "/find /lists/unplaced /schools/ /flags/ /draws/ /notices/ /copies/",
+                        "/applications/ /answers/ /activity/ /people/ /schools/new/"),
+               "jane": ("officer", "/applications/ /schools/new/ /answers/ /activity/ /season-end/",
+                        "/people/ /lots/"),
+               "sue": ("supervisor", "/lots/", "/schools/ /find /answers/ /lists/ /flags/")}
     for name, (role, seen, unseen) in screens.items():
         browser = office.browser(name, role)
-        text = browser.get("/password").text
+        groups = re.findall('href="([^"]*)"', navs(browser.get("/password").text))
+        text = "".join(navs(browser.get(it).text) for it in groups)
         for path in seen.split():
             assert f'href="{path}"' in text, (role, path)
         for path in unseen.split():
             assert f'href="{path}"' not in text, (role, path)
+        text = browser.get("/password").text
         page = Page(text)
         assert press(browser, "/", page, "Sign out").status_code == 303

@@ -180,7 +180,7 @@ class Copies:
         """When the last copy was asked for, or ""."""
         row = self.store.row("SELECT asked FROM copy WHERE name IS NOT NULL"
                              " ORDER BY number DESC LIMIT 1")
-        return row["asked"] if row else ""
+        return str(row["asked"]) if row else ""
 
     def get(self, number: int) -> Copy:
         """A copy by its number, also where its file is gone."""

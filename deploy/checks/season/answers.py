@@ -28,7 +28,7 @@ def recorded(office: Office, school: str) -> None:
     report, hal, season = office.report, office.people[HAL], office.season
     report.step(f"{ANSWERS} answers")
     children, declined = chosen(office, school)
-    hal.press("Answers")
+    hal.go("Offers", "Answers")
     before = report.counts.keys
     typed(office, children, declined)
     keys = report.counts.keys - before

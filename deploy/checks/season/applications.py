@@ -126,7 +126,7 @@ def stored(office: Office) -> None:
     report, hal = office.report, office.people[HAL]
     given = list(office.season.children.values())
     report.step("they are stored")
-    hal.press("Store in the register")
+    hal.go("Applications", "Store in the register")
     facts, late = hal.facts(), len(town.LATE)
     in_time = len(given) - late
     report.same(facts.get("Children"), str(len(given)), "children to be stored")
@@ -169,7 +169,7 @@ def plans(office: Office) -> None:
     report.step("two plans are recorded")
     children = list(season.children.values())
     named = [(children[9], "A"), (children[33], "DEAN")]
-    hal.press("Answers")
+    hal.go("Offers", "Answers")
     hal.tab_to("A column of numbers or names, or rows as 23 Bo Bell ELM decline")
     hal.type("\n".join(f"plan,{it.number},{school},{it.name}" for it, school in named))
     hal.press("Add to the pile")

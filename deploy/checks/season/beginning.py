@@ -66,7 +66,7 @@ def flags(office: Office) -> None:
     """Words for flags."""
     office.report.step("words for flags")
     jane = office.jane
-    jane.press("Flags")
+    jane.go("Schools", "Flags")
     for number, words in town.FLAG_WORDS.items():
         jane.fill(f"Words of flag {number}", words)
     jane.enter()
@@ -94,7 +94,7 @@ def people(office: Office) -> None:
     token.
     """
     office.report.step("people are added, and sign in")
-    office.jane.press("People")
+    office.jane.go("Office", "People")
     added(office, office.jane, ANN, ADMINISTRATOR)
     ann = office.arrive(ANN)
     sign_in(ann, office.drawn[ANN])
@@ -114,11 +114,8 @@ def arrivals(office: Office) -> None:
     """Each signs in and sees what is theirs."""
     firsts = {HAL: "Season", SUP: "Lots", RITA: "Season", ABBEY: "A Abbey School"}
     menus = {
-        HAL: "Season Schools Applications Children Answers Reminders Letters Draws Trials Lists"
-             " Figures Flags Register Copies Activity End of the season",
-        SUP: "Lots", ABBEY: "",
-        RITA: "Season Schools Children Reminders Letters Draws Trials Lists Figures Flags Register"
-              " Copies"}
+        HAL: "Home Applications Children Schools Offers Reports Office", SUP: "Offers", ABBEY: "",
+        RITA: "Home Children Schools Offers Reports Office"}
     for who, first in firsts.items():
         hands = office.arrive(who)
         sign_in(hands, office.drawn[who])

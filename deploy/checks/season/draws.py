@@ -128,7 +128,7 @@ def lots_of(office: Office, draw: Draw, pairs: Sequence[Pair]) -> Lots:
 def begun(office: Office, draw: Draw) -> None:
     """The head of the office begins it."""
     jane = office.jane
-    jane.press("Draws")
+    jane.go("Offers", "Draws")
     if draw.school:
         jane.pick("What is drawn", "fills", "fills")
     jane.type_day("Day of the draw", draw.day)

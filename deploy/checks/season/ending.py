@@ -35,7 +35,7 @@ def figures(office: Office) -> None:
     report, hal, before = office.report, office.people[HAL], office.before[1]
     report.step("figures of the first round")
     got = outcome(before)
-    hal.press("Figures")
+    hal.go("Reports", "Figures")
     hal.pick("Round", "round 1", "round 1")
     hal.press("Make the figures, and show them")
     hal.see(f"of {len(got)} children who took part")
@@ -131,7 +131,7 @@ def archived(office: Office) -> None:
     report, jane, season = office.report, office.jane, office.season
     office.today(office.lists_end + datetime.timedelta(days=7))
     report.step("the last copy and the archive")
-    jane.press("End of the season")
+    jane.go("Office", "End of the season")
     shown = {row[0]: row[1] for row in jane.captioned("Still open")}
     waiting = sum(len(season.waiting(code)) for code in season.schools)
     vacant = sum(season.vacancies(code) for code in season.schools)
@@ -192,7 +192,7 @@ def deleted(office: Office) -> None:
     jane.fill("Name of the register", name)
     jane.enter()
     jane.see("You have asked for the deletion: somebody else confirms it.")
-    hal.press("End of the season")
+    hal.go("Office", "End of the season")
     hal.look("The deletion, to be confirmed")
     report.see(hal.has(f"Delete {name} for ever, with {len(town.children(office.season.closing))}"
                        " children"), f"the button of the deletion: {hal.main}")

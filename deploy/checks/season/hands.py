@@ -119,6 +119,13 @@ class Hands:
         with self.new_page(text) if is_new else contextlib.nullcontext():
             found[0].click()
 
+    def go(self, group: str, screen: str) -> None:
+        """Goes to a screen of the menu, by its group if the page does not lead to it."""
+        if not self.has(screen):
+            self.press(group)
+        if self.title != screen:
+            self.press(screen)
+
     def into(self, element: WebElement) -> None:
         """Clicks into a field, to type there."""
         self.report.counts.fields += 1
@@ -250,7 +257,9 @@ class Hands:
         self.see_structure(name)
         for width in (TWICE, SMALL):
             self.resize(width, HEIGHT)
-            for it in self.driver.execute_script(screens.TOO_WIDE) or [""]:
+            wrong = [*self.driver.execute_script(screens.TOO_WIDE),
+                     *self.driver.execute_script(screens.TARGETS)]
+            for it in wrong or [""]:
                 self.report.see(not it, f"'{name}' at {width} pixels: {it}")
         self.picture(name, "-small")
         self.resize(WIDTH, HEIGHT)
@@ -258,7 +267,8 @@ class Hands:
 
     def see_structure(self, name: str) -> None:
         """Looks at what a screen reader gets, at the contrast in both schemes, and at paper."""
-        found = list(self.driver.execute_script(screens.STRUCTURE))
+        found = [*self.driver.execute_script(screens.STRUCTURE),
+                 *self.driver.execute_script(screens.TARGETS)]
         for scheme in ("dark", "light"):
             self.emulate("", scheme)
             _, faint = self.driver.execute_script(f"return {screens.CONTRAST};")
@@ -286,7 +296,9 @@ class Hands:
         before = self.driver.switch_to.active_element
         self.driver.execute_script(screens.TO_BEGIN)
         reached: list[int] = []
-        for _ in range(count + 5):
+        # (a region that scrolls by itself is reached too)
+        regions = len(self.driver.find_elements(By.CSS_SELECTOR, ".region"))
+        for _ in range(count + regions + 5):
             ActionChains(self.driver).send_keys(Keys.TAB).perform()
             here = self.driver.execute_script(screens.HERE)
             if here is not None:

@@ -79,7 +79,7 @@ def to_offered(office: Office, draw: int) -> None:
     hal, season = office.people[HAL], office.season
     offered = dict(sorted((it, season.places[it]) for it in season.offers))
     office.report.step(f"letters to {len(offered)} children with an offer of draw {draw}")
-    hal.press("Letters")
+    hal.go("Offers", "Letters")
     hal.pick("Draw, where one is named", f"round {draw}", f"round {draw}")
     hal.tab_to("Day, where one is named")
     hal.enter()

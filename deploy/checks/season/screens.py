@@ -53,7 +53,16 @@ const say = (text, list) => {
     if (list.length) found.push(`${text}: ${list.slice(0, 5).join(", ")}`);
 };
 if (all("h1").length !== 1) found.push(`${all("h1").length} headings of the first level`);
+for (const name of ["header", "main", "footer", "nav"].slice(0, all("nav").length ? 4 : 2)) {
+    if (!all(name).some(isShown)) found.push(`no ${name}`);
+}
 if (all("main").length !== 1) found.push(`${all("main").length} main parts`);
+let level = 0;
+for (const it of all("h1, h2, h3, h4").filter(isShown)) {
+    const now = Number(it.tagName[1]);
+    if (now > level + 1) found.push(`the heading ${plain(it.textContent)} skips a level`);
+    level = now;
+}
 say("without a name", all("input, select, textarea, button, a[href], summary").filter(
     (it) => isShown(it) && !called(it)).map(named));
 say("tables without a caption", all("table").filter(
@@ -72,6 +81,27 @@ for (const name of ["aria-describedby", "aria-labelledby", "for"]) {
 say("errors that no field has", all(".error[id]").filter((it) => !document.querySelector(
     `[aria-describedby~="${it.id}"]`)).map((it) => it.id));
 return found;
+"""
+# what is too small to be pressed, but links within a sentence, and what lies below something else
+TARGETS = COMMON + """
+const found = [];
+const isText = (it) => it.matches("a") && getComputedStyle(it).display === "inline";
+for (const it of all("a[href], button, input, select, summary").filter(isShown)) {
+    const box = it.getBoundingClientRect();
+    if (it.closest("svg, .unseen, .skip") || isText(it)) continue;
+    if (box.width < 24 || box.height < 24) {
+        found.push(`${named(it)} is ${Math.round(box.width)} by ${Math.round(box.height)} pixels`);
+    }
+}
+for (const it of all("main :is(a[href], button, input, select, summary)").filter(isShown)) {
+    if (it.closest("svg, .region")) continue;
+    it.scrollIntoView({block: "center", behavior: "instant"});
+    const box = it.getClientRects()[0];
+    const top = document.elementFromPoint(box.left + box.width / 2, box.top + box.height / 2);
+    if (top && !it.contains(top) && !top.contains(it)) found.push(`${named(it)} is below ${named(top)}`);
+}
+scrollTo(0, 0);
+return found.slice(0, 5);
 """
 # what a sheet of paper has that nobody can press there
 PRESSABLE = COMMON + """
@@ -101,7 +131,7 @@ HERE = "return document.activeElement?.dataset.stop ?? null;"
 # how far a page is wider than its window
 TOO_WIDE = """
 const it = document.documentElement;
-const out = [...document.querySelectorAll("body *")].filter((one) => !one.closest(".wide, pre")
+const out = [...document.querySelectorAll("body *")].filter((one) => !one.closest(".region, pre, .unseen")
     && one.getBoundingClientRect().right > it.clientWidth + 1);
 return it.scrollWidth <= it.clientWidth ? [] : [`${it.scrollWidth} pixels wide, by ${
     out.slice(0, 3).map((one) => one.tagName + one.className).join(", ")}`];

@@ -52,7 +52,7 @@ def answered(office: Office, *children: int) -> None:
     """The officer records answers, before anybody has seen that the day was wrong."""
     hal = office.people[HAL]
     office.report.step("answers after the wrong draw")
-    hal.press("Answers")
+    hal.go("Offers", "Answers")
     for it in children:
         hal.type(f"{it}\n")
     until(lambda: hal.has("Record 2 answers"), "the pile has both answers")
