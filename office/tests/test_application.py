@@ -329,8 +329,8 @@ def test_people_are_added_and_kept_out(office: Site) -> None:
 
 
 def test_what_is_typed_survives_the_end_of_a_session(office: Site) -> None:
-    """It is shown and sent again after another sign-in; and so is what a page of an earlier session
-    has. Another site finds out nothing, and a password is never shown.
+    """It is shown, and sent by one press after another sign-in. What a page of somebody else has is
+    shown first. Another site finds out nothing, and a password is never shown.
     """
     jane = office.browser("jane")
     jane.get("/flags/")
@@ -341,15 +341,11 @@ def test_what_is_typed_survives_the_end_of_a_session(office: Site) -> None:
     page = Page(found.text)
     assert found.status_code == 401 and "Your session has ended" in page.said()
     assert "medical &lt;b&gt;need" in page.text and "<b>need" not in page.text
-    assert jane.sign_in("jane", office.passwords["jane"]).status_code == 303
     form = page.form("Send it again")
-    stale = jane.post(form.action, {**words, "form": "of the session before"})
-    again = Page(stale.text)
-    assert stale.status_code == 403 and "an earlier session" in again.said()
-    assert again.form("Send it again").action == form.action == "/flags/"
-    assert set(again.form("Send it again").values) == {"form", *words}
-    sent = jane.post("/flags/", {**words, "flag-3": ""})
-    assert sent.status_code == 303
+    assert form.action == "/flags/" and set(form.values) == {"form", *words}
+    assert jane.sign_in("jane", office.passwords["jane"]).status_code == 303
+    found = press(jane, "", page, "Send it again", **{**words, "flag-3": ""})
+    assert found.status_code == 303
     assert office.parts.store.setting("flags") == '{"2": "medical <b>need</b>"}'
     headers = {"Origin": "https://evil.example", "Accept": "text/html"}
     other = jane.client.post("/flags/", base_url=ORIGIN, headers=headers, data=words)
@@ -359,6 +355,34 @@ def test_what_is_typed_survives_the_end_of_a_session(office: Site) -> None:
     secret = {"present": "a sea of grey boats", "new": "a hill of red roofs", "again": "another"}
     found = jane.post("/password", secret)
     assert found.status_code == 401 and not any(it in found.text for it in secret.values())
+
+
+def test_the_secret_of_an_earlier_session_is_its_persons_alone(office: Site) -> None:
+    """A page that was left open is taken once its person has signed in again; not where somebody
+    else has, after another password, or with a sum of one's own.
+    """
+    bo, jane = office.browser("bo"), office.browser("jane")
+    page, words = Page(jane.get("/flags/").text), {"flag-2": "deaf"}
+    mark, _, sum_of = page.form("Store the words").values["form"][0].partition(".")
+    jane.post("/sign-out")
+    stale = press(bo, "/flags/", page, "Store the words", **words)
+    assert stale.status_code == 403 and "by another person" in Page(stale.text).said()
+    assert jane.sign_in("jane", office.passwords["jane"]).status_code == 303
+    for form in ("", ".", mark, f"{mark}.", f"{mark}.{sum_of[::-1]}", f".{sum_of}", "é", "x" * 999):
+        found = press(jane, "/flags/", page, "Store the words", form=form, **words)
+        assert found.status_code == 403 and office.parts.store.setting("flags", "{}") == "{}"
+    assert press(jane, "/flags/", page, "Store the words", **words).status_code == 303
+    page, own = Page(jane.get("/flags/").text), office.passwords["jane"]
+    jane.post("/sign-out")
+    assert jane.sign_in("jane", own).status_code == 303
+    jane.get("/password")
+    given = {"present": own, "new": "a hill of red roofs", "again": "a hill of red roofs"}
+    assert jane.post("/password", given).status_code == 303
+    found = press(jane, "/flags/", page, "Store the words", **words)
+    again = Page(found.text)
+    assert found.status_code == 403 and "before your password was changed" in again.said()
+    seen = page.form("Store the words").values["seen"]
+    assert press(jane, "/flags/", again, "Send it again", seen=seen).status_code == 303
 
 
 def test_a_form_of_more_fields_than_any_page_has_is_refused(tmp_path: pathlib.Path) -> None:

@@ -54,7 +54,7 @@ EXPORT_SECONDS = 3600
 # what somebody may do whose password was drawn by somebody else
 BEFORE_CHANGE = ("signing.password", "signing.sign_out", "signing.signed_in")
 # what was typed is kept over the end of a session up to this size, and on these pages never
-MOST_TYPED = 1_000_000
+MOST_TYPED, MOST_SECRET = 1_000_000, 100
 SECRET = ("signing.sign_in", "signing.password")
 # of those without a session one body is read at a time; another one meanwhile is not read
 NOBODY = threading.Lock()
@@ -62,8 +62,9 @@ ENDED = ("Your session has ended, and nothing was done. Sign in again, and then 
          " you typed: it is below.")
 BROKEN = ("Something went wrong in the application. Look whether what you sent is done, before you"
           " send it again; and tell whoever maintains it.")
-EARLIER = ("This page was of an earlier session, and nothing was done. What you typed is below:"
-           " read it, and send it again if it still holds.")
+EARLIER = ("This page was opened by another person, or before your password was changed, and"
+           " nothing was done. What you typed is below: read it, and send it again if it still"
+           " holds.")
 View = TypeVar("View", bound=Callable[..., Any])
 
 
@@ -130,7 +131,8 @@ def sign_in_failed(kind: str) -> None:
 
 def is_foreign() -> bool:
     """Whether a request that changes something may come from a page of another site. A form has the
-    secret of its session; other bodies are of kinds that no form can send.
+    secret of a session of the same person, of an earlier one where the page was left open; other
+    bodies are of kinds that no form can send.
     """
     request = flask.request
     if request.headers.get("Origin") != parts().config.origin:
@@ -141,7 +143,7 @@ def is_foreign() -> bool:
     if request.endpoint == "signing.sign_in":
         return False
     found: Person | None = flask.g.get("person")
-    return found is None or not found.form or request.form.get("form") != found.form
+    return found is None or not parts().people.is_form_of(found, request.form.get("form", ""))
 
 
 class Recent:
@@ -188,13 +190,17 @@ def again(status: int, reason: str) -> AnyResponse | None:
 
 
 def typed_again(status: int, reason: str) -> AnyResponse | None:
-    """The page with what was typed, if there is anything."""
+    """The page with what was typed, if there is anything. Of nobody it keeps the secret that was
+    sent, by which it can be sent once its person has signed in again.
+    """
     request = cast(uploads.Request, flask.request)
+    found: Person | None = flask.g.get("person")
+    form = found.form if found else request.form.get("form", "")[:MOST_SECRET]
     typed = [it for it in request.form.items(multi=True) if it[0] != "form"]
     if not typed or len(typed) > request.most_fields:
         return None
     return flask.make_response(flask.render_template(
-        "again.html", reason=reason, typed=typed, has_files=bool(request.files),
+        "again.html", reason=reason, typed=typed, has_files=bool(request.files), form=form,
         label=wording.label), status)
 
 

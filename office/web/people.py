@@ -2,6 +2,7 @@
 import collections
 import dataclasses
 import hashlib
+import hmac
 import ipaddress
 import json
 import re
@@ -107,6 +108,13 @@ class Person:
 def digest(secret: str) -> str:
     """The digest of a drawn secret, which needs no slow hash."""
     return hashlib.sha256(secret.encode()).hexdigest()
+
+
+def form_of(mark: str, hashed: str) -> str:
+    """The secret of the forms of a session: what was drawn for it, with its sum by what is kept of
+    the person's password. So one of an earlier session is known until the password is another.
+    """
+    return f"{mark}.{hmac.new(hashed.encode(), mark.encode(), 'sha256').hexdigest()}"
 
 
 class Attempts:
@@ -387,11 +395,24 @@ class People:
             for it in late:
                 db.execute("DELETE FROM session WHERE digest=?", (it,))
                 self.seen.pop(it, None)
+            hashed = db.execute("SELECT hash FROM person WHERE name=?", (name,)).fetchone()[0]
+            form = form_of(secrets.token_urlsafe(18), hashed)
             db.execute("INSERT INTO session VALUES (?, ?, ?, ?, ?, ?)",
-                       (digest(secret), name, secrets.token_urlsafe(18), moment, moment,
-                        int(is_outside)))
+                       (digest(secret), name, form, moment, moment, int(is_outside)))
             db.execute("UPDATE person SET signed_in=? WHERE name=?", (now(), name))
         return secret
+
+    def is_form_of(self, person: Person, form: str) -> bool:
+        """Whether this is the secret of the forms of a person's session, or of an earlier one of
+        the same person.
+        """
+        if not person.form or not form.isascii():
+            return False
+        if hmac.compare_digest(form, person.form):
+            return True
+        row = self.store.row("SELECT hash FROM person WHERE name=?", person.name)
+        return row is not None and hmac.compare_digest(
+            form, form_of(form.partition(".")[0], row["hash"]))
 
     def of_session(self, secret: str) -> Person | None:
         """Who has a session."""
