@@ -148,11 +148,14 @@ class Page(html.parser.HTMLParser):
 
 
 def press(browser: Any, path: str, page: Page, button: str, **given: Any) -> Any:
-    """Presses a button of a page: the form is sent with what is in it, and with what was given."""
+    """Presses a button of a page: the form is sent with what is in it, and with what was given. A
+    question that has an address of its own is read there.
+    """
     form = page.form(button)
     values = {name: it if len(it) > 1 else it[0] for name, it in form.values.items() if it}
     name, value = form.buttons[button]
     sent = {**values, **({name: value} if name else {}), **given}
     if form.method == "get":
         return browser.get(f"{form.action or path}?{urllib.parse.urlencode(sent, True)}")
-    return browser.post(form.action or path, sent)
+    found = browser.post(form.action or path, sent)
+    return browser.get(found.location) if "typed=" in (found.location or "") else found

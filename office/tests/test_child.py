@@ -11,9 +11,11 @@ from applications import ROUND, Browser, Site, child, office_over, town
 from conftest import ROOT
 from pages import Page, press
 from register_files import Refused
+from werkzeug.datastructures import MultiDict
 
 from office.senders import Ended
 from office.web import children, corrections, effects, flags, wording
+from office.web.asked import MOST_CHARACTERS, MOST_KEPT, Asked
 from office.web.desk import LOST
 from office.web.people import Person
 from office.web.screens import child as screen
@@ -372,6 +374,48 @@ def test_a_correction_keeps_what_a_colleague_corrected(office: Site, is_wrong: b
         "Ada Abell", 900, ("B",), "PRIM7", True)
 
 
+def test_the_question_of_a_correction_has_an_address(office: Site) -> None:
+    """A way back leads to no page that a browser would send for again, but to what was typed. It is
+    this session's alone, and gone once it is recorded or begun anew.
+    """
+    jane, bo, path = office.browser("jane"), office.browser("bo"), "/children/1/correct"
+    compare = "Compare with the register"
+
+    def asked(given: str, what: str = "ask") -> str:
+        """The address of a question about what was typed."""
+        form = Page(jane.get(path).text).form(compare).sent_by(compare, name=given, what=what)
+        found = jane.post(path, form)
+        assert found.status_code == 303
+        return str(found.location)
+
+    first = asked("Ada Abell")
+    assert Page(jane.get(first).text).tables["changes"][1:] == [["Name", "Ada Abel", "Ada Abell"]]
+    back = Page(jane.get(path).text)
+    assert back.fields["name"]["value"] == "Ada Abell" and "not recorded yet" in back.by_id["kept"]
+    assert Page(bo.get(path).text).fields["name"]["value"] == "Ada Abel"
+    assert bo.get(first).status_code == 409
+    second = asked("Ada Able")
+    stale = jane.get(first)
+    assert stale.status_code == 409 and "type it again" in Page(stale.text).said()
+    assert jane.post(path, {"what": "anew"}).location == path
+    assert "kept" not in Page(jane.get(path).text).by_id and jane.get(second).status_code == 409
+    question = Page(jane.get(asked("Ada Able")).text)
+    assert press(jane, path, question, "Correct the data of Ada Abel").status_code == 303
+    assert "kept" not in Page(jane.get(path).text).by_id
+    assert asked("Ada", "look").endswith("&look=yes")
+    assert office.parts.desk.now().children[1].name == "Ada Able"
+
+
+def test_what_is_asked_about_is_kept_within_limits() -> None:
+    """The last of each form, and of all forms so many; none that is too long."""
+    kept, jane = Asked(), Person("jane", "officer", form="1")
+    long = kept.keep(jane, "/long", MultiDict({"name": "x" * MOST_CHARACTERS}))
+    assert kept.find(jane, "/long", long) is None
+    for at in range(MOST_KEPT + 1):
+        kept.keep(jane, f"/{at}", MultiDict({"name": "x", "form": "secret"}))
+    assert kept.find(jane, "/0") is None and kept.find(jane, "/1") == MultiDict({"name": "x"})
+
+
 def test_the_point_of_a_home_is_not_put_together_from_two(office: Site) -> None:
     """Who changed one number of it sees both as new beside a colleague's point."""
     jane, path = office.browser("jane"), "/children/1/correct"
@@ -414,6 +458,8 @@ def test_a_correction_that_is_wrong_stays_in_the_form(office: Site) -> None:
         assert said in page.error(field), field
     assert "numbers of flags from 0 to 15" in page.by_id["flags-error"]
     assert page.fields["east"]["value"] == "x"
+    assert Page(jane.get(path).text).fields["east"]["value"] == "x"
+    jane.post(path, {"what": "anew"})
     found = press(jane, path, Page(jane.get(path).text), "Compare with the register")
     assert found.status_code == 409 and "there is nothing to record" in Page(found.text).said()
 

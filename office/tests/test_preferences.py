@@ -68,6 +68,22 @@ def test_an_application_in_time_is_asked_by_name_and_recorded_once(before: Site)
     assert sum(it.what == "sends" for it in before.parts.history.entries) == 1
 
 
+def test_the_question_has_an_address_and_a_way_back_to_what_was_typed(before: Site) -> None:
+    """So a browser never asks whether a form is to be sent again."""
+    jane = before.browser("jane")
+    page = Page(jane.get(PATH).text)
+    sent = page.form(ASK).sent_by(ASK, **{"preference-1": "B"})
+    found = jane.post(PATH, sent)
+    assert found.status_code == 303
+    assert Page(jane.get(found.location).text).tables["new"][1:] == [["1", "none", "B Beta"]]
+    back = Page(jane.get(PATH).text)
+    assert back.form(ASK).values["preference-1"] == ["B"] and "not recorded" in back.by_id["kept"]
+    assert jane.post(PATH, {"what": "anew"}).location == PATH
+    late = jane.get(found.location)
+    assert late.status_code == 409 and "type it again" in Page(late.text).said()
+    assert "kept" not in Page(jane.get(PATH).text).by_id
+
+
 def test_a_late_application_before_the_first_round_is_said(before: Site) -> None:
     """It takes no part in that round."""
     page = typed(before.browser("jane"), **{"preference-1": "A", "day": "1 November 2024"})

@@ -6,6 +6,7 @@ import pathlib
 from office import senders
 
 from . import journal
+from .asked import Asked
 from .copies import Copies
 from .copy_tests import CopyTests
 from .desk import Desk
@@ -53,6 +54,7 @@ class Parts:
         self.failures = Failures(config.name, send)
         self.store = Store(str(config.folder / "office.db"))
         self.people = People(self.store)
+        self.asked = Asked()
         self.notes = Notes(self.store, self.history)
         self.trials = Trials()
         self.held_again = HeldAgain()

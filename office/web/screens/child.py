@@ -11,6 +11,7 @@ from office import criteria
 from office.model import Register
 
 from .. import children, corrections, explanations, flags, records, staging_points, wording
+from ..asked import Typed
 from ..children import ACTIONS, FIELDS, Question
 from ..desk import Seen, seen_of
 from ..guard import needs, parts, person
@@ -25,6 +26,7 @@ from ..wording import sentence
 screen = flask.Blueprint("child", __name__, url_prefix="/children")
 Answer = str | Response | tuple[str, int]
 NAMES = f"any({', '.join(ACTIONS)})"
+TYPE_AGAIN = "What you typed is not kept any more. Nothing was recorded: type it again."
 
 
 def today() -> datetime.date:
@@ -184,77 +186,103 @@ def record(number: int, name: str) -> Answer:
 @screen.get("/<int:number>/correct")
 @needs(RECORD)
 def correct(number: int) -> Answer:
-    """The form of a correction, with the present data."""
-    return form_page(number, corrections.cells_of(child_in(number).children[number]))
+    """The form of a correction, with the present data or what was typed and not recorded; its
+    question; or what was looked up for it.
+    """
+    child_in(number)
+    digest = flask.request.args.get("typed", "")
+    typed = parts().asked.find(person(), flask.request.path, digest)
+    if digest and typed is None:
+        return form_page(number, Typed(), said=TYPE_AGAIN, status=409)
+    if not digest or typed is None:
+        return form_page(number, typed or Typed())
+    if "look" in flask.request.args:
+        return look_up(number, typed)
+    return compare(number, typed)
 
 
 def form_page(
-    number: int, cells: dict[str, str], wrong: dict[str, str] | None = None, said: str = "",
-    status: int = 200, point: str = "",
+    number: int, typed: Typed, wrong: dict[str, str] | None = None, said: str = "",
+    status: int = 200, cells: dict[str, str] | None = None, point: str = "",
 ) -> Answer:
     """The form, with what was typed and looked up, and what was seen of the child when it was
     opened.
     """
     register = child_in(number)
+    child = register.children[number]
     present = seen_of(register, {"cmd": "amend", "child": number}).text
     words = flags.present()
     return flask.render_template(
-        "correct.html", child=register.children[number], fields=FIELDS, cells=cells,
-        wrong=wrong or {}, said=said, is_bad=status != 200, label=wording.label,
-        seen=flask.request.form.get("seen", present),
-        is_choice=corrections.is_choice, is_flags=corrections.is_flags, keys=keys_of_form(),
+        "correct.html", child=child, fields=FIELDS, wrong=wrong or {}, said=said,
+        cells=cells or (cells_in(typed) if typed else corrections.cells_of(child)),
+        is_bad=status != 200, label=wording.label, seen=typed.get("seen", present),
+        is_kept=bool(typed) and not wrong and not point,
+        is_choice=corrections.is_choice, is_flags=corrections.is_flags, keys=keys_in(typed),
         point=point, flags=[(it, flags.named(it, words)) for it in flags.NUMBERS]), status
 
 
-def cells_of_form() -> dict[str, str]:
+def cells_in(typed: Typed) -> dict[str, str]:
     """What was typed. Flags are boxes that are ticked."""
-    form = flask.request.form
-    return {it.name: ";".join(form.getlist(it.name)) if corrections.is_flags(it.kind)
-            else form.get(it.name, "") for it in FIELDS}
+    return {it.name: ";".join(typed.getlist(it.name)) if corrections.is_flags(it.kind)
+            else typed.get(it.name, "") for it in FIELDS}
 
 
-def keys_of_form() -> Keys:
+def keys_in(typed: Typed) -> Keys:
     """The property number and the postcode that were typed."""
-    form = flask.request.form
-    return Keys(form.get("property_number", ""), form.get("postcode", ""))
+    return Keys(typed.get("property_number", ""), typed.get("postcode", ""))
 
 
-def look_up(number: int, cells: dict[str, str]) -> Answer:
+def look_up(number: int, typed: Typed) -> Answer:
     """The form with the point that is looked up, where there is one."""
-    keys = keys_of_form()
+    keys = keys_in(typed)
     with tools().points.gazetteer.looking() as lookup:
-        made, point = staging_points.looked_up(cells, keys, lookup, Point(TYPED), True)
+        made, point = staging_points.looked_up(cells_in(typed), keys, lookup, Point(TYPED), True)
     said = "; ".join(staging_points.said_in_form(made, point, keys))
-    return form_page(number, made, point=said or "type a property number or a postcode")
+    return form_page(number, typed, cells=made,
+                     point=said or "type a property number or a postcode")
 
 
-def source_of(register: Register, number: int, cells: dict[str, str]) -> str:
+def source_of(register: Register, number: int, cells: dict[str, str], keys: Keys) -> str:
     """Where the point of a correction came from, if it changes the point."""
     child = register.children[number]
     if (cells["east"].strip(), cells["north"].strip()) == (str(child.east), str(child.north)):
         return ""
     with tools().points.gazetteer.looking() as lookup:
-        return staging_points.typed_point(cells, keys_of_form(), lookup)[1].words
+        return staging_points.typed_point(cells, keys, lookup)[1].words
 
 
 @screen.post("/<int:number>/correct")
 @needs(RECORD)
 def do_correct(number: int) -> Answer:
-    """The question of a correction, with each field that it changes; or one that was confirmed."""
-    register, cells = child_in(number), cells_of_form()
-    command, wrong = corrections.read(register, number, cells)
-    what = flask.request.form.get("what", "")
-    if what == "look":
-        return look_up(number, cells)
-    if wrong or what == "edit":
-        said = "Nothing was recorded: see the fields that are marked." if wrong else ""
-        return form_page(number, cells, wrong, said, 400 if wrong else 200)
-    seen = Seen(flask.request.form.get("seen", ""))
-    said = ""
+    """Leads to the question of what was typed, or to what is looked up for it; records what was
+    confirmed.
+    """
+    child_in(number)
+    typed, path, kept = flask.request.form, flask.request.path, parts().asked
+    what = typed.get("what", "")
     if what == "send":
+        return compare(number, typed, True)
+    if what == "anew":
+        kept.forget(person(), path)
+        return flask.redirect(path, 303)
+    more: dict[str, Any] = {"look": "yes"} if what == "look" else {}
+    return flask.redirect(flask.url_for(
+        "child.correct", number=number, typed=kept.keep(person(), path, typed), **more), 303)
+
+
+def compare(number: int, typed: Typed, is_sent: bool = False) -> Answer:
+    """The question of a correction, with each field that it changes; or one that was confirmed."""
+    register, cells = child_in(number), cells_in(typed)
+    command, wrong = corrections.read(register, number, cells)
+    if wrong:
+        return form_page(number, typed, wrong,
+                         "Nothing was recorded: see the fields that are marked.", 400)
+    seen, said = Seen(typed.get("seen", "")), ""
+    if is_sent:
         result = parts().desk.send(
-            person(), command, seen, point=source_of(register, number, cells))
+            person(), command, seen, point=source_of(register, number, cells, keys_in(typed)))
         if result.is_done:
+            parts().asked.forget(person(), flask.request.path)
             return flask.redirect(flask.url_for("child.show", number=number, recorded="yes"), 303)
         said, register = result.said, child_in(number)
     # (a form that was opened before another correction has the data from before it)
@@ -262,21 +290,22 @@ def do_correct(number: int) -> Answer:
         said = f"{other} Nothing was recorded now: below only what you changed is new."
         cells = corrections.merged(register.children[number], seen.text, cells)
         command, _ = corrections.read(register, number, cells)
-    return compare_page(register, number, cells, command, said)
+    return compare_page(register, number, cells, command, typed, said)
 
 
 def compare_page(
-    register: Register, number: int, cells: dict[str, str], command: dict[str, Any], said: str,
+    register: Register, number: int, cells: dict[str, str], command: dict[str, Any], typed: Typed,
+    said: str,
 ) -> Answer:
     """What a correction changes of the data that the register has now."""
-    child = register.children[number]
+    child, keys = register.children[number], keys_in(typed)
     changes = corrections.changes(child, command)
     if not changes:
         same = "The register has this data: there is nothing to record."
-        return form_page(number, cells, {}, f"{said} {same}".strip(), 409)
+        return form_page(number, typed, said=f"{said} {same}".strip(), status=409, cells=cells)
     return flask.render_template(
         "correction.html", child=child, changes=changes, cells=cells, said=said, fields=FIELDS,
-        keys=keys_of_form(), point=source_of(register, number, cells),
+        keys=keys, point=source_of(register, number, cells, keys),
         warnings=list(corrections.warnings(child, command)),
         seen=seen_of(register, command).text, is_flags=corrections.is_flags,
     ), 409 if said else 200
