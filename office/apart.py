@@ -37,18 +37,21 @@ class Ended(Refused):
         self.ended_with = status
 
 
-def done(module: str, what: str, asked: dict[str, Any], data: bytes) -> bytes:
+def done(
+    module: str, what: str, asked: dict[str, Any], data: bytes, seconds: int = inputs.SECONDS,
+    most_seconds: int = MOST_SECONDS,
+) -> bytes:
     """What the process of a module prints, which gets what is asked and bytes; or a refusal that
     says what took too long or did not end well.
     """
     places = [os.path.dirname(HERE), os.path.dirname(os.path.abspath(register_files.__file__))]
-    late = Refused(f"{what} takes more than {inputs.SECONDS} seconds")
+    late = Refused(f"{what} takes more than {seconds} seconds")
     try:
         with AT_ONCE:
             ran = subprocess.run(
                 [sys.executable, "-I", "-B", "-c", BEGIN, *places, module],
                 input=json.dumps(asked).encode() + b"\n" + data, env=ENVIRONMENT,
-                capture_output=True, check=False, timeout=MOST_SECONDS)
+                capture_output=True, check=False, timeout=most_seconds)
     except subprocess.TimeoutExpired as error:
         raise late from error
     if ran.returncode in (-signal.SIGXCPU, -signal.SIGKILL):
@@ -65,12 +68,13 @@ def end_first() -> None:
             it.write("1000")
 
 
-def given(most_memory: int = MOST_MEMORY) -> tuple[dict[str, Any], bytes]:
+def given(
+    most_memory: int = MOST_MEMORY, seconds: int = inputs.SECONDS,
+) -> tuple[dict[str, Any], bytes]:
     """What such a process was asked, and its bytes. Its time and memory are limited from now on."""
     end_first()
-    seconds = inputs.SECONDS + 10
     resource.setrlimit(resource.RLIMIT_AS, (most_memory, most_memory))
-    resource.setrlimit(resource.RLIMIT_CPU, (seconds, seconds))
+    resource.setrlimit(resource.RLIMIT_CPU, (seconds + 10, seconds + 10))
     # (a core would have what somebody sent)
     resource.setrlimit(resource.RLIMIT_CORE, (0, 0))
     asked, _, data = sys.stdin.buffer.read().partition(b"\n")

@@ -1,6 +1,7 @@
 """Gazetteers: files as authorities have them, of any form; each row that cannot be used is named;
 one replaces another whole; and points by latitude and longitude are by the published formulas.
 """
+import dataclasses
 import hashlib
 import io
 import math
@@ -20,8 +21,10 @@ from pages import Page
 from register_files import Refused
 from staged import workbook
 
-from office.web import gazetteer_rows, points, uploads
-from office.web.gazetteer import GIVEN, SETTING, Gazetteer, Lookup, Summary
+from office import turns
+from office.web import gazetteer_file, gazetteer_rows, points, uploads
+from office.web.gazetteer import GIVEN, SETTING, Gazetteer, Lookup
+from office.web.gazetteer_file import Summary
 from office.web.history import History
 from office.web.staging_tools import Tools
 from office.web.store import Store
@@ -329,9 +332,10 @@ def test_a_zip_is_read_and_one_that_is_a_bomb_is_refused(
 
 def test_more_rows_than_an_authority_has_are_refused(
         office: Site, jane: Browser, monkeypatch: pytest.MonkeyPatch) -> None:
-    """So is a longer file. Nothing of it remains but the one that was received."""
-    monkeypatch.setattr(gazetteer_rows, "MOST_ROWS", 2)
-    assert "more than 2 rows" in said(read_in(jane, DATA))
+    """So is a longer file, and one of which no row can be used. Nothing of it remains but the one
+    that was received.
+    """
+    assert "no row of town.csv can be used" in said(read_in(jane, csv_of(HEAD, "5,a,AB1 2CD,x,y")))
     assert gazetteer(office).summaries() == []
     found = Page(jane.get(PATH).text)
     assert "Remove town.csv without reading it in" in found.buttons()
@@ -362,6 +366,9 @@ def test_empty_lines_are_counted_and_not_read_for_the_first_rows(
     assert len(list(gazetteer_rows.places(path, "homes.csv", columns, None))) == 3
     monkeypatch.setattr(gazetteer_rows, "MOST_LINES", 5_000)
     with pytest.raises(Refused, match="homes.csv has more than 5,000 lines"):
+        list(gazetteer_rows.places(path, "homes.csv", columns, None))
+    monkeypatch.setattr(gazetteer_rows, "MOST_ROWS", 2)
+    with pytest.raises(Refused, match="more than 2 rows"):
         list(gazetteer_rows.places(path, "homes.csv", columns, None))
 
 
@@ -475,11 +482,40 @@ def test_a_file_that_fails_leaves_the_one_before(
     def full(*_: object) -> None:
         raise OSError(28, "No space left on device")
 
-    monkeypatch.setattr("office.web.gazetteer.os.fsync", full)
+    monkeypatch.setattr("office.web.gazetteer.os.replace", full)
     found = jane.post(f"{PATH}read", gazetteers.choice(jane))
     assert found.status_code == 409 and "No space left" in said(found)
     assert find(office, "100023336956") == (430000, 210000)
     assert not [it for it in gazetteer(office).folder.iterdir() if it.name.startswith(".new")]
+
+
+def test_the_application_answers_others_while_a_gazetteer_is_read_in(
+        office: Site, jane: Browser, tmp_path: pathlib.Path,
+        monkeypatch: pytest.MonkeyPatch) -> None:
+    """Another process reads the rows, within limits of time and memory: this one reads the first
+    alone. What hinders that process is said, and nothing is waited for without an end.
+    """
+    def read_here(*_: object) -> None:
+        raise AssertionError("rows are read in the application")
+
+    with monkeypatch.context() as patch:
+        patch.setattr(gazetteer_rows, "places", read_here)
+        assert read_in(jane, DATA).status_code == 303
+        assert find(office, "100023336956") == (430000, 210000)
+        receive(jane, DATA)
+        patch.setattr(gazetteer_file, "MOST_SECONDS", 0)
+        late = jane.post(f"{PATH}read", gazetteers.choice(jane))
+        assert late.status_code == 409 and "takes more than 120 seconds" in said(late)
+    given = gazetteer(office).given()
+    assert given is not None
+    asked = {"source": str(gazetteer(office).folder / GIVEN), "new": str(tmp_path), "middle": None,
+             "columns": dataclasses.asdict(gazetteer_rows.Columns(0, 2, 3, 4, False, True)),
+             "given": dataclasses.asdict(given)}
+    assert "cannot be written" in gazetteer_file.answer(asked)["refused"]
+    monkeypatch.setattr(turns, "SECONDS", 0.05)
+    with gazetteer(office).lock:
+        busy = jane.post(f"{PATH}drop")
+    assert busy.status_code == 503 and "reading it in" in said(busy)
 
 
 def test_a_file_that_ends_in_the_middle_never_has_the_name_of_another(

@@ -16,9 +16,11 @@ from typing import IO
 from register_files import OWNER_ALONE, Refused
 
 from office import texts
+from office.turns import Turn
 
 from . import gazetteer_rows, points
-from .gazetteer_rows import Cells, Columns, LeftOut, Place
+from .gazetteer_file import Given, Summary, cannot, summary_of, written
+from .gazetteer_rows import Cells, Columns
 from .history import History, now
 from .points import POSTCODE, PROPERTY, Metres
 from .store import Store
@@ -27,59 +29,8 @@ from .store import Store
 FILES = {PROPERTY: "properties.db", POSTCODE: "postcodes.db"}
 GIVEN, ABOUT, NEW = "given", "given.json", ".new-"
 SETTING = "columns of a gazetteer"
-# so many rows are named for each reason, and so many reasons
-MOST_NAMED, MOST_REASONS, MOST_NAME = 5, 50, 80
+MOST_NAME = 80
 PART = 1 << 20
-# (a table with each key once, and the row of another that has it with another point)
-TABLES = """
-    CREATE TABLE about (text TEXT NOT NULL) STRICT;
-    CREATE TABLE property (key INTEGER PRIMARY KEY, east INTEGER NOT NULL, north INTEGER NOT NULL,
-        line INTEGER NOT NULL, other INTEGER) STRICT;
-    CREATE TABLE postcode (key TEXT PRIMARY KEY, east INTEGER NOT NULL, north INTEGER NOT NULL,
-        line INTEGER NOT NULL, other INTEGER) STRICT, WITHOUT ROWID;
-    CREATE TABLE total (key TEXT PRIMARY KEY, east INTEGER NOT NULL, north INTEGER NOT NULL,
-        many INTEGER NOT NULL) STRICT, WITHOUT ROWID;
-"""
-
-
-@dataclasses.dataclass(frozen=True)
-class Given:
-    """A file that was sent, and whose columns are not chosen yet."""
-
-    name: str
-    digest: str
-    size: int
-    who: str
-    at: str
-
-
-@dataclasses.dataclass(frozen=True)
-class Summary:
-    """What a gazetteer is: by what it is looked up, its source, the digest of its file, who read it
-    in and when; how many rows and keys it has; and the rows that were left out, by reason with
-    their number and the first of them.
-    """
-
-    kind: str
-    name: str
-    digest: str
-    who: str
-    at: str
-    rows: int
-    keys: int
-    postcodes: int
-    is_degrees: bool
-    left_out: list[tuple[str, int, list[int]]]
-
-    @property
-    def day(self) -> str:
-        """The day on which it was read in."""
-        return self.at[:10]
-
-    @property
-    def many_left_out(self) -> int:
-        """How many rows were left out."""
-        return sum(many for _, many, _ in self.left_out)
 
 
 @dataclasses.dataclass(frozen=True)
@@ -153,7 +104,7 @@ class Gazetteer:
     def __init__(self, folder: pathlib.Path, store: Store, record: History) -> None:
         self.folder, self.store, self.history = folder, store, record
         # held while a file is received or read in
-        self.lock = threading.Lock()
+        self.lock = Turn(threading.Lock(), "somebody else is sending a gazetteer, or reading it in")
         folder.mkdir(mode=0o700, exist_ok=True)
         for it in folder.glob(f"{NEW}*"):
             # (the application ended while it was written)
@@ -236,7 +187,7 @@ class Gazetteer:
             if given is None or given.digest != digest:
                 raise Refused("the file was replaced or removed meanwhile: look at it again")
             first = self.first_rows(given)[0]
-            summary = built(self.folder / GIVEN, new, columns, middle, dataclasses.replace(
+            summary = written(self.folder / GIVEN, new, columns, middle, dataclasses.replace(
                 given, name=(name.strip() or given.name)[:MOST_NAME], who=who, at=now()))
             self.history.add(who, "reads in a gazetteer", {
                 "kind": summary.kind, "source": summary.name, "digest": digest,
@@ -256,9 +207,7 @@ class Gazetteer:
         try:
             yield path
         except (OSError, sqlite3.Error) as error:
-            # (the text of an OSError has the path, which says nothing to an officer)
-            why = getattr(error, "strerror", None) or error
-            raise Refused(f"the gazetteer cannot be written: {why}") from error
+            raise Refused(cannot(error)) from error
         finally:
             path.unlink(missing_ok=True)
 
@@ -270,89 +219,3 @@ def chosen(first: Cells, columns: Columns) -> dict[str, str]:
           axes[0]: columns.east, axes[1]: columns.north}
     return {what: first[it] if columns.has_names else f"#{it}"
             for what, it in at.items() if it is not None}
-
-
-def summary_of(db: sqlite3.Connection) -> Summary:
-    """What a gazetteer says of itself."""
-    found = json.loads(db.execute("SELECT text FROM about").fetchone()[0])
-    left_out = [(str(why), int(many), list(rows)) for why, many, rows in found.pop("left_out")]
-    return Summary(**found, left_out=left_out)
-
-
-class LeftOuts:
-    """The rows that are left out, by reason."""
-
-    def __init__(self) -> None:
-        self.reasons: dict[str, tuple[int, list[int]]] = {}
-
-    def add(self, row: int, why: str) -> None:
-        """Adds a row."""
-        if why not in self.reasons and len(self.reasons) >= MOST_REASONS:
-            why = "another reason"
-        many, rows = self.reasons.get(why, (0, []))
-        self.reasons[why] = many + 1, [*rows, row] if len(rows) < MOST_NAMED else rows
-
-    def listed(self) -> list[tuple[str, int, list[int]]]:
-        """The reasons, the most frequent first."""
-        return sorted(((why, *it) for why, it in self.reasons.items()), key=lambda it: -it[1])
-
-
-def built(source: pathlib.Path, new: pathlib.Path, columns: Columns, middle: Metres | None,
-          given: Given) -> Summary:
-    """Writes a gazetteer into a new file, and returns what it is; a refusal where no row of the
-    file can be used.
-    """
-    left_out, rows = LeftOuts(), 0
-    with contextlib.closing(sqlite3.connect(new, isolation_level=None)) as db:
-        # (until it has its name nobody reads it, and a part of one is removed)
-        db.execute("PRAGMA journal_mode=OFF")
-        db.execute("PRAGMA synchronous=OFF")
-        db.executescript(TABLES)
-        db.execute("BEGIN")
-        for it in gazetteer_rows.places(source, given.name, columns, middle):
-            rows += 1
-            if isinstance(it, LeftOut):
-                left_out.add(it.row, it.why)
-            else:
-                insert(db, it, left_out)
-        db.execute("INSERT INTO postcode SELECT key, (2 * east + many) / (2 * many),"
-                   " (2 * north + many) / (2 * many), 0, NULL FROM total")
-        db.execute("DROP TABLE total")
-        keys, codes = (db.execute(f"SELECT count(*) FROM {it}").fetchone()[0]
-                       for it in ("property", "postcode"))
-        found = Summary(
-            columns.kind, given.name, given.digest, given.who, given.at, rows,
-            keys if columns.kind == PROPERTY else codes, codes, columns.is_degrees,
-            left_out.listed())
-        if not found.keys:
-            raise Refused(f"no row of {given.name} can be used: {why_none(left_out)}")
-        db.execute("INSERT INTO about VALUES (?)", (json.dumps(dataclasses.asdict(found)),))
-        db.execute("COMMIT")
-    with open(new, "rb") as file:
-        os.fsync(file.fileno())
-    return found
-
-
-def why_none(left_out: LeftOuts) -> str:
-    """Why no row can be used, the most frequent reasons."""
-    return "; ".join(f"{texts.count(many, 'row')}: {why}"
-                     for why, many, _ in left_out.listed()[:3]) or "it has none"
-
-
-def insert(db: sqlite3.Connection, it: Place, left_out: LeftOuts) -> None:
-    """Stores a row. One whose key is there with another point makes that key one of two points."""
-    table, key = ("property", it.uprn) if it.uprn is not None else ("postcode", it.postcode)
-    east, north = it.at
-    is_new = db.execute(f"INSERT INTO {table} VALUES (?, ?, ?, ?, NULL) ON CONFLICT DO NOTHING",
-                        (key, east, north, it.row)).rowcount
-    if not is_new:
-        had = db.execute(f"SELECT east, north FROM {table} WHERE key=?", (key,)).fetchone()
-        if tuple(had) == it.at:
-            left_out.add(it.row, "a repeated row, with the same point")
-            return
-        left_out.add(it.row, "its key is there before with another point: neither is used")
-        db.execute(f"UPDATE {table} SET other=coalesce(other, ?) WHERE key=?", (it.row, key))
-    elif it.uprn is not None and it.postcode:
-        db.execute("INSERT INTO total VALUES (?, ?, ?, 1) ON CONFLICT DO UPDATE SET"
-                   " east=east+excluded.east, north=north+excluded.north, many=many+1",
-                   (it.postcode, east, north))

@@ -18,6 +18,7 @@ from register_files import Refused
 
 from office import days, register_lists, texts
 from office.model import Register
+from office.turns import Turn
 
 from . import archive, draws_second, numbers
 from .archive import Item
@@ -167,7 +168,8 @@ class SeasonEnd:
     """The steps of the end of a season."""
 
     def __init__(self, parts: Parts) -> None:
-        self.parts, self.lock = parts, threading.RLock()
+        self.parts = parts
+        self.lock = Turn(threading.RLock(), "a step of the end of the season is under way")
         self.today: Callable[[], datetime.date] = datetime.date.today
 
     # how far it is

@@ -7,7 +7,7 @@ from werkzeug.wrappers import Response
 from office import texts
 
 from .. import gazetteer_rows, points, staging_files
-from ..gazetteer import Given
+from ..gazetteer_file import Given
 from ..gazetteer_rows import Columns
 from ..guard import needs, person
 from ..people import RECORD
