@@ -63,7 +63,7 @@ TEXTS: dict[str, set[str]] = {
     "gazetteer.drop": {"digest"},
     "gazetteer.read_in": {"digest", "property", "postcode", "east", "north"},
     "gazetteer.receive": set(),
-    "letter_addresses.save": {"way", "rows", "shown", "what", "column"},
+    "letter_addresses.save": {"way", "rows", "shown", "seen", "what", "column"},
     "letter_sender.save": {"office", "address", "telephone", "email", "website", "opening",
                            "closing", "signs", "seen", "what"},
     "letter_templates.save": {"name", "text", "seen", "what", "sample", "child", "remove"},

@@ -301,6 +301,34 @@ def test_addresses_are_uploaded_once_and_stand_on_the_letters(office: Site) -> N
     assert office.parts.history.entries[-1].about == {"children": [3], "in place of all": True}
 
 
+def test_addresses_of_a_colleague_are_shown_before_they_are_replaced(office: Site) -> None:
+    """With who stored them; and what was stored since the file was shown is not replaced unseen."""
+    jane, bo = office.browser("jane"), office.browser("bo")
+    path, stored = "/letters/addresses/", office.app.extensions["letters"].addresses
+    first = b"child,a,b\n1,Low,Ayton\n2,High,Bee\n4,Same,Sea\n"
+    assert uploaded(bo, io.BytesIO(first), "bo.csv", "child").status_code == 303
+
+    def shown(data: bytes, way: str) -> Page:
+        """What is shown of a file."""
+        return Page(jane.post(path, {"way": way, "file": (io.BytesIO(data), "a.csv")}).text)
+
+    page = shown(b"child,a,b\n1,New,Ayton\n3,More,Dee\n4,Same,Sea\n", "child")
+    assert [it[:3] for it in page.tables["replaced"][1:]] == [["1", "Low, Ayton", "New, Ayton"]]
+    assert page.tables["replaced"][1][3].startswith("bo, ")
+    button = "Store 3 addresses, and replace 1 address"
+    assert uploaded(bo, io.BytesIO(b"child,a\n1,Bo's\n"), "b.csv", "child").status_code == 303
+    late = press(jane, "", page, button)
+    again = Page(late.text)
+    assert late.status_code == 409 and "somebody else has stored addresses" in again.said()
+    assert again.tables["replaced"][1][:3] == ["1", "Bo's", "New, Ayton"]
+    assert stored.all()[1] == ["Bo's"] and 3 not in stored.all()
+    assert press(jane, "", again, button).status_code == 303
+    page = shown(b"child,a,b\n3,More,Dee\n", "whole")
+    assert [it[:3] for it in page.tables["replaced"][1:]] == [
+        ["1", "New, Ayton", "none"], ["2", "High, Bee", "none"], ["4", "Same, Sea", "none"]]
+    assert "Store 1 address, and replace 3 addresses" in page.buttons()
+
+
 def test_the_page_of_a_set_is_looked_at_again(office: Site) -> None:
     """While it is made, and not afterwards."""
     jane = office.browser("jane")

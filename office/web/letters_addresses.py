@@ -1,4 +1,6 @@
 """Where letters go: the lines of the address of each child, from a sheet of the office."""
+import dataclasses
+import hashlib
 import json
 from collections.abc import Iterable, Sequence
 
@@ -69,6 +71,19 @@ def examples(found: dict[int, list[str]]) -> list[tuple[int, list[str]]]:
     return [(it, found[it]) for it in (longest, other) if it is not None]
 
 
+@dataclasses.dataclass(frozen=True)
+class Replaced:
+    """An address that is stored, with who stored it and when, and what would be there in its place:
+    no line where it would be removed.
+    """
+
+    child: int
+    before: list[str]
+    after: list[str]
+    who: str
+    at: str
+
+
 class Addresses:
     """The addresses of one application."""
 
@@ -80,11 +95,29 @@ class Addresses:
         return {it["child"]: json.loads(it["lines"]) for it in self.store.rows(
             "SELECT * FROM letter_address ORDER BY child")}
 
-    def save(self, who: Person, found: dict[int, list[str]], is_whole: bool) -> None:
+    def replaced(self, found: dict[int, list[str]], is_whole: bool) -> list[Replaced]:
+        """What is stored and would be another address, or none."""
+        rows = [Replaced(it["child"], json.loads(it["lines"]), found.get(it["child"], []),
+                         it["who"], it["at"])
+                for it in self.store.rows("SELECT * FROM letter_address ORDER BY child")
+                if is_whole or it["child"] in found]
+        return [it for it in rows if it.before != it.after]
+
+    def digest(self) -> str:
+        """What is stored, in short."""
+        rows = self.store.rows("SELECT child, lines FROM letter_address ORDER BY child")
+        return hashlib.sha256(json.dumps([list(it) for it in rows]).encode()).hexdigest()
+
+    def save(
+        self, who: Person, found: dict[int, list[str]], is_whole: bool, seen: str,
+    ) -> bool:
         """Stores addresses by child, or in place of all that are there; on record before. A child
-        without a line has none.
+        without a line has none. Whether it was done: not where others were stored since somebody
+        saw what is there.
         """
         with self.store.lock:
+            if seen != self.digest():
+                return False
             self.history.add(who.name, "stored addresses for letters", {
                 "children": sorted(found), "in place of all": is_whole})
             with self.store.writing() as db:
@@ -96,3 +129,4 @@ class Addresses:
                     "INSERT INTO letter_address VALUES (?, ?, ?, ?)",
                     [(child, json.dumps(lines), who.name, now())
                      for child, lines in found.items() if lines])
+        return True

@@ -19,6 +19,8 @@ Answer = str | Response | tuple[str, int]
 WAYS = {"child": "add them, and replace those of the same children",
         "whole": "replace all addresses by those of the file"}
 MOST_SHOWN = 200
+MEANWHILE = ("Nothing was stored: somebody else has stored addresses since this was shown. What is"
+             " replaced is below.")
 
 
 def addresses() -> Addresses:
@@ -45,16 +47,22 @@ def page(said: str = "", status: int = 200, way: str = "") -> Answer:
 
 def look(
     rows: list[Row], columns: list[str], taken: list[int], found: dict[int, list[str]], way: str,
+    said: str = "",
 ) -> Answer:
-    """The columns that are taken, and two addresses as they will be printed, before any is stored.
+    """The columns that are taken, two addresses as they will be printed, and those that would be
+    replaced, before any is stored.
     """
-    names = parts().desk.register().children
+    names, seen = parts().desk.register().children, addresses().digest()
+    replaced = addresses().replaced(found, way == "whole")
+    in_place = f", and replace {texts.count(len(replaced), 'address', 'addresses')}"
     return flask.render_template(
-        "letters_addresses_look.html", columns=columns, taken=taken, way=way, ways=WAYS,
-        rows=letters_addresses.packed(rows), shown=" ".join(map(str, taken)),
+        "letters_addresses_look.html", columns=columns, taken=taken, way=way, ways=WAYS, said=said,
+        rows=letters_addresses.packed(rows), shown=" ".join(map(str, taken)), seen=seen,
         examples=[(child, names[child].name, lines)
                   for child, lines in letters_addresses.examples(found)],
-        button=f"Store {texts.count(len(found), 'address', 'addresses')}"), 200
+        replaced=replaced[:MOST_SHOWN], more=len(replaced) - MOST_SHOWN,
+        button=f"Store {texts.count(len(found), 'address', 'addresses')}"
+        f"{in_place if replaced else ''}"), 409 if said else 200
 
 
 @screen.post("/")
@@ -77,7 +85,8 @@ def save() -> Answer:
         shown = " ".join(map(str, taken))
         if is_first or form.get("shown") != shown or form.get("what") != "store":
             return look(rows, columns, taken, found, way)
-        addresses().save(person(), found, way == "whole")
+        if not addresses().save(person(), found, way == "whole", form.get("seen", "")):
+            return look(rows, columns, taken, found, way, MEANWHILE)
     except Refused as error:
         return page(sentence(f"Nothing was stored: {error}"), 422, way)
     return flask.redirect(flask.url_for("letter_addresses.show", stored=len(found)), 303)
