@@ -400,7 +400,7 @@ def test_nobody_else_records_while_it_is_closed(small: Machine) -> None:
                 "/import", base_url=ORIGIN, headers={"Origin": ORIGIN}, data="child\n",
                 content_type="text/csv")
             assert rows.status_code == 503 and "Closed for draw 1" in rows.json["reason"]
-        for screen in ("/", "/schools/", "/applications/", "/applications/commit/", "/children/",
+        for screen in ("/", "/schools/", "/applications/", "/applications/commit/", "/find",
                        "/children/1", "/answers/", "/draws/", "/lists/", "/flags/", "/activity/"):
             text = jane.get(screen).text
             assert text.count("Closed for draw 1 by hal since") == 1, screen
