@@ -33,9 +33,9 @@ ODD_PATHS = (
     "//", "/./register", "/register/", "/people/../register", "/%72egister", "/register%00",
     "/register?x", "/REGISTER", "/register;x", "/child/1/", "/child/01", "/child/+1", "/child/1.0",
     "/child/1%2fletter", "/child/1/letter/", "/\\register", "/..%2fregister",
-    "/sign-in/../register", "/page.css/../register", "/page.css%2f..%2fregister",
-    "/page.css?/register", "/signed-in", "/..%2f..%2fetc/passwd", "/../../etc/passwd",
-    "/page.css%00.html", "/.git/config", "/office.db", "/static/pile.js", "/index.html",
+    "/sign-in/../register", "/ui.css/../register", "/ui.css%2f..%2fregister",
+    "/ui.css?/register", "/signed-in", "/..%2f..%2fetc/passwd", "/../../etc/passwd",
+    "/ui.css%00.html", "/.git/config", "/office.db", "/static/pile.js", "/index.html",
     "/child/1%0d%0aX:%20y", "/school//waiting", "/school/./waiting", "/school/%2e%2e/register",
     f"{ORIGIN}/register", f"{ORIGIN}/child/1", "*", "https://evil.example/register", "/draw/1%20",
     "/pairs/", "/what-if", "/\x01", "/\xff\xfe",
@@ -48,7 +48,7 @@ def test_by_an_odd_address_nobody_reads_what_is_not_theirs(
         world: World, who: str, path: str) -> None:
     answer = raw(world, f"GET {path}", *([world.field(who)] if who else []))
     # (the file of the page is everybody's)
-    is_own = path == "/page.css?/register"
+    is_own = path == "/ui.css?/register"
     assert status_of(answer) in ((200,) if is_own else (302, 308, 400, 401, 403, 404, 405, 421))
     assert OF_CHILDREN.search(answer) is None
 

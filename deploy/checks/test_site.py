@@ -274,7 +274,7 @@ def test_people_of_the_office_get_a_screen_and_a_program_does_not(world: World, 
     assert (screen.status, "School admissions" in screen.body) == wanted
 
 
-@pytest.mark.parametrize("path, kind", [("/page.css", "text/css; charset=utf-8"),
+@pytest.mark.parametrize("path, kind", [("/ui.css", "text/css; charset=utf-8"),
                                         ("/pile.js", "text/javascript; charset=utf-8")])
 def test_a_file_of_the_screens_has_its_type(world: World, path: str, kind: str) -> None:
     assert world.ask(path, "jane").fields.get("content-type") == kind

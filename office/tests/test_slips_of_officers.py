@@ -93,15 +93,16 @@ def test_a_place_that_a_colleague_accepted_is_not_declined_from_an_older_page(
 
 
 def test_no_letter_key_confirms_what_is_final(office: Site) -> None:
-    """The question has no script and no key of its own; the focus is on the way back, and a name
-    that is typed on goes nowhere.
+    """The question has no key and no script of its own, but the search of the head; the focus is on
+    the heading or on the way back, and a name that is typed on goes nowhere.
     """
     jane = emptied(office, "jane")
     found = press(jane, PAGE, enter(jane, "26-"), "Record 1 answer")
     for text in (found.text, jane.get("/children/26/decline").text):
-        assert "accesskey" not in text and "<script" not in text
+        assert "accesskey" not in text
+        assert re.findall("<script[^>]*>", text) == ['<script src="/find.js" type="module">']
         page = Page(text)
-        assert page.focus in (PAGE, ""), "no key confirms, and the first one may go back"
+        assert page.focus in (PAGE, "heading", ""), "no key confirms"
     for entry in ("y", "Y", "yes"):
         assert jane.post(PAGE + "record", {"digest": entry}).status_code == 409
     assert not of(office, 26) and kind(office, 26) == "offered"

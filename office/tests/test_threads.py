@@ -60,7 +60,7 @@ class Served:
     def is_up(self) -> bool:
         """Whether it answers."""
         with contextlib.suppress(OSError):
-            return self.ask("/page.css")[0] == 200
+            return self.ask("/ui.css")[0] == 200
         return False
 
     def ask(
@@ -140,7 +140,7 @@ def test_a_provider_that_is_silent_holds_few_threads(tmp_path: pathlib.Path) -> 
             begun = time.monotonic()
             thread.start()
             time.sleep(1)
-            for path in ("/healthz", "/page.css", "/sign-in"):
+            for path in ("/healthz", "/ui.css", "/sign-in"):
                 assert office.ask(path)[0] == 200, path
             thread.join()
             assert found == [503] * MANY
@@ -172,7 +172,7 @@ def test_a_copy_that_hangs_holds_few_threads(tmp_path: pathlib.Path) -> None:
                      for _ in range(MANY)]
             time.sleep(1)
             assert office.ask("/healthz")[0] in (200, 503)
-            for path in ("/page.css", "/sign-in"):
+            for path in ("/ui.css", "/sign-in"):
                 assert office.ask(path)[0] == 200, path
             assert office.sign_in("rita")
             pages = [it.result() for it in asked]

@@ -113,7 +113,7 @@ def test_each_screen_is_for_everybody(tmp_path: pathlib.Path) -> None:
                 driver.delete_all_cookies()
                 if who:
                     cookie = signed_in(office, who, address)
-                    driver.get(f"{address}/page.css")
+                    driver.get(f"{address}/ui.css")
                     driver.add_cookie({"name": "admissions", "value": cookie, "path": "/"})
                 for it in paths:
                     driver.get(address + it)
