@@ -2,6 +2,7 @@
 import io
 import json
 import pathlib
+import re
 import sqlite3
 import sys
 import zipfile
@@ -524,6 +525,24 @@ def test_a_school_has_its_intake_its_list_and_its_last_offers(held: Site) -> Non
     assert page.tables["last"][1:] == [
         ["round 1", "3 March 2025", "2", "2", "ranked by distance alone", "200", "2"],
         ["fill of A (draw 2)", "20 March 2025", "1", "3", "ranked by distance alone", "300", "7"]]
+
+
+def test_a_table_is_put_in_order_by_links(held: Site) -> None:
+    """By a column, and by the same once more the other way; the other tables stay as they are."""
+    jane = held.browser("jane")
+    path = next(it for it in re.findall('href="([^"]*)"', jane.get("/schools/A").text)
+                if "order=waiting.metres" in it)
+    for orders, numbers in (("ascending", ["3", "4"]), ("descending", ["4", "3"])):
+        text = jane.get(path).text
+        page = Page(text)
+        assert [it[1] for it in page.tables["waiting"][1:]] == numbers
+        assert [it[0] for it in page.tables["intake"][1:]] == ["1", "2"]
+        path = re.findall(f'aria-sort="{orders}"><a href="([^"]*)"', text)[0]
+    names = ["Alpha", "Beta"]
+    for order, found in (("vacant", names), ("name.down", names[::-1]), ("x", names),
+                         ("criteria", names), (".down", names)):
+        page = Page(jane.get(f"/schools/?order={order}").text)
+        assert [it[1] for it in next(iter(page.tables.values()))[1:]] == found, order
 
 
 def test_a_head_sees_the_own_school_alone(held: Site) -> None:

@@ -2,7 +2,6 @@
 has several, the name of the table is before it: `?order=TABLE.COLUMN`.
 """
 import dataclasses
-import datetime
 from collections.abc import Callable, Mapping, Sequence
 from typing import Any, Generic, TypeVar
 
@@ -41,19 +40,18 @@ def table(
     is_down, before = asked.endswith(".down"), f"{name}." if name else ""
     found = columns.get(column) if asked.startswith(before) else None
     made, sort = list(rows), ("", "")
-    if found and found.by:
-        by = found.by
-        made.sort(key=lambda row: in_order(by(row)), reverse=is_down)
+    if found and (by := found.by):
+        there = [it for it in made if by(it) not in (None, "")]
+        there.sort(key=lambda row: in_order(by(row)), reverse=is_down)
+        # (what is not there comes last in both orders)
+        made = there + [it for it in made if by(it) in (None, "")]
         sort = column, DOWN if is_down else UP
     return Table(made, [head(before, it, columns[it], sort) for it in columns], sort)
 
 
-def in_order(value: Any) -> tuple[bool, Any]:
-    """By what a value is put in order: what is not there comes last, and names without accents."""
-    if isinstance(value, str):
-        return not value, texts.plain(value)
-    is_missing = value is None
-    return is_missing, datetime.date.min if is_missing else value
+def in_order(value: Any) -> Any:
+    """By what a value is put in order: a name without accents."""
+    return texts.plain(value) if isinstance(value, str) else value
 
 
 def head(before: str, column: str, it: Column[Any], sort: tuple[str, str]) -> dict[str, str]:
