@@ -134,7 +134,8 @@ def menu(hand: Hand) -> list[str]:
 
 def links(hand: Hand, path: str) -> list[str]:
     """What the menu of a page leads to."""
-    navs = re.findall('<nav class="(?:groups|screens)"(.*?)</nav>', hand.get(path).last.text, re.S)
+    text = hand.ask("GET", path).text
+    navs = re.findall('<nav class="(?:groups|screens)"(.*?)</nav>', text, re.S)
     return re.findall('href="([^"]+)"', " ".join(navs))
 
 

@@ -84,8 +84,10 @@ def asked() -> str:
 @needs(READ)
 def show() -> str | Response:
     """What a text finds: the one, or a list."""
-    text, register = asked(), parts().desk.register()
-    made = found(register, text) if text else Found()
+    if not (text := asked()):
+        return flask.render_template("find.html", text="", children=[], schools=[])
+    register = parts().desk.register()
+    made = found(register, text)
     addresses = made.addresses()
     if len(addresses) == 1:
         return flask.redirect(addresses[0][1])
