@@ -21,7 +21,7 @@
 #   make audits   admissions-audit on the rounds and fills of 200 random registers, on files changed by hand, and on all allocations of small ones
 #   make office   the tests of the office's commands (office/tests) alone, with the built program; needs python3-pytest, python3-pytest-xdist, poppler-utils, and what cases need
 #   make races    a restore beside which a program starts at 300 random moments; restore and backup with a program started before each operation, killed, failing, without power; some minutes
-#   make costs    the CPU seconds of each crate's proof in the build here, beside a unit of this hour, and the longest chain of crates
+#   make costs    what each part of the last `make test` here took; and the CPU seconds of each crate's proof in the last build, with the longest chain of crates
 #   make bench    the aims for the costs, beside the measured costs, as one page, which it writes to bench/RESULTS.md; some minutes once the program is built
 #   make bench-more  the costs of commands in more tables, beside a baseline in the same run
 #   make deploy-check  the deployment (site, desk in its own network), on this machine alone; needs nginx, openssl, curl, sqlite3 and python3-pytest; not in test
@@ -97,8 +97,8 @@ races: build
 	tools/races bin/admissions tools/restore 300
 	for tool in restore backup; do for action in start kill fail; do tools/races bin/admissions tools/$$tool $$action || exit 1; done; tools/power-loss bin/admissions tools/$$tool || exit 1; done
 
-costs: build
-	tools/costs
+costs:
+	@tools/costs
 
 bench: build
 	cd crates/match_runs && rt run < /dev/null > /dev/null

@@ -8,6 +8,7 @@ too. What is within a premise, an equation or an alternative is not read.
 """
 import re
 from collections.abc import Iterator
+from functools import cache
 from typing import Any, NamedTuple
 
 # (a definition that is a statement and no value has this type)
@@ -55,7 +56,7 @@ def split(text: str, sign: str) -> list[str]:
     """The parts of a text between a sign that is outside of brackets. A `λ x. ..` reaches to the
     end."""
     parts, start = [], 0
-    for at, letter, depth in levels(text):
+    for at, letter, depth in levels(text) if sign in text else ():
         if depth == 0 and letter == "λ":
             break
         if depth == 0 and letter == sign:
@@ -127,8 +128,9 @@ class Premises:
     def __init__(self, project: Any) -> None:
         self.project = project
         self.names: dict[Any, dict[str, Any]] = {}
+        self.of_clause = cache(self.read_clause)
 
-    def of_clause(self, clause: Any) -> list[Premise]:
+    def read_clause(self, clause: Any) -> list[Premise]:
         """What a clause assumes, from the outside to the inside."""
         return list(dict.fromkeys(self.within(clause.text, Place(clause), set())))
 

@@ -5,13 +5,15 @@ from collections.abc import Callable
 from pathlib import Path
 from typing import Any
 
-from claims import LEFT_OUT, LIMIT, TABLE, Claims, Sentence, Unclear, named, sentences
+from claims import LIMIT, TABLE, Carrier, Claims, Sentence, Unclear, named, sentences
 from page_text import Refused, plain, section, table
 from premises import Premise, Premises
 
 README, CODE = Path("README.md"), "The rules of the Code"
 CLAIM = re.compile(r"\*\*(.+?)\.\*\* (.*)")
 LEFT = "Of the rule on the .."
+# the definitions that say what a clause assumes where one of its premises reaches them
+ASSUMED = ("SuccessiveRuns.HavePagesOf",)
 # where the source gives a paragraph of the Code, or a section
 PARAGRAPHS = re.compile(r"\(paragraphs? ([\d.]+(?:(?:, | and )[\d.]+)*)\)")
 SECTIONS = re.compile(r"School Admissions Code 2021, (sections? \d(?: and \d)*)")
@@ -46,49 +48,52 @@ class Promised:
         try:
             self.rows = [(row, self.of_row(row)) for row in project.rows]
             self.of_readme = list(self.of_claims())
-            self.left_out = self.list.left_out(self.points())
-            self.assumed = self.list.assumed()
         except Unclear as error:
             raise Refused(str(error)) from error
-        if unused := self.list.unused():
-            raise Refused("\n".join(f"{TABLE}: no promise begins so: {it}" for it in unused))
+        if self.list.entries:
+            raise Refused(f"{TABLE}: README has no promise {', '.join(self.list.entries)}")
+        self.assumed = [it for it in project.reached if it.anchor in ASSUMED]
+        for it in project.reached:
+            if re.search(r"\bassum", it.sentence) and not {it, *it.names} & {*self.assumed}:
+                raise Refused(f"{it.anchor} says that something is assumed, and names none of"
+                              f" {', '.join(ASSUMED)}")
 
     @staticmethod
     def points() -> list[str]:
         """The points of README's list of what it leaves out, with their links."""
-        found = re.findall(r"(?ms)^- (.*?)(?=^- |^\n|\Z)", section(README, LEFT_OUT))
+        text = section(README, "What it does not do")
+        found = re.findall(r"(?ms)^- (.*?)(?=^- |^\n|\Z)", text)
         return [" ".join(it.split()) for it in found]
 
-    def said(self, row: Any) -> list[str]:
+    def said(self, row: Any) -> str:
         """What a row promises: of a rule of the Code, what holds here."""
         cells = [row.cells[1], row.cells[3]] if self.is_of_code(row) else [row.cells[0]]
-        return [it for cell in cells for it in sentences(plain(cell))]
+        return " ".join(plain(it) for it in cells if it)
 
     @staticmethod
     def is_of_code(row: Any) -> bool:
         """Whether a row is a rule of the Code, with what holds of it here."""
         return len(row.titles) > 3 and row.titles[0] == "The Code"
 
-    def of_row(self, row: Any) -> list[Sentence]:
-        """The sentences of a row with their clauses."""
+    def of_row(self, row: Any) -> Sentence:
+        """What a row says, with its clauses."""
         carrying = list(dict.fromkeys(it for it in row.carrying if it.kind == "ensures"))
         if not carrying:
             raise Refused(f"{row.where}: this promise has no clause: {row.cells[0]}")
-        page = str(row.page)
-        return self.list.of(page, plain(row.cells[0]), self.said(row), carrying)
+        return Sentence(self.said(row), [Carrier(it, []) for it in carrying])
 
     def of_claims(self) -> Any:
         """The claims of README.md, each with the heading that it links to and its sentences."""
-        carrying = {it for _, found in self.rows for one in found for it in one.clauses}
+        carrying = {it for _, found in self.rows for it in found.clauses}
         for said, link in table(README.read_text(encoding="utf-8"), "What is promised"):
             found = CLAIM.fullmatch(said)
             if not found:
                 raise Refused(f"{README}: this claim has no name in bold: {said}")
             texts = sentences(plain(found[2]))
             # (a name that is a promise itself)
-            first = next(iter(self.list.entries.get((str(README), found[1]), ())), "")
+            first = next(iter(self.list.entries.get(found[1], ())), "")
             texts = [f"{found[1]}.", *texts] if first == found[1] else texts
-            result = self.list.of(str(README), found[1], texts, [])
+            result = self.list.of(found[1], texts)
             for clause in (it for one in result for it in one.clauses):
                 if clause not in carrying:
                     raise Refused(f"{README}: {found[1]}: no row of {self.reference.GUARANTEES} has"
@@ -120,7 +125,7 @@ class Promised:
             out.append({
                 "number": row.number, "promise": plain(row.cells[0]), "where": row.where,
                 "heading": row.heading.strip("# "), "page": f"reference/{row.file}", "said": more,
-                "sentences": [self.sentence(it) for it in found],
+                "sentences": [self.sentence(found)],
             })
         return out
 
@@ -144,8 +149,7 @@ class Promised:
             out.append({
                 "rule": plain(PARAGRAPHS.sub("", row.cells[0])).strip(), "promise": row.number,
                 "paragraphs": given[0] if given else "", "sections": self.sections(row),
-                "proved": [self.sentence(it) for it in found if it.clauses],
-                "limits": [it.text for it in found if not it.clauses],
+                "proved": [self.sentence(found)],
                 "only_tested": plain(tested), "neither": plain(neither),
                 "commands": [self.command(name) for name in names],
             })

@@ -42,10 +42,15 @@ def run(
 
 
 def copy_in(room: pathlib.Path) -> pathlib.Path:
-    """The repository as it is, committed, without what builds left."""
+    """The repository as it is, without what builds left."""
     root = room / "copy"
     left = shutil.ignore_patterns(".git", "out", "bin", "__pycache__")
     shutil.copytree(ROOT, root, ignore=left)
+    return root
+
+
+def committed(root: pathlib.Path) -> pathlib.Path:
+    """A copy, with all that it has in a commit."""
     who = ("-c", "user.name=Tests", "-c", "user.email=tests@admissions.example")
     for arguments in (("init", "-q"), ("add", "-A"), (*who, "commit", "-q", "-m", "As it is")):
         assert run(root, "git", *arguments).returncode == 0
@@ -56,6 +61,14 @@ def copy_in(room: pathlib.Path) -> pathlib.Path:
 def copy(tmp_path: pathlib.Path) -> pathlib.Path:
     """A copy of the repository, to be changed."""
     return copy_in(tmp_path)
+
+
+@pytest.fixture(name="read")
+def read_fixture(copy: pathlib.Path, monkeypatch: pytest.MonkeyPatch) -> typing.Any:
+    """What reads the evidence of the copy, with these logs; no page is made."""
+    monkeypatch.chdir(copy)
+    module = loaded(copy / "tools/evidence")
+    return lambda *logs: module.Evidence([str(it) for it in logs])
 
 
 def made(root: pathlib.Path, *logs: object) -> dict[str, typing.Any]:
@@ -72,16 +85,8 @@ Pack = tuple[pathlib.Path, dict[str, typing.Any]]
 @pytest.fixture(name="pack", scope="module")
 def pack_fixture(tmp_path_factory: pytest.TempPathFactory) -> Pack:
     """A copy where nobody checked anything, with its evidence; not to be changed."""
-    root = copy_in(tmp_path_factory.mktemp("pack"))
+    root = committed(copy_in(tmp_path_factory.mktemp("pack")))
     return root, made(root)
-
-
-def refusal(root: pathlib.Path, *logs: object) -> str:
-    """Why none was made; what was there is as it was."""
-    before = files(root)
-    done = run(root, "tools/evidence", *logs)
-    assert done.returncode == 1 and done.stdout == "" and files(root) == before
-    return done.stderr
 
 
 def files(root: pathlib.Path) -> dict[str, bytes]:
@@ -98,8 +103,42 @@ def change(root: pathlib.Path, name: str, old: str, new: str) -> None:
     (root / name).write_text(text.replace(old, new))
 
 
-def verdicts(found: dict[str, typing.Any]) -> dict[str, str]:
+@pytest.fixture(name="rich", scope="module")
+def rich_fixture(tmp_path_factory: pytest.TempPathFactory) -> Pack:
+    """A copy with what a build left of three crates, a release, a log of the gate, and one of a run
+    that was killed while it proved crates; with its evidence; not to be changed."""
+    root = committed(copy_in(tmp_path_factory.mktemp("rich")))
+    leave(root, "adm_lists", True)
+    leave(root, "adm_types", True)
+    # (that of adm_rank was over what had been kept)
+    leave(root, "adm_rank", False)
+    (root / "out/costs").mkdir()
+    for name, seconds in (("adm_lists", 20), ("adm_types", 100), ("adm_rank", 60)):
+        (root / "out/costs" / name).write_text(f"{seconds}\n")
+    (root / "out/unit").write_text("40\n")
+    release_in(root)
+    source, log = run(root, "tools/proved_source.py").stdout, root.parent / "gate.log"
+    log.write_text(GATE.format(source=source, days=gate_of("adm_days")))
+    cut = root.parent / "cut.log"
+    cut.write_text(f"{source}{gate_of('adm_csv')}\n== adm_wire\nfn adm_wire::f: proved\n")
+    return root, made(root, log, cut)
+
+
+def leave(root: pathlib.Path, crate: str, is_anew: bool) -> None:
+    """Leaves the verdict on a crate, as a build does."""
+    program = ("import sys; sys.path.insert(0, 'tools'); import proved_source as it, pathlib;"
+               f"it.leave('{crate}', it.sum_of(pathlib.Path(), ['{crate}', *it.below("
+               f"pathlib.Path(), '{crate}')]), 'so far\\n{PROVED}', {is_anew})")
+    assert run(root, "/usr/bin/python3", "-c", program).returncode == 0
+
+
+def verdicts(found: typing.Any) -> dict[str, str]:
     return {it["crate"]: it["verdict"] for it in found["crates"]}
+
+
+def seen(found: typing.Any) -> dict[str, str]:
+    """The verdicts that are read, but for those that nobody saw."""
+    return {crate: text for crate, text in found.verdicts.items() if text != UNSEEN}
 
 
 def test_each_sentence_leads_to_its_clauses_where_they_are(pack: Pack) -> None:
@@ -144,32 +183,30 @@ def test_each_sentence_leads_to_its_clauses_where_they_are(pack: Pack) -> None:
     assert all(it in (copy / "debian/ported.tsv").read_text() for it in tools["of_the_source"])
 
 
-def test_made_twice_it_is_equal_but_for_the_file_of_times(copy: pathlib.Path) -> None:
-    made(copy)
-    first = files(copy)
-    made(copy)
-    second = files(copy)
+def test_made_twice_it_is_equal_but_for_the_file_of_times(pack: Pack) -> None:
+    first = files(pack[0])
+    made(pack[0])
+    second = files(pack[0])
     assert first.pop("made.json") and second.pop("made.json") and first == second
     assert not any(re.search(rb"\b20\d\d-\d\d-\d\dT\d\d:\d\d", it) for it in
                    (text for name, text in first.items() if "/" not in name))
 
 
-def test_a_verdict_counts_for_the_source_that_was_proved(copy: pathlib.Path) -> None:
-    program = ("import sys; sys.path.insert(0, 'tools'); import proved_source as it, pathlib;"
-               "it.leave('adm_rank', it.sum_of(pathlib.Path(), ['adm_rank', 'adm_types',"
-               f" 'adm_lists']), 'so far\\n{PROVED}')")
-    assert run(copy, "/usr/bin/python3", "-c", program).returncode == 0
-    found = verdicts(made(copy))
-    assert found.pop("adm_rank") == PROVED and set(found.values()) == {UNSEEN}
+def test_a_verdict_counts_for_the_source_that_was_proved(
+    copy: pathlib.Path, read: typing.Any
+) -> None:
+    leave(copy, "adm_rank", False)
+    assert seen(read()) == {"adm_rank": PROVED}
     # (with a field that the page has no words for)
     (copy / "out/verdicts/adm_rank").write_text(
         (copy / "out/verdicts/adm_rank").read_text().replace("functions=16", "functions=16 odd=2"))
-    assert "verdict_words.json has no words for odd=" in refusal(copy)
+    with pytest.raises(page_text.Refused, match="verdict_words.json has no words for odd="):
+        read()
     # a crate below it is another one, with an older time
     path = copy / "crates/adm_lists/src/lib.rt"
     path.write_text(path.read_text() + "\n")
     os.utime(path, (0, 0))
-    assert set(verdicts(made(copy)).values()) == {UNSEEN}
+    assert seen(read()) == {}
 
 
 @pytest.mark.parametrize("line, is_verdict", [
@@ -277,27 +314,23 @@ def gate_of(crate: str) -> str:
     return f"== {crate}\n{check_of(crate)}\nrt: {crate} proved"
 
 
-def test_a_log_counts_for_the_source_that_it_is_of(copy: pathlib.Path) -> None:
-    made(copy)
+def test_a_log_counts_for_the_source_that_it_is_of(copy: pathlib.Path, read: typing.Any) -> None:
     source, log = run(copy, "tools/proved_source.py").stdout, copy.parent / "log"
     lines = [gate_of("adm_rank"), "rt: adm_types is kept: an earlier run proved the same files",
              f"rt: must-fail adm_types/closes_a_day_early.edit: {REFUSED}", "3 passed, 0 failed"]
     log.write_text(source + "\n".join(lines) + "\n")
-    found = made(copy, log)
-    seen = {it: text for it, text in verdicts(found).items() if text != UNSEEN}
-    assert seen == {"adm_rank": f"{last_line(2)} (log)",
-                    "adm_types": "is kept: an earlier run proved the same files (log)"}
-    told = {it["mutant"]: it["outcome"] for it in found["mutants"]}
-    assert told.pop("adm_types/closes_a_day_early") == REFUSED
-    assert set(told.values()) == {"not tried here"}
-    log.write_text("\n".join(lines) + "\n")
-    assert "is no log of this source" in refusal(copy, log)
-    log.write_text("source 0\n" + "\n".join(lines) + "\n")
-    assert "is no log of this source" in refusal(copy, log)
+    found = read(log)
+    assert seen(found) == {"adm_rank": f"{last_line(2)} (log)",
+                           "adm_types": "is kept: an earlier run proved the same files (log)"}
+    assert found.logs.mutants == {"adm_types/closes_a_day_early": REFUSED}
+    for first in ("", "source 0\n"):
+        log.write_text(first + "\n".join(lines) + "\n")
+        with pytest.raises(page_text.Refused, match="is no log of this source"):
+            read(log)
 
 
 GATE = """part tools/lint: 2 passed, 0 failed
-{source}{rank}
+{source}{days}
 rt: must-fail adm_types/closes_a_day_early.edit: refused, as it must be
 rt: match_runs ran, and wrote what its file stdout has
 rt: adm_tests: its tests passed
@@ -313,13 +346,9 @@ All of it took 4500 seconds of wall-clock time, and 15000 of CPU time
 """
 
 
-def test_a_log_of_the_gate_says_what_came_out_of_tests_and_how_long_it_took(
-    copy: pathlib.Path,
-) -> None:
-    log = copy.parent / "gate.log"
-    source = run(copy, "tools/proved_source.py").stdout
-    log.write_text(GATE.format(source=source, rank=gate_of("adm_rank")))
-    found = made(copy, log)
+def test_a_log_of_the_gate_says_what_came_out_of_tests_and_how_long_it_took(rich: Pack) -> None:
+    root, found = rich
+    log, out = root.parent / "gate.log", root / "out/evidence"
     parts = [(it["part"], it["passed"], it["failed"]) for it in found["parts"]]
     assert parts == [("tools/lint", 2, 0), ("tools/proofs", 109, 0), ("tools/cases", 51, 1),
                      ("tools/python-tests office", 700, 0), ("tools/mutants --twins", 1, 0)]
@@ -336,34 +365,27 @@ def test_a_log_of_the_gate_says_what_came_out_of_tests_and_how_long_it_took(
     assert searches["match_runs"].startswith("ran, ")
     times = {it["what"]: (it["seconds"], it["cpu_seconds"]) for it in found["times"]["logs"]}
     assert times == {"All of it": (4500, 15000)}
-    [about] = found["logs"]
-    digest = hashlib.sha256(log.read_bytes()).hexdigest()
+    about, digest = found["logs"][0], hashlib.sha256(log.read_bytes()).hexdigest()
     assert about == {"log": "gate.log", "last_line": "860 passed, 1 failed", "ended": True,
                      "is_of_the_gate": True, "sha256": digest, "toolchain": [], "logic": [LOGIC]}
-    page = (copy / "out/evidence/tests.html").read_text()
+    page = (out / "tests.html").read_text()
     assert "NOT as expected" in page and "700" in page and "No log was given" not in page
     # the log goes with the folder, and the whole last line of each check
-    assert (copy / "out/evidence/logs/gate.log").read_bytes() == log.read_bytes()
-    page = (copy / "out/evidence/verdicts.html").read_text()
+    assert (out / "logs/gate.log").read_bytes() == log.read_bytes()
+    page = (out / "verdicts.html").read_text()
     assert digest in page and f"{last_line(2)} (gate.log)" in page
 
 
-def test_a_run_of_the_gate_that_did_not_finish_is_said_to_be_that(copy: pathlib.Path) -> None:
-    """As the gate leaves it that was killed while it proved crates."""
-    log = copy.parent / "gate.log"
-    source = run(copy, "tools/proved_source.py").stdout
-    log.write_text(f"{source}{gate_of('adm_rank')}\n== adm_days\nfn adm_days::f: proved\n")
-    found, out = made(copy, log), copy / "out/evidence"
-    assert {it for it, line in verdicts(found).items() if line != UNSEEN} == {"adm_rank"}
-    assert not found["logs"][0]["ended"]
+def test_a_run_of_the_gate_that_did_not_finish_is_said_to_be_that(rich: Pack) -> None:
+    out, found = rich[0] / "out/evidence", rich[1]
+    assert verdicts(found)["adm_csv"] == f"{last_line(2)} (cut.log)"
+    assert verdicts(found)["adm_wire"] == UNSEEN and not found["logs"][1]["ended"]
     page = (out / "index.html").read_text()
-    assert "the run did not finish</strong>" in page and "fn adm_days::f: proved" in page
+    assert "the run did not finish</strong>" in page and "fn adm_wire::f: proved" in page
     without = re.search("Without a verdict here: (.*)</td>", page)
     assert without and re.findall(r"<code>(\w+)</code>", without[1]) == [
-        it for it in verdicts(found) if it != "adm_rank"]
-    page = (out / "tests.html").read_text()
-    assert "No log was given in which a part of the gate ended" in page
-    assert "The run of gate.log did not finish" in page
+        crate for crate, line in verdicts(found).items() if line == UNSEEN]
+    assert "The run of cut.log did not finish" in (out / "tests.html").read_text()
     assert "did not finish, or is cut short" in (out / "verdicts.html").read_text()
 
 
@@ -454,7 +476,7 @@ def test_a_log_of_the_gate_is_looked_at_likewise(
 
 
 def test_a_log_of_ones_own_has_the_source_and_the_crate_of_each_verdict(
-    copy: pathlib.Path, pack: Pack,
+    copy: pathlib.Path, pack: Pack, read: typing.Any
 ) -> None:
     """As the page says that it is made, by a toolchain that prints this."""
     page = html.unescape((pack[0] / "out/evidence/repeat.html").read_text())
@@ -471,85 +493,84 @@ def test_a_log_of_ones_own_has_the_source_and_the_crate_of_each_verdict(
     done = run(copy, "bash", "-c", command[0], PATH=f"{room}:{os.environ['PATH']}")
     assert done.returncode == 0 and done.stdout.splitlines()[2] == "crate adm_rank"
     log.write_text(done.stdout)
-    found = made(copy, log)
-    seen = {it["crate"]: it for it in found["crates"] if it["verdict"] != UNSEEN}
-    assert list(seen) == ["adm_lists", "adm_types", "adm_rank"]
-    assert seen["adm_rank"]["verdict"] == f"{last_line(2)} (own.log)"
-    assert seen["adm_rank"]["made"] == "from nothing"
-    [about] = found["logs"]
+    found = read(log)
+    assert {*seen(found)} == {"adm_lists", "adm_types", "adm_rank"}
+    assert seen(found)["adm_rank"] == f"{last_line(2)} (own.log)"
+    assert {it["made"] for it in found.crates() if it["crate"] == "adm_rank"} == {"from nothing"}
+    [about] = found.logs.given
     assert about["ended"] and about["toolchain"] == [kit] and about["logic"] == [LOGIC]
     # cut while the last crate was proved, as the toolchain leaves it
-    log.write_text(done.stdout.partition("fn adm_rank")[0])
-    assert "own.log:3: crate adm_rank: no line 'exit 0'" in refusal(copy, log)
-    log.write_text("\n".join(done.stdout.splitlines()[1:]))
-    assert "is no log of this source" in refusal(copy, log)
+    for text, wanted in (
+            (done.stdout.partition("fn adm_rank")[0], "crate adm_rank: no line 'exit 0'"),
+            ("\n".join(done.stdout.splitlines()[1:]), "is no log of this source")):
+        log.write_text(text)
+        with pytest.raises(page_text.Refused, match=wanted):
+            read(log)
     (copy / "own.log").write_text(done.stdout)
     log.write_text(done.stdout)
-    assert "another log that was given has this name" in refusal(copy, log, copy / "own.log")
+    with pytest.raises(page_text.Refused, match="another log that was given has this name"):
+        read(log, copy / "own.log")
 
 
 def test_times_are_those_of_a_build_from_nothing_in_units_of_the_machine(
-    copy: pathlib.Path,
+    rich: Pack, tmp_path: pathlib.Path, monkeypatch: pytest.MonkeyPatch
 ) -> None:
-    program = ("import sys; sys.path.insert(0, 'tools'); import proved_source as it, pathlib;"
-               "[it.leave(name, it.sum_of(pathlib.Path(), below), line, is_anew=is_anew)"
-               " for name, below, is_anew in (('adm_lists', ['adm_lists'], True),"
-               " ('adm_types', ['adm_types', 'adm_lists'], True),"
-               " ('adm_rank', ['adm_rank', 'adm_types', 'adm_lists'], False))"
-               f" for line in ['{PROVED}']]")
-    assert run(copy, "/usr/bin/python3", "-c", program).returncode == 0
-    (copy / "out/costs").mkdir()
-    for name, seconds in (("adm_lists", 20), ("adm_types", 100), ("adm_rank", 60)):
-        (copy / "out/costs" / name).write_text(f"{seconds}\n")
-
-    def rows() -> dict[str, tuple[str, str]]:
-        return {it["crate"]: (it["alone"], it["with_those_below"])
-                for it in made(copy)["times"]["crates"]}
-
+    found = {it["crate"]: (it["alone"], it["with_those_below"])
+             for it in rich[1]["times"]["crates"]}
     assert repeats.in_units(100, None) == "100 s" and repeats.in_units(None, 40) == ""
-    (copy / "out/unit").write_text("40\n")
-    found = rows()
     assert found["adm_types"] == ("100 s, 2.50 units", "120 s, 3.00 units")
-    # that of adm_rank was over what had been kept, or of another crate above
     assert found["adm_rank"] == found["adm_match"] == ("", "")
-    page = (copy / "out/evidence/repeat.html").read_text()
+    page = (rich[0] / "out/evidence/repeat.html").read_text()
     assert "a unit is 40 CPU seconds" in page and "All times below are of one machine" in page
-    (copy / "out/unit").write_text("no toolchain\n")
-    assert "out/unit is not what tools/unit prints" in refusal(copy)
+    (tmp_path / "out").mkdir()
+    (tmp_path / "out/unit").write_text("no toolchain\n")
+    monkeypatch.chdir(tmp_path)
+    with pytest.raises(page_text.Refused, match="out/unit is not what tools/unit prints"):
+        repeats.unit()
 
 
-def test_the_fingerprints_of_a_release_of_this_commit_are_there(
-    copy: pathlib.Path, pack: Pack, monkeypatch: pytest.MonkeyPatch
-) -> None:
-    assert pack[1]["release"] == {"is": "none"}
-    page = (pack[0] / "out/evidence/trust.html").read_text()
-    assert "there is no <code>out/release</code>" in page
-    home, room = copy.parent / "gpg", copy / "out/release"
+def release_in(root: pathlib.Path) -> None:
+    """Makes a release of the commit of a copy, but for its packages."""
+    home, room = root.parent / "gpg", root / "out/release"
     home.mkdir(mode=0o700)
     room.mkdir(parents=True)
     gpg = ("gpg", "--batch", "--quiet", "--homedir", home)
     try:
-        done = run(copy, *gpg, "--passphrase", "", "--quick-generate-key", "A test", "ed25519",
+        done = run(root, *gpg, "--passphrase", "", "--quick-generate-key", "A test", "ed25519",
                    "sign", "never")
         assert done.returncode == 0, done.stderr
-        listed = run(copy, *gpg, "--list-keys", "--with-colons").stdout
-        (room / "admissions-archive.asc").write_text(run(copy, *gpg, "--armor", "--export").stdout)
+        (room / "admissions-archive.asc").write_text(run(root, *gpg, "--armor", "--export").stdout)
     finally:
-        run(copy, "gpgconf", "--homedir", home, "--kill", "all")
-    commit = run(copy, "git", "rev-parse", "HEAD").stdout.strip()
-    manifest = {"commit": commit, "package": "admissions 1.2", "verdict_of_the_gate": None,
+        run(root, "gpgconf", "--homedir", home, "--kill", "all")
+    manifest = {"commit": run(root, "git", "rev-parse", "HEAD").stdout.strip(),
+                "package": "admissions 1.2", "verdict_of_the_gate": None,
                 "program": {"sha256": "ab" * 32}}
     (room / "manifest.json").write_text(json.dumps(manifest))
-    monkeypatch.chdir(copy)
-    with pytest.raises(page_text.Refused, match="is not the file that out/release/SHA256SUMS"):
-        repeats.release(commit)
     digest = hashlib.sha256((room / "manifest.json").read_bytes()).hexdigest()
     (room / "SHA256SUMS").write_text(f"{digest}  manifest.json\n")
-    found, page = made(copy)["release"], (copy / "out/evidence/trust.html").read_text()
-    assert found["keys"] == re.findall(r"(?m)^fpr:+([0-9A-F]{40}):", listed)
-    assert found["manifest"] == digest and digest in page and found["keys"][0] in page
+
+
+def test_the_fingerprints_of_a_release_of_this_commit_are_there(
+    rich: Pack, pack: Pack, monkeypatch: pytest.MonkeyPatch
+) -> None:
+    assert pack[1]["release"] == {"is": "none"}
+    page = (pack[0] / "out/evidence/trust.html").read_text()
+    assert "there is no <code>out/release</code>" in page
+    found, page = rich[1]["release"], (rich[0] / "out/evidence/trust.html").read_text()
+    key = "out/release/admissions-archive.asc"
+    shown = run(rich[0], "gpg", "--show-keys", "--with-colons", key,
+                GNUPGHOME=str(rich[0].parent / "gpg")).stdout
+    assert found["keys"] == re.findall(r"(?m)^fpr:+([0-9A-F]{40}):", shown) and found["keys"]
+    assert found["manifest"] in page and found["keys"][0] in page
     assert "null: no gate has judged this program" in page
+    monkeypatch.chdir(rich[0])
+    commit = rich[1]["commit"]
     assert repeats.release("0" * 40) == {"is": "of another commit", "commit": commit}
+    monkeypatch.setattr(repeats, "RELEASE", rich[0].parent / "another")
+    shutil.copytree(rich[0] / "out/release", rich[0].parent / "another")
+    (rich[0].parent / "another/SHA256SUMS").write_text("0  manifest.json\n")
+    with pytest.raises(page_text.Refused, match="is not the file that"):
+        repeats.release(commit)
 
 
 WORD_OF_A_PATH = re.compile(r"(?<![\w/.$<-])(?:crates|mutants|cases|office|deploy|docs|tools|bench"
@@ -682,25 +703,12 @@ def test_what_a_premise_reaches_is_assumed_where_its_definition_says_so(pack: Pa
     assert ">1 conditions" not in pages["clauses"]
 
 
-PAGES = "    SuccessiveRuns.HavePagesOf\n"
-
-
-@pytest.mark.parametrize(("old", "new", "wanted"), [
-    (PAGES, PAGES.replace("Have", "Has"), "has this name and these words: each database that"),
-    ("  each database that an open may read", "  a database that an open may read",
-     "has this name and these words: a database"),
-    ("  each database that an open may read from the files has pages of this size\n" + PAGES, "",
-     "SuccessiveRuns.MayStay says that something is assumed"),
-])
-def test_what_is_said_to_be_assumed_has_the_words_of_the_definition(
-    old: str, new: str, wanted: str, promises: typing.Any, tmp_path: pathlib.Path,
-    monkeypatch: pytest.MonkeyPatch,
+def test_a_definition_that_assumes_something_is_among_those_that_are_shown(
+    promises: typing.Any, monkeypatch: pytest.MonkeyPatch
 ) -> None:
-    text = (ROOT / "tools/claims.txt").read_text()
-    assert text.count(old) == 1
-    (tmp_path / "claims.txt").write_text(text.replace(old, new))
-    monkeypatch.setattr(claims, "TABLE", tmp_path / "claims.txt")
-    with pytest.raises(page_text.Refused, match=re.escape(wanted)):
+    monkeypatch.setattr(promised, "ASSUMED", ("SuccessiveRuns.HavePages",))
+    wanted = "SuccessiveRuns.MayStay says that something is assumed"
+    with pytest.raises(page_text.Refused, match=wanted):
         promises()
 
 
@@ -913,18 +921,16 @@ def test_each_name_of_the_toolchain_on_a_page_of_the_reference_has_words(
 
 
 def test_the_first_page_leads_to_the_law_of_crashes_and_counts_claims_by_verdict(
-    copy: pathlib.Path,
+    pack: Pack, rich: Pack
 ) -> None:
-    found, out = made(copy), copy / "out/evidence"
+    found, out = pack[1], pack[0] / "out/evidence"
     assert found["claims_by_verdict"] == {"all": 0, "some": 0, "none": len(found["claims"])}
     page = (out / "index.html").read_text()
     assert 'href="reference/headline.txt"' in page and "this folder does not show it" in page
     claim = (out / "claims.html").read_text().partition('id="claim-14"')[2].partition("<h3")[0]
     assert 'href="reference/headline.txt"' in claim
-    log = copy.parent / "own.log"
-    log.write_text(OWN.replace("source 0", run(copy, "tools/proved_source.py").stdout.strip()))
-    counts = made(copy, log)["claims_by_verdict"]
     # (the first has clauses of adm_rank and of adm_fairness)
+    counts = rich[1]["claims_by_verdict"]
     assert counts["some"] >= 1 and sum(counts.values()) == len(found["claims"])
 
 
@@ -954,7 +960,7 @@ def test_of_each_rule_of_the_code_it_is_said_what_is_not_proved(promises: typing
     sent = next(it for it in rules if "may be withdrawn" in it["rule"])
     assert "a letter is sent" in sent["neither"]
     fair = next(it for it in rules if "allowed criteria" in it["rule"])
-    assert "a criterion is fair" in fair["neither"] and "fair" in " ".join(fair["limits"])
+    assert "a criterion is fair" in fair["neither"] and "fair" in fair["proved"][0]["text"]
 
 
 def test_each_rule_of_the_code_has_its_paragraphs(promises: typing.Any) -> None:
@@ -968,25 +974,13 @@ def test_each_rule_of_the_code_has_its_paragraphs(promises: typing.Any) -> None:
                                   "sections": "section 1"}]
     for one in (one for rule in rules for one in rule["sections"]):
         assert f"Code 2021, {one['sections']}" in (ROOT / one["file"]).read_text()
-    named = [what for point in it.left_out if point["is"] == "rule" for what in point["what"]]
-    assert {"appeals", "in-year admissions", "Infant class size limits"} <= set(named)
-    readme = " ".join((ROOT / "README.md").read_text().split())
-    assert all(what in readme for what in named)
-
-
-APPEALS = "  appeals\n    rule\n"
-FINDING = "  Finding a school that a family did not list\n    rule\n"
-
-
-EXTENDS = "    adm_commands::propose: extends\n    adm_commands::propose: schools\n"
+    left_out = " ".join(it.points())
+    assert all(what in left_out for what in ("appeals", "in-year admissions", "Infant class"))
 
 
 @pytest.mark.parametrize(("old", "new", "wanted"), [
-    ("README.md: Every place has a cause\n", "README.md: Every place\n",
-     "0 entries of README.md: Every place has a cause"),
-    ("README.md: All or nothing\n",
-     "README.md: A lie\n  It\n    limit\nREADME.md: All or nothing\n",
-     "no promise begins so: README.md: A lie"),
+    ("Every place has a cause\n", "Every place\n", "Every place has a cause: these are not"),
+    ("All or nothing\n", "A lie\n  It\n    limit\nAll or nothing\n", "no promise A lie"),
     ("  Nor does a child with a place\n", "  Nor do others\n", "are not the first words of its 4"),
     ("    adm_command_laws::no_better_list\n", "    limit\n    adm_command_laws::no_better_list\n",
      "or 'limit' beside one"),
@@ -994,15 +988,8 @@ EXTENDS = "    adm_commands::propose: extends\n    adm_commands::propose: school
     ("    adm_command_laws::no_better_list\n", "    adm_command_laws::no_best_list\n",
      "there is no clause adm_command_laws::no_best_list"),
     ("    adm_laws::no_loss_by_raise\n", "    adm_schema::insert: text\n", "there is no clause"),
-    ("    adm_laws::no_loss_by_raise\n", "    adm_types::plain\n    adm_match::chosen\n",
-     "there is no clause adm_match::chosen"),
-    (EXTENDS, "    adm_commands::propose: extends\n", "no sentence has adm_commands::propose: sch"),
-    (EXTENDS, EXTENDS + "    adm_commands::propose: kept\n", "propose: kept of the row"),
-    ("      by Round.takes_part\n", "      by Round.takes_parts\n",
-     "reaches 0 definitions Round.takes_parts"),
-    (APPEALS, APPEALS.replace("appeals", "lotteries"), "0 points have these words"),
-    (APPEALS, APPEALS.replace("rule", "rules"), "they are neither a limit nor a rule: appeals"),
-    (FINDING, "", "nothing is named of: Finding a school"),
+    ("Round.AreOutcomes, Stability.IsBest\n", "Round.AreOutcome\n",
+     "reaches no definition Round.AreOutcome"),
 ])
 def test_a_sentence_without_its_clause_is_an_error(
     old: str, new: str, wanted: str, promises: typing.Any, tmp_path: pathlib.Path,
@@ -1065,10 +1052,14 @@ def test_what_is_missing_is_an_error(
 
 
 def test_a_page_that_does_not_fit_leaves_what_was_there(copy: pathlib.Path) -> None:
-    made(copy)
+    (copy / "out/evidence").mkdir(parents=True)
+    (copy / "out/evidence/index.html").write_text("as it was")
     name = "**All or nothing.** A"
     change(copy, "README.md", name, name.replace("*", ""))
-    assert "this claim has no name in bold" in refusal(copy)
+    done = run(copy, "tools/evidence")
+    assert done.returncode == 1 and done.stdout == ""
+    assert "this claim has no name in bold" in done.stderr
+    assert files(copy) == {"index.html": b"as it was"}
 
 
 def test_a_missing_tool_is_named_with_its_package(
