@@ -247,7 +247,8 @@ class Making:
         found = head.post("/letters/make", {
             "whom": "part", "value": field(page, "value"), "key": field(page, "key"),
             "template": template[1] if template else "", "kind": "merge",
-            "day_of_letters": "1 March 2027", "order": "number", "child": ticked})
+            "day_of_letters": "1 March 2027", "order": "number", "child": ticked,
+            "others": field(page, "others")})
         page = head.waited(found.location).text
         head.get(f"{found.location}/file")
         head.post(f"{found.location}/record", {

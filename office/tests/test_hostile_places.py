@@ -69,7 +69,7 @@ TEXTS: dict[str, set[str]] = {
     "letter_templates.save": {"name", "text", "seen", "what", "sample", "child", "remove"},
     "letters.audit": set(),
     "letters.end": set(),
-    "letters.make": {"double", "kind"},
+    "letters.make": {"double", "kind", "others"},
     "letters.record": {"day", "count", "agreed", "sure_of"},
     "letters.take_back": {"reason"},
     "lists.remove": set(),
@@ -88,8 +88,9 @@ TEXTS: dict[str, set[str]] = {
     "notes.add_file": {"text"},
     "notes.remove": {"why"},
     "notes.strike": {"why"},
-    "notices.ask": {"day", "child", "key", "digest", "ticked", "tick", "read"},
+    "notices.confirm": {"digest", "read"},
     "notices.go_on": set(),
+    "notices.tick": {"day", "child", "others", "ticked", "tick"},
     "people.change": {"what", "name", "role", "kind", "shown"},
     "preferences.record": {"day", "seen", "what", "preference-1", "preference-2"},
     "points.change": {"what", "version", "east", "north", "property", "postcode"},
@@ -281,7 +282,7 @@ def test_a_hostile_text_in_any_field_is_answered_in_words(world: World, view: st
 
 def test_an_address_with_anything_in_it_is_answered_in_words(world: World) -> None:
     """Each part of each address that a view reads, and numbers that are too long."""
-    names = {"code": ["OAK"], "name": ["children"], "owner": ["jane"]}
+    names = {"code": ["OAK"], "name": ["children"], "owner": ["jane"], "key": ["key"]}
     gets = addresses(world.office, names, "GET")
     for view, fields in WATCH.of("args").items():
         for field in sorted(fields) if view in gets else ():
@@ -295,7 +296,7 @@ def test_an_address_with_anything_in_it_is_answered_in_words(world: World) -> No
             world.sender.get(f"/letters/whom?{query}")
     for method in ("GET", "POST"):
         for paths in addresses(world.office, {"code": ["%ff"], "name": ["%00<b>"], "owner": [
-                "=1"]}, method).values():
+                "=1"], "key": ["%ff<b>"]}, method).values():
             for text in (paths[0], re.sub("/1(?=/|$)", f"/{10**30}", paths[0]),
                          re.sub("/1(?=/|$)", "/-1", paths[0])):
                 if "sign-out" not in text:

@@ -79,7 +79,7 @@ def test_letters_with_the_address_of_an_example_are_not_recorded_as_sent(office:
     with office.parts.store.writing() as db:
         db.execute("DELETE FROM letter_sender")
     jane, hal = office.browser("jane"), office.browser("hal", "head")
-    assert 'class="warning" id="example"' in jane.get("/letters/").text
+    assert 'id="example"' in jane.get("/letters/").text
     path = made(jane, asked(jane, "offers", "1", child=["1"]))
     assert "Example County Council" in letter_pages(jane, path)[0]
     page = page_of(jane, path)

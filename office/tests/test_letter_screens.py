@@ -24,7 +24,7 @@ from register_files import Refused
 from served import do_over, served
 
 from office import printed
-from office.web import letters_whom
+from office.web import choices, letters_whom
 from office.web.screens import letters as screen
 from office.web.letters_sets import Asked
 from office.web.people import Person
@@ -62,6 +62,42 @@ def test_letters_are_printed_in_the_order_chosen_each_on_its_own_page(office: Si
     page = jane.get(path).text
     assert "Offers: round 1 of 3 March 2025, 3 of 5" in page
     assert "all letters of this one state" in page
+
+
+def test_the_text_of_a_letter_is_shown(office: Site) -> None:
+    """Of a set, as it will be sent; of a child, as it was. Names are as they are."""
+    jane = office.browser("jane")
+    path = made(jane, asked(jane, "offers", "1", child=["2"]))
+    link = re.search(r'href="(/letters/texts/[0-9]+)">Show the letter<', jane.get(path).text)
+    assert link
+    page = Page(jane.get(link[1]).text)
+    text = " ".join(page.by_id["text"].split())
+    assert f"A place at Elm is offered to {NAMES[2]}. It is the second preference" in text
+    assert "School · Preference · Your child there · Distance · Waiting list" in text
+    assert "font-size" not in text and "not recorded as sent" in page.text
+    assert recorded(jane, path)[0] == 303
+    assert f'href="{link[1]}">Show the letter<' in jane.get("/children/2").text
+    assert "sent on 3 March 2025" in jane.get(link[1]).text
+    merged = made(jane, asked(jane, "offers", "1", child=["1"], kind="merge"))
+    assert "Show the letter" not in jane.get(merged).text
+    assert jane.get("/letters/texts/2").status_code == 404
+    assert jane.get("/letters/texts/99").status_code == 404
+
+
+def test_whom_letters_go_to_is_ticked_from_page_to_page(
+    office: Site, monkeypatch: pytest.MonkeyPatch,
+) -> None:
+    """What was chosen else on the form goes too."""
+    monkeypatch.setattr(choices, "PAGE", 2)
+    jane = office.browser("jane")
+    form = asked(jane, "offers", "1", child=["2"])
+    form |= {"others": "3,4,5", "kind": "merge", "page": "2"}
+    page = jane.get(jane.post("/letters/make", form).location)
+    assert re.findall(r'name="child" value="(.)"[^>]* checked', page.text) == ["3", "4"]
+    assert hidden(page, "others") == "2,5" and '<option value="merge" selected' in page.text
+    form = {**form, "child": ["4"], "others": "2,5"}
+    del form["page"]
+    assert ", 3 of 5" in jane.get(made(jane, form)).text
 
 
 def test_on_both_sides_each_letter_begins_on_a_new_sheet(office: Site) -> None:

@@ -20,7 +20,7 @@ from register_files import Refused
 
 from office import days
 from office.senders import Ended
-from office.web import notices
+from office.web import choices, notices
 from office.web.answers import Meant
 from office.web.notice_marks import Marks
 from office.web.people import Person
@@ -45,17 +45,15 @@ def office_fixture(
 
 
 def shown(browser: Browser, kind: str, day: str, children: list[int]) -> Any:
-    """The question about those that are ticked."""
-    return browser.post(f"/notices/{kind}", {
+    """The question about those that are ticked, which has an address of its own."""
+    found = browser.post(f"/notices/{kind}", {
         "day": day, "ticked": "yes", "child": [str(it) for it in children]})
+    return browser.get(found.location) if found.status_code == 303 else found
 
 
-def confirmed(browser: Browser, kind: str, page: Any, read: str = "yes") -> Any:
+def confirmed(browser: Browser, page: Any, read: str = "yes") -> Any:
     """The answer to its button, with the tick at what looks wrong."""
-    return browser.post(f"/notices/{kind}", {
-        "day": hidden(page, "day"), "digest": hidden(page, "digest"), "key": hidden(page, "key"),
-        "ticked": hidden(page, "ticked"), "read": read,
-        "child": re.findall(r'name="child" value="([0-9]+)"', page.text)})
+    return browser.post(page.request.path, {"digest": hidden(page, "digest"), "read": read})
 
 
 def test_reminders_and_withdrawals_lead_to_the_letters_of_the_same_children(
@@ -70,7 +68,7 @@ def test_reminders_and_withdrawals_lead_to_the_letters_of_the_same_children(
     assert "Record 2 reminders of 18 March 2025" in page.text
     assert "Tuesday, 18 March 2025" in page.text and "=SUM(A1)" in page.text
     assert "may be withdrawn from 2 April 2025 on" in page.text
-    found = confirmed(jane, "remind", page)
+    found = confirmed(jane, page)
     assert found.status_code == 303, found.text
     row = jane.get(found.location)
     assert "2 of 2 reminders recorded" in row.text and "Letters to these 2 children" in row.text
@@ -97,7 +95,7 @@ def withdrawn(jane: Browser, office: Site, address: str) -> None:
     page = shown(jane, "lapse", "2 April 2025", [2])
     assert "Record 1 withdrawal of 2 April 2025" in page.text
     assert "cannot be undone" in page.text
-    found = confirmed(jane, "lapse", page)
+    found = confirmed(jane, page)
     assert found.status_code == 303
     assert 2 not in office.parts.desk.now().places
     for whom, value in (("row", "2"), ("withdrawn", "2 April 2025")):
@@ -116,7 +114,7 @@ def test_the_letters_of_a_row_are_made_by_themselves(office: Site, address: str)
     they were taken. One set for a row, however often it is looked at.
     """
     jane = office.browser("jane")
-    row = confirmed(jane, "remind", shown(jane, "remind", "18 March 2025", [2, 3])).location
+    row = confirmed(jane, shown(jane, "remind", "18 March 2025", [2, 3])).location
     page = waited(jane, row)
     place = re.search(r'href="(/letters/sets/[0-9]+)/file">Take the file: 2 letters<', page)
     assert place and "made, not recorded as sent" in page
@@ -139,7 +137,7 @@ def test_the_letters_of_a_row_are_made_by_themselves(office: Site, address: str)
     assert jane.get("/letters/whom?whom=row&value=1").text.count(said) == 2
     # those of withdrawals name the place that has ended; and a reader only sees that they are made
     beside(office, address, [{"cmd": "accept", "child": 3, "school": "ELM"}])
-    row = confirmed(jane, "lapse", shown(jane, "lapse", "2 April 2025", [2])).location
+    row = confirmed(jane, shown(jane, "lapse", "2 April 2025", [2])).location
     page = waited(jane, row)
     assert "Take the file: 1 letter<" in page and "withdrawal of 2 April 2025: 1 letter" in page
     place = re.search(r'href="(/letters/sets/[0-9]+)/file"', page)
@@ -153,7 +151,7 @@ def test_letters_that_nobody_can_send_are_not_made_by_themselves(office: Site) -
     with office.parts.store.writing() as db:
         db.execute("DELETE FROM letter_sender")
     jane = office.browser("jane")
-    row = confirmed(jane, "remind", shown(jane, "remind", "18 March 2025", [2, 3])).location
+    row = confirmed(jane, shown(jane, "remind", "18 March 2025", [2, 3])).location
     page = waited(jane, row)
     assert "2 of 2 reminders recorded" in page and count(office, "letter_set") == 0
     assert "not made by themselves, as the office’s address is not typed yet" in page
@@ -166,17 +164,38 @@ def test_what_changed_meanwhile_is_not_recorded(office: Site, address: str) -> N
     jane = office.browser("jane")
     page = shown(jane, "remind", "18 March 2025", [1, 4])
     beside(office, address, [{"cmd": "accept", "child": 4, "school": "ELM"}])
-    found = confirmed(jane, "remind", page)
+    found = confirmed(jane, page)
     assert found.status_code == 409 and f"Child 4, {NAMES[4]}, is not due any more" in found.text
     assert re.findall(r'name="child" value="(.)"[^>]* checked', found.text) == ["1"]
     assert count(office, "notice_row") == 0
     page = shown(jane, "remind", "18 March 2025", [1])
-    first = confirmed(jane, "remind", page)
+    first = confirmed(jane, page)
     assert first.status_code == 303
-    assert confirmed(jane, "remind", page).location == first.location
+    assert confirmed(jane, page).location == first.location
+    # (and Back leads to what was recorded, not to a form that would be sent again)
+    assert jane.get(page.request.path).location == first.location
     sends = [it for it in office.parts.history.entries if it.what == "sends"
              and it.about.get("command", {}).get("cmd") == "remind"]
     assert len(sends) == 1 and count(office, "notice_row") == 1
+
+
+def test_what_is_ticked_goes_from_page_to_page(
+    office: Site, monkeypatch: pytest.MonkeyPatch,
+) -> None:
+    """Each page has what is ticked on the others, and the question names all of them."""
+    monkeypatch.setattr(choices, "PAGE", 2)
+    jane, ticks = office.browser("jane"), r'name="child" value="(.)"[^>]* checked'
+    page = jane.get("/notices/remind?day=18 March 2025")
+    assert re.findall(ticks, page.text) == ["1", "2"] and hidden(page, "others") == "3,4,5"
+    given = {"day": "18 March 2025", "ticked": "yes"}
+    found = jane.post("/notices/remind", {**given, "others": "3,4,5", "child": ["1"], "page": "2"})
+    page = jane.get(found.location)
+    assert re.findall(ticks, page.text) == ["3", "4"] and hidden(page, "others") == "1,5"
+    found = jane.post("/notices/remind", {**given, "others": "1,5", "child": ["3"]})
+    assert re.findall("child (.),", jane.get(found.location).text) == ["1", "3", "5"]
+    # (nobody sees what another one has ticked)
+    other = office.browser("olga").get(found.location)
+    assert other.status_code == 409 and "has changed meanwhile" in other.text
 
 
 def test_wrong_days_and_ticks_are_said(office: Site) -> None:
@@ -206,10 +225,10 @@ def test_a_day_that_is_to_come_is_refused(
         assert found.status_code == 400 and "today or an earlier day" in found.text
         assert 'name="child"' not in found.text
     page = shown(jane, kind, "31 May 2025", [2])
-    late = jane.post(f"/notices/{kind}", {
-        "day": "2025-06-01", "digest": hidden(page, "digest"), "key": hidden(page, "key"),
-        "child": "2", "read": "yes"})
-    assert late.status_code == 400 and count(office, "notice_row") == 0
+    # (nor by the clock of a machine that is set back meanwhile)
+    monkeypatch.setattr(screen, "today", lambda: datetime.date(2025, 5, 30))
+    late = confirmed(jane, page)
+    assert late.status_code == 409 and count(office, "notice_row") == 0
 
 
 def test_a_withdrawal_without_a_reminder_that_was_sent_takes_a_tick(
@@ -221,7 +240,7 @@ def test_a_withdrawal_without_a_reminder_that_was_sent_takes_a_tick(
     jane = office.browser("jane")
     question = shown(jane, "lapse", "2 April 2025", [2, 3])
     assert "I have read what looks wrong above, and it is right" in question.text
-    found = confirmed(jane, "lapse", question, read="")
+    found = confirmed(jane, question, read="")
     assert found.status_code == 409 and "read what looks wrong" in found.text
     assert count(office, "notice_row") == 0
     with office.parts.store.writing() as db:
@@ -233,7 +252,7 @@ def test_a_withdrawal_without_a_reminder_that_was_sent_takes_a_tick(
                        " ?, 'reminder ELM 2025-03-18', '', X'')", [(number, 0, 2), (number, 1, 3)])
     question = shown(jane, "lapse", "2 April 2025", [2, 3])
     assert "I have read" not in question.text
-    assert confirmed(jane, "lapse", question, read="").status_code == 303
+    assert confirmed(jane, question, read="").status_code == 303
 
 
 def test_a_row_that_stopped_goes_on_and_sends_nothing_twice(
@@ -251,7 +270,7 @@ def test_a_row_that_stopped_goes_on_and_sends_nothing_twice(
         return send(line)
 
     monkeypatch.setattr(sender, "send", once)
-    row = confirmed(jane, "remind", page).location
+    row = confirmed(jane, page).location
     text = jane.get(row).text
     assert "1 of 2 reminders recorded" in text and "the register is away" in text
     assert "Record the other 1" in text
@@ -268,7 +287,7 @@ def test_a_row_stops_where_the_register_is_closed(office: Site) -> None:
     jane, desk = office.browser("jane"), office.parts.desk
     page, is_open = shown(jane, "remind", "18 March 2025", [1, 4]), desk.closed
     desk.closed = lambda: "Closed for a draw."
-    path = confirmed(jane, "remind", page).location
+    path = confirmed(jane, page).location
     with office.app.app_context():
         row = screen.rows().get(1)
     assert row.said == "Closed for a draw. Nothing was recorded." and not office.copied
@@ -287,7 +306,7 @@ def test_a_row_that_was_killed_is_settled_by_a_look(office: Site) -> None:
     """The first was sent and its answer lost with the application: it is not sent again."""
     jane = office.browser("jane")
     page = shown(jane, "remind", "18 March 2025", [1, 2])
-    row = confirmed(jane, "remind", page).location
+    row = confirmed(jane, page).location
     with office.parts.store.writing() as db:
         db.execute("UPDATE notice SET state='sending', said='' WHERE place=0")
     count_before = len(office.parts.history.entries)
@@ -301,7 +320,7 @@ def test_an_equal_reminder_of_before_is_not_this_one(office: Site) -> None:
     recorded.
     """
     jane = office.browser("jane")
-    row = confirmed(jane, "remind", shown(jane, "remind", "18 March 2025", [1, 2])).location
+    row = confirmed(jane, shown(jane, "remind", "18 March 2025", [1, 2])).location
     with office.parts.store.writing() as db:
         db.execute("UPDATE notice SET state='sending', said='', after=? WHERE place=0",
                    (len(office.parts.history.entries),))
@@ -326,7 +345,7 @@ def test_an_offer_that_changed_since_it_was_shown_is_not_withdrawn(
         return make(*given)
 
     monkeypatch.setattr(office.parts.copies, "make", meanwhile)
-    confirmed(jane, "lapse", question)
+    confirmed(jane, question)
     with office.app.app_context():
         row = screen.rows().get(1)
     assert [it.state for it in row.notices] == ["done", "failed"]
@@ -356,7 +375,7 @@ def test_a_row_that_runs_says_so_while_the_register_is_away(
 
     monkeypatch.setattr(office.parts.copies, "make", slow)
     monkeypatch.setattr("office.web.screens.notices.WAIT_SECONDS", 0.05)
-    row = confirmed(jane, "remind", shown(jane, "remind", "18 March 2025", [2, 3])).location
+    row = confirmed(jane, shown(jane, "remind", "18 March 2025", [2, 3])).location
     monkeypatch.setattr(office.parts.desk, "register", away)
     page = jane.get(row)
     assert page.status_code == 200 and f'<div id="row" data-running="{row}">' in page.text
@@ -397,7 +416,7 @@ def test_an_offer_is_not_withdrawn_while_its_answer_waits_in_a_pile(
     question = shown(jane, "lapse", "2 April 2025", [3, 4])
     assert question.status_code == 200 and question.text.count(letter) == 2
     bo.post("/answers/", {"entry": "4"})
-    found = confirmed(jane, "lapse", question)
+    found = confirmed(jane, question)
     assert found.status_code == 409 and "hild 4: bo has an answer" in found.text
     day = datetime.date(2025, 4, 2)
     due = [it for it in notices.due(office.parts.desk.now(), "lapse", day) if it.child == 4]
@@ -414,7 +433,7 @@ def test_an_offer_is_not_withdrawn_while_its_answer_waits_in_a_pile(
         return make(purpose, *more)
 
     monkeypatch.setattr(office.parts.copies, "make", meanwhile)
-    row = confirmed(jane, "lapse", question)
+    row = confirmed(jane, question)
     assert "bo has an answer for this child in a pile (accept). Nothing was recorded." in jane.get(
         row.location).text
     assert {2, 3, 4} <= set(office.parts.desk.now().places)
@@ -448,7 +467,7 @@ def test_a_child_that_is_looked_after_is_named_before_a_withdrawal(
     assert "looked after, or was" in question.text
     # (what is said beside a child is confirmed with it)
     beside(office, address, [{**child(2, 200, NAMES[2]), "cmd": "amend"}])
-    found = confirmed(jane, "lapse", question)
+    found = confirmed(jane, question)
     assert found.status_code == 409 and "What was shown has changed meanwhile" in found.text
     assert "looked after, or was" not in found.text and count(office, "notice_row") == 0
 

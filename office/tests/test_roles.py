@@ -47,8 +47,9 @@ SCREENS: dict[str, tuple[set[str], set[str]]] = {
 OTHERS: dict[tuple[str, str], set[str]] = {
     ("child.ask", "GET"): RECORDS, ("child.correct", "GET"): RECORDS,
     ("letters.file", "GET"): RECORDS, ("letters.again", "GET"): RECORDS,
-    ("letters.audit", "POST"): {HEAD},
+    ("letters.audit", "POST"): {HEAD}, ("letters.text", "GET"): RECORDS,
     ("letter_templates.previewed", "GET"): {HEAD}, ("notices.choose", "GET"): RECORDS,
+    ("notices.ask", "GET"): RECORDS,
     ("draws.second", "POST"): {HEAD, OFFICER}, ("register.question", "POST"): READS,
     **{(f"season_end.{it}", "POST"): {HEAD, OFFICER} for it in ("confirm", "go_on", "take_back")},
     ("restores.second", "POST"): {HEAD, OFFICER},
@@ -56,10 +57,11 @@ OTHERS: dict[tuple[str, str], set[str]] = {
     ("schools.workbook", "GET"): READS | {SCHOOL}, ("schools.raise_number", "GET"): RECORDS,
 }
 VALUES = {"number": 1, "name": "accept", "code": "A", "kind": "csv", "draw": 1, "reader": "family",
-          "note": 1, "file": 1, "owner": "nobody", "version": 1, "form": "json"}
+          "note": 1, "file": 1, "owner": "nobody", "version": 1, "form": "json", "key": "none"}
 NAMES = {"draws.step": "close", "draws.second": "confirm", "lists.one": "waiting",
          "lists.workbook": "waiting", "letters.from_list": "waiting", "notices.choose": "remind",
-         "notices.ask": "remind", "lists.csv": "waiting", "lists.save": "waiting"}
+         "notices.ask": "remind", "notices.confirm": "remind", "notices.tick": "remind",
+         "lists.csv": "waiting", "lists.save": "waiting"}
 
 
 @pytest.fixture(name="office")

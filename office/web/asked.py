@@ -11,8 +11,8 @@ from werkzeug.datastructures import MultiDict
 from .people import Person
 
 Typed = MultiDict[str, str]
-# so many are kept, of so many characters each
-MOST_KEPT, MOST_CHARACTERS = 300, 50_000
+# so many are kept, of so many characters each: the ticks of a long list are the most
+MOST_KEPT, MOST_CHARACTERS = 300, 400_000
 SECRET = "form"
 
 

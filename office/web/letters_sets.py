@@ -103,6 +103,21 @@ class Set:
         return self.state in (WAITS, RUNS)
 
 
+@dataclasses.dataclass(frozen=True)
+class Kept:
+    """A letter of a set: its child, what it is about, what was asked for, the set, the day on which
+    it was sent or "", whether it is a draft, and the letter as HTML.
+    """
+
+    child: int
+    words: str
+    asked: Asked
+    set: int
+    sent: str
+    is_draft: bool
+    html: str
+
+
 class Sets:
     """The sets of one application."""
 
@@ -510,16 +525,25 @@ class Sets:
                    "who": it["sent_by"], "is_pdf": asked.kind == PDF,
                    "template": found.called if asked.kind == PDF else "mail merge"}
 
-    def as_it_was(self, letter: int, path: str) -> int:
-        """Makes the PDF of a letter that was sent, as it was, in a new file. Its child."""
-        row = self.store.row("SELECT letter.*, asked, sent FROM letter JOIN letter_set ON"
-                             " set_id=letter_set.id WHERE letter.id=?", letter)
-        asked = Asked(**json.loads(row["asked"])) if row and row["sent"] else None
+    def letter(self, number: int) -> Kept:
+        """A letter that was made for print, and is kept."""
+        row = self.store.row("SELECT letter.*, asked, sent, is_draft FROM letter JOIN letter_set ON"
+                             " set_id=letter_set.id WHERE letter.id=?", number)
+        asked = Asked(**json.loads(row["asked"])) if row else None
         if row is None or asked is None or asked.kind != PDF:
             raise Refused("there is no such letter")
+        return Kept(row["child"], row["words"], asked, row["set_id"], row["sent"] or "",
+                    bool(row["is_draft"]), zlib.decompress(row["html"]).decode())
+
+    def as_it_was(self, number: int, path: str) -> int:
+        """Makes the PDF of a letter that was sent, as it was, in a new file. Its child."""
+        found = self.letter(number)
+        if not found.sent:
+            raise Refused("there is no such letter")
+        asked = found.asked
         source = self.templates.source(self.templates.get(asked.template, asked.version))
-        letters_apart.again(source, [zlib.decompress(row["html"]).decode()], Form(), path)
-        return int(row["child"])
+        letters_apart.again(source, [found.html], Form(), path)
+        return found.child
 
 
 def has_moved(register: Register, before: Register | None, child: int) -> bool:

@@ -54,10 +54,18 @@ def in_order(value: Any) -> Any:
     return texts.plain(value) if isinstance(value, str) else value
 
 
+def pages(view: str, **values: Any) -> str:
+    """The address of a screen in the same order, with %s for the number of its page."""
+    order = flask.request.args.get("order")
+    found = flask.url_for(view, **values, order=order, page=0)
+    return found.replace("%", "%%").replace("page=0", "page=%s")
+
+
 def head(before: str, column: str, it: Column[Any], sort: tuple[str, str]) -> dict[str, str]:
     """The head of a column, with the address of the same page in its order."""
     made = {"name": column, "title": it.title, "kind": it.kind, "href": ""}
-    if it.by:
+    # (a page that answers a form has no address)
+    if it.by and flask.request.method == "GET":
         way = ".down" if sort == (column, UP) else ""
         others = {key: value for key, value in flask.request.args.items() if key != "order"}
         values = {**(flask.request.view_args or {}), **others}

@@ -39,7 +39,9 @@ def page(
     """The form with what was typed."""
     return flask.render_template(
         "letters_sender.html", fields=fields, seen=seen, said=said, is_bad=status != 200,
-        wrong=wrong or {}, pages=pages, all=FIELDS, versions=sender().versions()), status
+        wrong=wrong or {}, pages=pages, all=FIELDS, versions=sender().versions(),
+        errors=[(f"#{it.name}", f"{it.label}: {wrong[it.name]}") for it in FIELDS
+                if it.name in wrong] if wrong else []), status
 
 
 @screen.post("/")

@@ -64,7 +64,7 @@ def form_page(
     seen = flask.request.form.get("seen", str(found.version))
     return flask.render_template(
         "letters_template.html", it=found, name=name, text=text, pictures=pictures, said=said,
-        is_bad=status != 200, seen=seen, examples=list(EXAMPLES), pages=pages,
+        is_bad=status != 200, seen=seen, examples=[(it, it) for it in EXAMPLES], pages=pages,
         differences=differences(found, text) if status != 200 else "",
         sample=flask.request.form.get("sample", ""), child=flask.request.form.get("child", ""),
         versions=templates().versions(found.template)), status

@@ -10,17 +10,17 @@ from typing import Any, cast
 import flask
 from flask.blueprints import BlueprintSetupState
 from register_files import Refused
-from werkzeug.datastructures import MultiDict
 from werkzeug.wrappers import Response
 
-from office import days
+from office import days, letter_text
 from office.model import Register
 
-from .. import letters_back, letters_sets, letters_whom, numbers, wording
+from .. import choices, letters_back, letters_sets, letters_whom, numbers, tables, wording
+from ..asked import Typed
 from ..guard import needs, parts, person
 from ..letters_audits import Audits
 from ..letters_sets import Asked, Set, Sets, Twice
-from ..letters_templates import Templates
+from ..letters_templates import Templates, Version
 from ..letters_whom import CHILDREN, KINDS, LIST, ORDERS, Chosen, Lists
 from ..parts import Parts
 from ..people import READ, RECORD
@@ -32,6 +32,12 @@ TYPES = {
     letters_sets.PDF: "application/pdf",
     letters_sets.MERGE: "application/vnd.openxmlformats-officedocument.spreadsheetml.sheet",
 }
+# the columns of the letters of a set
+LETTERS: dict[str, tables.Column[sqlite3.Row]] = {
+    "child": tables.Column("Number", "number", lambda it: it["child"]),
+    "words": tables.Column("About", "", lambda it: it["words"]),
+}
+TEXT: tables.Column[sqlite3.Row] = tables.Column("Text", "screen-only")
 # so many days before today letters are recorded as sent without a question
 FAR_DAYS = 7
 
@@ -103,12 +109,19 @@ def page(said: str = "", status: int = 200) -> Answer:
 @needs(READ)
 def whom() -> Answer:
     """The children of a list, with the template and the form of their letters."""
-    if "whom" not in flask.request.args:
+    args = flask.request.args
+    if "whom" not in args:
         return flask.redirect(flask.url_for("letters.show"))
-    return whom_page(flask.request.args)
+    kept = parts().asked.find(person(), path_of(args)) if "page" in args else None
+    return whom_page(kept or args, numbers.read(args.get("page", ""), 1))
 
 
-def whom_page(given: MultiDict[str, str], said: str = "", status: int = 200) -> Answer:
+def path_of(given: Typed) -> str:
+    """The address of a whom-list, by which is kept what was chosen there."""
+    return flask.url_for("letters.whom", whom=given.get("whom"), value=given.get("value"))
+
+
+def whom_page(given: Typed, number: int = 1, said: str = "", status: int = 200) -> Answer:
     """The same with what was chosen before."""
     try:
         found = letters_whom.read(given)
@@ -117,17 +130,26 @@ def whom_page(given: MultiDict[str, str], said: str = "", status: int = 200) -> 
         words = lists().words(register, found)
     except Refused as error:
         return page(sentence(str(error)), 400)
-    picked = set(given.getlist("child")) if "key" in given else None
+    picked = choices.picked(given) if "key" in given else None
+    boxes = [(it, is_ticked(it, picked)) for it in rows]
     return flask.render_template(
         "letters_whom.html", said=said, is_bad=status != 200, whom=found, words=words,
-        has_sender=bool(sets().sender.number),
-        rows=[(it, is_ticked(it, picked)) for it in rows], given=given,
+        has_sender=bool(sets().sender.number), given=given, many=len(rows),
+        have=sum(bool(it.sent) for it in rows),
+        address=tables.pages("letters.whom", whom=found.kind, value=found.value),
+        page=choices.page_of(boxes, number, lambda it: it[0].child if it[1] else None),
         orders=[(name, words) for name, (words, _) in ORDERS.items()],
-        templates=sets().templates.listed(), usual=sets().templates.usual(),
+        templates=[(value_of(it), it.called) for it in sets().templates.listed()],
+        usual=value_of(sets().templates.usual()),
         day=given.get("day_of_letters", today().isoformat()),
         wrong_day="" if typed_day(given, "day_of_letters") else wording.NOT_A_DAY,
         lacks_place=lists().withdrawal(found)[0] and not lists().withdrawal(found)[1],
         key=given.get("key") or secrets.token_urlsafe(12)), status
+
+
+def value_of(it: Version) -> str:
+    """A version of a template, as the form names it."""
+    return f"{it.template}.{it.version}"
 
 
 def is_ticked(it: Chosen, picked: set[str] | None) -> bool:
@@ -135,7 +157,7 @@ def is_ticked(it: Chosen, picked: set[str] | None) -> bool:
     return str(it.child) in picked if picked is not None else not it.sent
 
 
-def typed_day(given: MultiDict[str, str], name: str) -> datetime.date | None:
+def typed_day(given: Typed, name: str) -> datetime.date | None:
     """A day that was typed, or today where nothing was."""
     return wording.day_of(given.get(name, today().isoformat()))
 
@@ -145,19 +167,24 @@ def typed_day(given: MultiDict[str, str], name: str) -> datetime.date | None:
 def make() -> Answer:
     """Asks for the letters of the children that are ticked."""
     form = flask.request.form
+    if "page" in form:
+        parts().asked.keep(person(), path_of(form), form)
+        return flask.redirect(flask.url_for(
+            "letters.whom", whom=form.get("whom"), value=form.get("value"), page=form["page"]), 303)
     try:
         asked = asked_in(form)
         number = sets().ask(person(), f"form {form.get('key', '')[:40]}", asked)
+        parts().asked.forget(person(), path_of(form))
     except Refused as error:
-        return whom_page(form, sentence(str(error)), 400)
+        return whom_page(form, 1, sentence(str(error)), 400)
     return flask.redirect(flask.url_for("letters.one", number=number), 303)
 
 
-def asked_in(form: MultiDict[str, str]) -> Asked:
+def asked_in(form: Typed) -> Asked:
     """What a form asks for."""
     found, register = letters_whom.read(form), parts().desk.register()
     there = [it.child for it in lists().chosen(register, found, form.get("order", "number"))]
-    picked = {it for it in map(numbers.read, form.getlist("child")) if it >= 0}
+    picked = {it for it in map(numbers.read, choices.picked(form)) if it >= 0}
     if missing := picked - set(there):
         raise Refused(f"child {min(missing)} is not on the list any more: look at it again")
     if not picked:
@@ -205,11 +232,16 @@ def set_page(
 ) -> Answer:
     """The page of a set, with what was typed. `sure_of` is a day that is asked about."""
     found = set_of(number)
+    may_show = found.asked.kind == letters_sets.PDF and person().may(RECORD)
+    letters = tables.table(LETTERS | ({"text": TEXT} if may_show else {}), letters_of(number))
     return flask.render_template(
         "letters_set.html", it=found, said=said, is_bad=status != 200, template=template_of(found),
         recording=recording(found, day, wrong, sure_of), reason=reason,
         rests=letters_back.rests(sets(), found) if found.sent else "",
-        has_example=sets().has_example(found), children=letters_of(number)), status
+        has_example=sets().has_example(found), many=len(letters.rows),
+        may_show=may_show, table=letters, pages=tables.pages("letters.one", number=number),
+        page=choices.page_of(letters.rows, numbers.read(flask.request.args.get("page", ""), 1))
+    ), status
 
 
 def template_of(found: Set) -> str:
@@ -221,8 +253,8 @@ def template_of(found: Set) -> str:
 
 def letters_of(number: int) -> list[sqlite3.Row]:
     """The letters of a set in their order."""
-    return parts().store.rows("SELECT child, words FROM letter WHERE set_id=? ORDER BY place",
-                              number)
+    return parts().store.rows(
+        "SELECT id, child, words FROM letter WHERE set_id=? ORDER BY place", number)
 
 
 def may_record(found: Set) -> bool:
@@ -339,6 +371,18 @@ def of_child(number: int) -> Response:
     """The whom-list of one child."""
     return flask.redirect(
         flask.url_for("letters.whom", whom=CHILDREN, value=str(number)), 303)
+
+
+@screen.get("/texts/<int:number>")
+@needs(RECORD)
+def text(number: int) -> Answer:
+    """The text of a letter, as it was or will be sent."""
+    try:
+        found = sets().letter(number)
+    except Refused:
+        flask.abort(404)
+    return flask.render_template(
+        "letters_text.html", it=found, number=number, blocks=letter_text.blocks(found.html))
 
 
 @screen.get("/again/<int:number>")

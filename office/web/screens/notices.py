@@ -1,6 +1,7 @@
 """Reminders and withdrawals: the list of a day, what is ticked shown whole, and recorded; then the
 letters of the same children.
 """
+import dataclasses
 import datetime
 import secrets
 from typing import cast
@@ -12,10 +13,11 @@ from werkzeug.wrappers import Response
 from office import days, texts
 from office.model import Register
 
-from .. import children, letters_rows, notices, numbers, wording
+from .. import children, choices, letters_rows, notices, numbers, tables, wording
+from ..asked import Typed
 from ..guard import needs, parts, person
 from ..notice_marks import Marks
-from ..notices import LAPSE, REMIND, Due, Notices
+from ..notices import LAPSE, REMIND, Due, Notice, Notices
 from ..people import READ, RECORD, Person
 from ..piles import DONE
 from ..wording import sentence
@@ -28,6 +30,15 @@ WAIT_SECONDS = 4.0
 WHAT = {REMIND: ("reminder", "reminders"), LAPSE: ("withdrawal", "withdrawals")}
 TITLES = {REMIND: "Reminders", LAPSE: "Withdrawals of offers"}
 CHANGED = "What was shown has changed meanwhile. Nothing was recorded: look at it again."
+UNREAD = "Nothing was recorded: read what looks wrong, and say that it is right."
+
+
+@dataclasses.dataclass(frozen=True)
+class Box:
+    """One that is due, and whether its box is ticked."""
+
+    due: Due
+    is_ticked: bool
 
 
 def rows() -> Notices:
@@ -64,13 +75,17 @@ def show() -> Answer:
 @screen.get(f"/<{KINDS}:name>")
 @needs(RECORD)
 def choose(name: str) -> Answer:
-    """Those that are due on a day, to be ticked."""
-    return choose_page(name)
+    """Those that are due on a day, to be ticked; with what was ticked on another page of them."""
+    args, kept = flask.request.args, None
+    if "page" in args:
+        kept = parts().asked.find(person(), flask.request.path)
+    return choose_page(name, kept or args, numbers.read(args.get("page", ""), 1))
 
 
-def choose_page(kind: str, said: str = "", status: int = 200) -> Answer:
+def choose_page(
+    kind: str, given: Typed, number: int = 1, said: str = "", status: int = 200,
+) -> Answer:
     """The list of a day with its boxes."""
-    given = flask.request.values
     typed = given.get("day", today().isoformat())
     day, found, marks = wording.day_of(typed), [], None
     wrong = "" if day else wording.NOT_A_DAY
@@ -84,17 +99,18 @@ def choose_page(kind: str, said: str = "", status: int = 200) -> Answer:
             wrong = sentence(str(error).partition(";")[0])
     # (at first the reminders without an answer are ticked)
     tick = given.get("tick", "first" if kind == REMIND else "none")
-    picked = set(given.getlist("child")) if "ticked" in given else None
+    picked = choices.picked(given) if "ticked" in given else None
     if wrong and status == 200 and "day" in given:
         status = 400
     kept = rows().kept(kind)
+    due = [Box(it, it.child not in kept and (is_ticked(tick, it, marks) if picked is None
+                                             else str(it.child) in picked)) for it in found]
     return flask.render_template(
         "notices_choose.html", kind=kind, list=notices.LISTS[kind], title=TITLES[kind],
-        typed=typed, wrong=wrong, said=said, is_bad=status != 200,
-        day=wording.weekday(day) if day else "",
-        rows=[(it, is_ticked(tick, it, marks) if picked is None else str(it.child) in picked,
-               kept.get(it.child, ""), marks.of(it.child) if marks else ())
-              for it in found]), status
+        typed=typed, wrong=wrong, said=said, is_bad=status != 200, kept=kept, marks=marks,
+        day=wording.weekday(day) if day else "", many=len(due),
+        page=choices.page_of(due, number, lambda it: it.due.child if it.is_ticked else None)
+    ), status
 
 
 def is_ticked(tick: str, it: Due, marks: Marks | None) -> bool:
@@ -107,11 +123,10 @@ def marks_of(register: Register) -> Marks:
     return Marks(parts().store, parts().history, register)
 
 
-def ticked(register: Register, kind: str, day: datetime.date) -> list[Due]:
+def ticked(register: Register, kind: str, day: datetime.date, given: Typed) -> list[Due]:
     """Those that are ticked, which must all be due still."""
     found = {it.child: it for it in notices.due(register, kind, day)}
-    given = map(numbers.read, flask.request.form.getlist("child"))
-    wanted = [it for it in given if it >= 0]
+    wanted = sorted(it for it in map(numbers.read, choices.picked(given)) if it >= 0)
     if gone := [it for it in wanted if it not in found]:
         raise Refused(not_due(register, kind, gone))
     if not wanted:
@@ -133,46 +148,92 @@ def not_due(register: Register, kind: str, gone: list[int]) -> str:
 
 @screen.post(f"/<{KINDS}:name>")
 @needs(RECORD)
-def ask(name: str) -> Answer:
+def tick(name: str) -> Answer:
+    """What is ticked: leads to another page of the list, or to the question about all of it."""
+    form = flask.request.form
+    day = day_in(form)
+    if day is None:
+        return choose_page(name, form, status=400)
+    if "page" not in form:
+        try:
+            ticked(parts().desk.now(), name, day, form)
+        except Refused as error:
+            return choose_page(name, form, 1, sentence(str(error)), 409)
+    # (the same ones may be ticked again later, after a restore)
+    typed = Typed([*form.items(multi=True), ("once", secrets.token_urlsafe(12))])
+    key = parts().asked.keep(person(), flask.request.path, typed)
+    if "page" in form:
+        return flask.redirect(flask.url_for("notices.choose", name=name, page=form["page"]), 303)
+    return flask.redirect(flask.url_for("notices.ask", name=name, key=key), 303)
+
+
+def day_in(given: Typed) -> datetime.date | None:
+    """The day that was typed, if it is one of which anything can be recorded."""
+    day = wording.day_of(given.get("day", ""))
+    return day if day and day <= today() else None
+
+
+@screen.get(f"/<{KINDS}:name>/<key>")
+@needs(RECORD)
+def ask(name: str, key: str) -> Answer:
     """The question, with all that is to be recorded; or the row that was confirmed."""
-    kind = name
-    form, day = flask.request.form, wording.day_of(flask.request.form.get("day", ""))
-    if day is None or day > today():
-        return choose_page(kind, status=400)
+    return question(name, key, None)
+
+
+@screen.post(f"/<{KINDS}:name>/<key>")
+@needs(RECORD)
+def confirm(name: str, key: str) -> Answer:
+    """Records what was shown."""
+    return question(name, key, flask.request.form)
+
+
+def question(kind: str, key: str, form: Typed | None) -> Answer:
+    """The question about a choice, or the answer to it."""
+    if known := known_row(key):
+        # (a second click, or Back, after it was recorded)
+        return to_row(known)
+    given = parts().asked.find(person(), flask.url_for("notices.choose", name=kind), key)
+    day = day_in(given) if given else None
+    if given is None or day is None:
+        return choose_page(kind, Typed(), 1, CHANGED, 409)
     register = parts().desk.now()
     try:
-        chosen = ticked(register, kind, day)
+        chosen = ticked(register, kind, day, given)
     except Refused as error:
-        if form.get("key") and (known := known_row(form["key"])):
-            # (a second click, after the first one was done)
-            return to_row(known)
-        return choose_page(kind, sentence(str(error)), 409)
+        return choose_page(kind, given, 1, sentence(str(error)), 409)
     marks = marks_of(register)
     digest = notices.digest(kind, day, chosen, marks)
     is_wrong = kind == LAPSE and any(marks.unsent(it.child) for it in chosen)
-    is_read = not is_wrong or form.get("read") == "yes"
-    if form.get("digest") == digest and is_read:
-        try:
-            number = rows().add(person(), form.get("key", "")[:40], kind, day, chosen)
-        except Refused as error:
-            return choose_page(kind, sentence(str(error)), 409)
-        rows().record(person(), number, WAIT_SECONDS)
-        return to_row(number)
     said = ""
-    if "digest" in form:
-        said = (CHANGED if form["digest"] != digest else "Nothing was recorded: read what looks"
-                " wrong, and say that it is right.")
+    if form is not None:
+        if form.get("digest") != digest:
+            said = CHANGED
+        elif is_wrong and form.get("read") != "yes":
+            said = UNREAD
+        else:
+            return recorded(kind, key, day, chosen, given)
     warnings = children.day_warnings(
         register, notices.command_of(kind, chosen[0].child, chosen[0].school, day), day, today())
     one, several = WHAT[kind]
     return flask.render_template(
-        "notices_ask.html", kind=kind, title=TITLES[kind], chosen=chosen, marks=marks,
-        day=day, digest=digest,
+        "notices_ask.html", kind=kind, chosen=chosen, marks=marks, digest=digest, key=key,
         weekday=wording.weekday(day), warnings=warnings, said=said, register=register,
-        is_wrong=is_wrong,
-        becomes=becomes(kind, day), key=secrets.token_urlsafe(12),
+        is_wrong=is_wrong, becomes=becomes(kind, day),
         button=f"Record {texts.count(len(chosen), one, several)} of {days.in_words(day)}",
     ), 409 if said else 200
+
+
+def recorded(
+    kind: str, key: str, day: datetime.date, chosen: list[Due], given: Typed,
+) -> Answer:
+    """Records what was chosen and shown."""
+    try:
+        number = rows().add(person(), key, kind, day, chosen)
+        parts().asked.forget(person(), flask.url_for("notices.choose", name=kind))
+    except Refused as error:
+        return choose_page(kind, given, 1, sentence(str(error)), 409)
+    rows().record(person(), number, WAIT_SECONDS)
+    return to_row(number)
 
 
 def becomes(kind: str, day: datetime.date) -> str:
@@ -213,9 +274,17 @@ def one(number: int) -> Answer:
         # (while the register is copied it cannot be read)
         if not is_running:
             raise
+    table: tables.Table[Notice] = tables.table({
+        "child": tables.Column("Number", "number", lambda it: it.child),
+        "name": tables.Column("Name", "", lambda it: names.get(it.child, "")),
+        "school": tables.Column("School", "", lambda it: it.school),
+        "said": tables.Column("Result", "", lambda it: it.said),
+    }, row.notices)
     made = letters_rows.of_row(letters.sets(), number)
     return flask.render_template(
         "notices_row.html", row=row, title=TITLES[row.kind], what=WHAT[row.kind], names=names,
+        table=table, pages=tables.pages("notices.one", number=number),
+        page=choices.page_of(table.rows, numbers.read(flask.request.args.get("page", ""), 1)),
         done=row.count(DONE), is_running=is_running,
         it=made, recording=letters.recording(made) if made else {},
         template=letters.template_of(made) if made else "",
