@@ -51,7 +51,7 @@ document.addEventListener("submit", (event) => {
   const button = event.submitter;
   adding.then(() => {
     if (sent.id === "record") {
-      status.replaceChildren(paragraph("answer", "", "Nothing was recorded yet: the pile now has what you typed meanwhile. Look at it, and press Record once more."));
+      status.replaceChildren(paragraph("answer", "info", "Nothing was recorded yet: the pile now has what you typed meanwhile. Look at it, and press Record once more."));
     } else if (button instanceof HTMLButtonElement && button.isConnected) button.form?.requestSubmit(button);
   });
 });
@@ -77,11 +77,11 @@ function refuse(entry, reason) {
 /** @param {string} text @param {string} line */
 const withLine = (text, line) => `${text}${text && !text.endsWith("\n") ? "\n" : ""}${line}\n`;
 
-/** @param {string} id @param {string} className @param {string} text */
-function paragraph(id, className, text) {
+/** @param {string} id @param {string} kind @param {string} text */
+function paragraph(id, kind, text) {
   const made = document.createElement("p");
-  Object.assign(made, { id, className, textContent: text });
-  made.setAttribute("role", className ? "alert" : "status");
+  Object.assign(made, { id, className: `banner ${kind}`, textContent: text });
+  made.setAttribute("role", kind === "bad" ? "alert" : "status");
   return made;
 }
 

@@ -98,7 +98,9 @@ class Markup(html.parser.HTMLParser):
         given = {name: value or "" for name, value in attrs}
         if given.get("id") == MARK or any(it.startswith("on") for it in given):
             self.found.append(f"{tag} {given}")
-        if tag in ("iframe", "object", "embed", "base", "img", "svg", "style", "frame"):
+        is_sign = tag == "svg" and given.get("class") in ("icon", "sprite")
+        if tag in ("iframe", "object", "embed", "base", "img", "svg", "style", "frame") and (
+                not is_sign):
             self.found.append(tag)
         for name in ("href", "src", "action", "formaction"):
             if re.match(OTHER, given.get(name, "")):

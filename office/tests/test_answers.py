@@ -50,9 +50,10 @@ def test_24_answers_need_few_keys(office: Site) -> None:
     assert page.focus == "entry" and "Record 24 answers" in page.buttons()
     keys = sum(len(str(it)) + 1 for it in numbers) + of_keys(page, "entry", "record-all")
     question = Page(press(jane, PAGE, page, "Record 24 answers").text)
-    # (Tab from the way back to the button, and Enter)
-    assert question.stops[question.stops.index("confirm") - 1] == question.focus
-    assert keys + 2 == 24 * 3 + 5 and keys + 2 <= 89
+    # (Tab from the heading to the way back, and to the button, and Enter)
+    assert question.focus == "heading"
+    assert question.stops[question.stops.index("confirm") - 1] == PAGE
+    assert keys + 3 == 24 * 3 + 6 and keys + 3 <= 89
     found = press(jane, PAGE, question, "Record 24 answers")
     assert found.status_code == 303
     assert sent(office) == [
@@ -113,7 +114,7 @@ def test_declines_are_confirmed_by_name(office: Site) -> None:
     assert "child 12, Ben Bell, at B Beta, which was accepted" in " ".join(
         question.by_id["final"].split())
     assert "Ada Abel" not in question.by_id["final"]
-    assert question.focus == PAGE and question.stops.index("confirm") > question.stops.index(PAGE)
+    assert question.focus == "heading"
     found = press(jane, PAGE, question, "Record 3 answers")
     assert found.status_code == 303
     assert sent(office)[before:] == [{"cmd": "accept", "child": 11, "school": "A"},
@@ -138,7 +139,7 @@ def test_accepts_are_confirmed_by_name(office: Site) -> None:
     assert " ".join(question.by_id["accepts"].split()) == (
         "accept: child 12, Ben Bell, at B Beta accept: child 13, Cyd <b>Cole</b>, at A Alpha")
     assert question.text.index("Ada Abbot") < question.text.index("Ben Bell")
-    assert question.focus == PAGE, "no key confirms at once"
+    assert question.focus == "heading", "no key confirms at once"
     assert press(jane, PAGE, question, "Record 4 answers").status_code == 303
     assert [it["child"] for it in sent(office)] == [12, 13, 14, 15]
     page = enter(jane, "16")

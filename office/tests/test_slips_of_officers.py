@@ -102,7 +102,7 @@ def test_no_letter_key_confirms_what_is_final(office: Site) -> None:
         assert "accesskey" not in text
         assert re.findall("<script[^>]*>", text) == ['<script src="/find.js" type="module">']
         page = Page(text)
-        assert page.focus in (PAGE, "heading", ""), "no key confirms"
+        assert page.focus in ("heading", ""), "no key confirms"
     for entry in ("y", "Y", "yes"):
         assert jane.post(PAGE + "record", {"digest": entry}).status_code == 409
     assert not of(office, 26) and kind(office, 26) == "offered"
@@ -157,7 +157,7 @@ def test_many_declines_are_named_each_before_one_is_recorded(office: Site) -> No
     assert " ".join(question.by_id["final"].split()) == (
         "decline: child 20, Child Number20, at B Beta decline: child 21, Child Number21, at A Alpha"
         " decline: child 22, Child Number22, at B Beta")
-    assert question.focus == PAGE and not of(office, 20)
+    assert question.focus == "heading" and not of(office, 20)
     assert {kind(office, it) for it in (20, 21, 22, 23)} == {"offered"}
 
 

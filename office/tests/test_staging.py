@@ -218,7 +218,7 @@ def test_several_files_and_their_names(office: Site, screens: Screens) -> None:
     assert "Added: a.csv (2)" in seen.texts["answer"]
     assert {seen.row(it) for it in ("row 2 of a.csv", "row 3 of b\\u202e.csv",
                                     "row 3 of a.csv (2)")} <= set(seen.rows())
-    assert "<td>bo, " in found.text
+    assert '">bo, ' in found.text
     again = bo.add(("other.csv", lines(GOOD[:2])))
     assert again.status_code == 409 and "was added already by jane, as a.csv" in again.text
     assert states(office) == {OPEN: 6}
@@ -384,15 +384,15 @@ def test_hostile_cells_are_text(office: Site, screens: Screens) -> None:
     assert {at: seen.values(it)["name"] for at, it in where.items()} == dict(enumerate(HOSTILE))
     for path in ("", "commit/", "duplicates", f"?see={where[0]}"):
         tags = screens.see(path).tags
-        # (the table has two scripts of the site)
-        assert tags.count("script") == (2 if "/" not in path and path != "duplicates" else 0), path
+        # (the frame has one script of the site, and the table two more)
+        assert tags.count("script") == (3 if "/" not in path and path != "duplicates" else 1), path
         assert not {"img", "b"} & set(tags), path
     for at, it in where.items():
         assert screens.save(it, north=str(5000 + at)).status_code == 303
     rows = [changed(it, 3, str(5000 + at)) for at, it in enumerate(rows)]
     assert screens.store().status_code == 303
     assert has(office.parts.desk.now()) == expected(rows)
-    assert "script" not in screens.see("withdrawn").tags
+    assert screens.see("withdrawn").tags.count("script") == 1
     assert "<script>alert" not in screens.browser.get("/activity/").text
 
 

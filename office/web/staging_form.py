@@ -43,6 +43,11 @@ def preferences_of(cells: Mapping[str, str]) -> list[str]:
     return [*listed, *[""] * len(PREFERENCES)][:len(PREFERENCES)]
 
 
+def first_field(column: str) -> str:
+    """The field of a column, or the first of them."""
+    return PREFERENCES[0] if column == "preferences" else column
+
+
 def typed_row(cells: dict[str, str], who: str) -> Staged:
     """A row that is not in the table yet."""
     moment = now()

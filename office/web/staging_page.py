@@ -239,5 +239,6 @@ def sides(one: Staged, other: Staged | None, child: int | None,
 def counts(table: Table) -> dict[str, int]:
     """How many rows there are, with errors, and to be looked at."""
     rows: Sequence[int] = list(table.rows)
-    return {"rows": len(rows), "errors": sum(map(table.has_error, rows)),
-            "looks": sum(map(table.has_look, rows))}
+    return {"rows": len(rows), "looks": sum(map(table.has_look, rows)), ALL: len(rows),
+            FOUND: sum(table.has_error(it) or table.has_look(it) for it in rows),
+            WRONG: sum(map(table.has_error, rows))}

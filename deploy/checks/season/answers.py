@@ -1,4 +1,6 @@
-"""Families' answers: typed by number and Enter into the pile, and recorded at once."""
+"""Families' answers: typed by number and Enter into the pile, and recorded at once, by the keyboard
+alone.
+"""
 import random
 from collections.abc import Sequence
 
@@ -31,25 +33,25 @@ def recorded(office: Office, school: str) -> None:
     hal.go("Offers", "Answers")
     before = report.counts.keys
     typed(office, children, declined)
-    keys = report.counts.keys - before
-    report.see(keys <= MOST_KEYS, f"{keys} keys for {ANSWERS} answers: at most {MOST_KEYS}")
     pile = {row[1]: row for row in hal.captioned("The pile")}
     for it in children:
         row = pile.get(str(it), [""] * 6)
         what = "decline" if it in declined else "accept"
         report.same(row[2:6], [season.children[it].name, what, season.places[it], ""],
                     f"the answer of child {it} in the pile")
-    hal.press(f"Record {ANSWERS} answers")
+    hal.press_by_keys(f"Record {ANSWERS} answers")
     hal.look("Answers, the question")
     hal.see(f"{len(declined)} of them are final:")
     for it in declined:
         hal.see(f"decline: child {it}, {season.children[it].name}, at {season.places[it]}")
-    hal.press(f"Record {ANSWERS} answers")
+    hal.press_by_keys(f"Record {ANSWERS} answers")
+    keys = report.counts.keys - before
+    report.see(keys <= MOST_KEYS, f"{keys} keys for {ANSWERS} answers: at most {MOST_KEYS}")
     # (where it takes long, the page says how far it is)
     done = f"{ANSWERS} of {ANSWERS} answers are recorded."
     until(lambda: done in hal.main, f"the page says that {done}")
     hal.look("Answers, recorded")
-    report.step(f"{ANSWERS} answers are recorded, typed with {keys} keys")
+    report.step(f"{ANSWERS} answers are recorded with {keys} keys")
     kinds = {it["child"]: it["place"] and it["place"]["kind"]
              for it in office.read("/register")["children"]}
     for it in children:

@@ -27,7 +27,7 @@ def from_workbook(office: Office) -> None:
     hal.see(f"applications.xlsx is added: {len(given) + 1} rows.")
     hal.look("Applications, with errors")
     report.see(hal.driver.execute_script(
-        "const it = document.querySelector('.cells').parentElement;"
+        "const it = document.querySelector('.cells .region');"
         "return it.scrollWidth <= it.clientWidth"), "the table is wider than its window")
     wrong = len(town.FAULTS) + 1
     hal.see(f"{len(given) + 1} rows: {wrong} with errors, {len(town.LATE)} to look at.")

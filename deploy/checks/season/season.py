@@ -144,7 +144,8 @@ STEPS: tuple[tuple[Callable[[Office], None], int], ...] = (
     (letterhead, 2),
     # the screen, the file, and the record
     (offers, 3),
-    (first_answers, 3),
+    # the screen: all else is done by the keyboard
+    (first_answers, 1),
     # what is due, what is recorded, the record; the letters' file, and their record
     (reminders, 5),
     (fills, 6),

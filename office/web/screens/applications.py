@@ -11,7 +11,9 @@ from werkzeug.wrappers import Response
 from office import inputs, persons, texts
 from office.check import ERROR
 
-from .. import staging_files, staging_page, staging_points, staging_sent, staging_tools
+from .. import (
+    choices, staging_files, staging_page, staging_points, staging_sent, staging_tools, tables,
+)
 from ..guard import needs, person
 from ..people import RECORD
 from ..staging import Meanwhile
@@ -42,11 +44,15 @@ def page(text: str = "", is_bad: bool = False, saved: Sequence[int] = (),
     shown = staging_page.page_of(
         table, asked["show"], asked["find"], number_in(args, "page", 1), first, refused)
     changes, more = staging_page.changes(table)
+    counts = staging_page.counts(table)
     text = f"{said_of_saved(table, saved)} {text}".strip()
     body = flask.render_template(
         "applications.html", said=text, is_bad=is_bad, reason=reason, page=shown, asked=asked,
-        filters=staging_page.FILTERS, counts=staging_page.counts(table), changes=changes,
-        more_changes=more, files=tools().staging.files(), pairs=len(table.pairs),
+        filters=[(words, flask.url_for("applications.show", show=it, find=asked["find"]),
+                  counts[it], "") for it, words in staging_page.FILTERS.items()],
+        here=staging_page.FILTERS[asked["show"]], counts=counts, changes=changes,
+        more_changes=more, address=tables.pages("applications.show", **asked),
+        files=tools().staging.files(), pairs=len(table.pairs),
         lost=lost_of(table, refused), columns=staging_page.columns(),
         uk=staging_page.uk_files(table), withdrawn=tools().staging.count(WITHDRAWN),
         to_see=sum(staging_points.needs_look(it.staged) for it in table.rows.values()),
@@ -198,9 +204,11 @@ def change_file(number: int) -> Answer:
 def withdrawn() -> Answer:
     """The rows that were withdrawn."""
     rows = tools().staging.rows(WITHDRAWN)
+    lines = [staging_page.line_of(it, None, {}) for it in rows]
     return flask.render_template(
-        "applications_withdrawn.html", columns=staging_page.columns(),
-        lines=[staging_page.line_of(it, None, {}) for it in rows])
+        "applications_withdrawn.html", columns=staging_page.columns(), many=len(lines),
+        page=choices.page_of(lines, number_in(flask.request.args, "page", 1)),
+        address=tables.pages("applications.withdrawn"))
 
 
 @screen.post("/withdrawn")

@@ -53,6 +53,8 @@ def page(cells: dict[str, str] | None, text: str = "", table: Table | None = Non
         preferences=list(zip(staging_form.PREFERENCES, staging_form.preferences_of(typed))),
         proposed=free or "", most_flag=LIMITS["flag"].most, keys=keys, point=point,
         wrong=next((it.column for it in found.values() if it.is_wrong), "name"),
+        errors=[(f"#{staging_form.first_field(it.column)}", f"{it.title}: {text}")
+                for it in found.values() for style, text in it.found if style == "error"],
         schools=[register.schools[it] for it in sorted(register.schools)] if register else [])
     return body, 409 if table is not None else 200
 

@@ -9,7 +9,7 @@ from werkzeug.wrappers import Response
 
 from office import texts
 
-from .. import points, staging_points
+from .. import points, staging_points, tables
 from ..guard import needs, person
 from ..people import RECORD
 from ..points import POSTCODE, PROPERTY, TYPED
@@ -62,7 +62,8 @@ def page(said: str = "", status: int = 200, typed: Mapping[str, str] | None = No
         "points.html", said=said, is_bad=status != 200, rows=len(rows), many=len(meant),
         lines=[line_of(it, columns, typed if it.id == number else None)
                for it in meant[(at - 1) * PAGE:at * PAGE]],
-        at=at, last=last, summaries=found.gazetteer.summaries(),
+        at=at, last=last, address=tables.pages("points.show"),
+        summaries=found.gazetteer.summaries(),
         names=[("", "none"), *((it, texts.cut(it)) for it in names if it)],
         columns=columns, is_chosen=bool(found.columns()), fields=FIELDS,
         missing=sum(not points.has_any(it.cells) for it in rows), far=points.DIFFER_METRES)
