@@ -2,7 +2,9 @@
 texts, and what is tied to a field.
 """
 import dataclasses
+import html
 import html.parser
+import re
 import urllib.parse
 from typing import Any
 
@@ -159,3 +161,16 @@ def press(browser: Any, path: str, page: Page, button: str, **given: Any) -> Any
         return browser.get(f"{form.action or path}?{urllib.parse.urlencode(sent, True)}")
     found = browser.post(form.action or path, sent)
     return browser.get(found.location) if "typed=" in (found.location or "") else found
+
+
+def tasks(text: str) -> dict[str, list[tuple[str, str, str]]]:
+    """What the first screen has to do: by group the titles with their states and hints."""
+    part = text[text.index('id="to-do"'):].split("</section>")[0]
+    found: dict[str, list[tuple[str, str, str]]] = {}
+    for group in part.split('<h3 class="group">')[1:]:
+        title, _, rows = group.partition("</h3>")
+        found[title] = [
+            tuple(html.unescape(re.sub(r"<[^>]*>|\s+", " ", it)).strip() for it in row)
+            for row in re.findall(r"<li>\s*<div>(.*?)<p class=\"hint\"[^>]*>(.*?)</p>.*?"
+                                  r"<div class=\"state\"[^>]*>(.*?)</div>", rows, re.S)]
+    return found

@@ -10,6 +10,7 @@ from collections.abc import Iterable
 from typing import Any
 
 import openpyxl
+import pages
 from season_hands import HERE, Hand, Room
 
 EXPECTED = HERE / "season_trace"
@@ -150,6 +151,9 @@ def page_lines(hand: Hand, path: str) -> list[str]:
         lines.append(f"   said: {hand.page.said()}")
     for name, rows in hand.page.tables.items():
         lines += [f"   table {name}", *(f"     {' | '.join(row)}" for row in rows)]
+    if 'id="to-do"' in found.text:
+        for group, tasks in pages.tasks(found.text).items():
+            lines += [f"   {group}", *(f"     {' | '.join(it)}" for it in tasks)]
     return lines
 
 

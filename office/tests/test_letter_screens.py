@@ -19,7 +19,7 @@ from letter_site import (
     HAS, NAMES, ROUND, SENT_ON, after_round, asked, audited, beside, commands, count, hidden,
     letter_pages, made, pages, waited,
 )
-from pages import Page
+from pages import tasks
 from register_files import Refused
 from served import do_over, served
 
@@ -180,20 +180,20 @@ def test_what_was_sent_is_with_each_child_as_it_was(office: Site, address: str) 
 
 
 def due_letters(browser: Browser) -> list[str]:
-    """What the season says of letters."""
-    rows = Page(browser.get("/").text).tables["steps"][1:]
-    return [it[4] for it in rows if "recorded as sent" in it[4]]
+    """What the first screen says of letters, with how many."""
+    found = tasks(browser.get("/").text).get("Due now", [])
+    return [f"{title}: {state}" for title, _, state in found if "letters" in title]
 
 
 def test_the_season_says_how_many_letters_are_not_recorded_as_sent(office: Site) -> None:
     """Until each child of the round has one, for those who may make letters."""
     jane, rita = office.browser("jane"), office.browser("rita", "reader")
-    assert due_letters(jane) == ["5 letters of draw 1 are not recorded as sent."]
+    assert due_letters(jane) == ["Send the letters of draw 1: 5 left"]
     assert not due_letters(rita)
     path = made(jane, asked(jane, "offers", "1", child=["2", "4"], kind="merge"))
-    assert due_letters(jane) == ["5 letters of draw 1 are not recorded as sent."]
+    assert due_letters(jane) == ["Send the letters of draw 1: 5 left"]
     assert recorded(jane, path)[0] == 303
-    assert due_letters(jane) == ["3 letters of draw 1 are not recorded as sent."]
+    assert due_letters(jane) == ["Send the letters of draw 1: 3 left"]
     path = made(jane, asked(jane, "part", "1", child=["1", "3", "5"], kind="merge"))
     assert recorded(jane, path)[0] == 303
     assert not due_letters(jane) and not due_letters(office.browser("hal", "head"))

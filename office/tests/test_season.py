@@ -1,5 +1,6 @@
 """The first screen of the application, and its lists."""
 import datetime
+import html
 import io
 import pathlib
 import re
@@ -10,12 +11,12 @@ from typing import Any
 import openpyxl
 import pytest
 from applications import ROUND, Site, office_over, town
-from pages import Page, press
+from pages import Page, press, tasks
 
 from office import worklists as office_worklists
 from office.model import OFFERED, Place
 from office.register_lists import Rows, lapse_due, remind_due
-from office.web import steps, wording, worklists
+from office.web import home, wording, worklists
 from office.web.draws_terms import IN_ORDER, Draw, Terms
 from office.web.people import Person
 from office.web.screens import lists, season
@@ -42,77 +43,75 @@ def test_the_supervisor_draws_only_lots_that_a_draw_waits_for(tmp_path: pathlib.
     with office_over(tmp_path, town()) as office:
         register, today = office.parts.desk.now(), datetime.date(2024, 11, 1)
         terms = Terms(1, None, 1, datetime.date(2025, 3, 3))
-        begin = "A round can be begun under Draws now; the supervisor draws the lots after that."
 
-        def due(draw: Draw | None) -> tuple[str, ...]:
-            return tuple(it.said for it in steps.steps(register, today, None, draw)[2].due)
+        def due(draw: Draw | None) -> list[str]:
+            found = home.tasks(register, today, home.Known(draw, "next"))
+            return [it.hint for title, rows in found for it in rows if title != "Not yet"]
 
-        assert due(None) == (begin,)
+        assert due(None) == [
+            "The offer day is Monday, 3 March 2025. The supervisor draws 8 lots."]
         for state in IN_ORDER:
             draw = Draw(1, terms, state, 1, None, None, "", {}, {}, "", "", "", "", (), None, "")
-            assert due(draw) == (("The supervisor can draw the lots now.",)
-                                 if state == "lots" else ())
+            assert due(draw) == ["Draw 1: a round. The supervisor can draw the lots now."
+                                 if state == "lots" else "Draw 1: a round. Next: next."]
 
 
 def test_a_season_goes_step_by_step(
     tmp_path: pathlib.Path, monkeypatch: pytest.MonkeyPatch,
 ) -> None:
-    """What is done, what is next, by when, and what is due now."""
+    """What is due, what can be done, and what is done, by when."""
     with office_over(tmp_path, []) as office:
         rita = office.browser("rita", "reader")
 
-        def rows(day: str) -> list[list[str]]:
+        def found(day: str) -> dict[str, list[tuple[str, str]]]:
             on(monkeypatch, day)
-            return [it[:5] for it in Page(rita.get("/").text).tables["steps"][1:]]
+            return {group: [(title, state) for title, _, state in rows]
+                    for group, rows in tasks(rita.get("/").text).items()}
 
-        assert rows("2024-09-01") == [
-            ["Schools", "next", "0 schools with 0 places", "", ""],
-            ["Applications", "", "0 children, 0 applications", "31 October 2024, in 60 days", ""],
-            ["First round", "", "0 lots to be drawn", "3 March 2025, in 183 days", ""],
-            ["Answers to offers", "", "after the first round", "", ""],
-            ["Waiting lists", "", "after the first round", "31 December 2025, in 486 days", ""],
-            ["End of the season", "",
-             "the lists end on Wednesday, 31 December 2025, in 486 days", "", ""]]
-        assert office.parts.desk.send_import(HAL, b"x").outcome == "refused"
+        round_1 = "Hold the first round"
+        assert found("2024-09-01") == {
+            "Due now": [("Add the schools", "No school yet")],
+            "When you are ready": [("Add the applications that have come in",
+                                    "Closes in 60 days")],
+            "Not yet": [(round_1, "From 1 November 2024")]}
         for command in town():
             assert office.parts.desk.send(HAL, command).is_done, command
-        assert [it[1] for it in rows("2024-10-31")] == ["yes", "next", "", "", "", ""]
-        found = rows("2024-11-01")
-        assert [it[1] for it in found] == ["yes", "yes", "next", "", "", ""]
-        assert found[2][2:] == ["8 lots to be drawn", "3 March 2025, in 122 days",
-                                "A round can be begun under Draws now; the supervisor draws the"
-                                " lots after that."]
-        assert rows("2025-03-03")[2][4] == "The offer day is today."
-        assert rows("2025-03-04")[2][4] == "The offer day was 1 day ago."
+        assert found("2024-10-31") == {
+            "When you are ready": [("Add the applications that have come in", "Closes today")],
+            "Not yet": [(round_1, "From 1 November 2024")],
+            "Done": [("Add the schools", "Done")]}
+        done = [("Add the schools", "Done"), ("Add the applications", "Done")]
+        assert found("2024-11-01") == {
+            "When you are ready": [(round_1, "Offer day in 122 days")], "Done": done}
+        assert found("2025-03-03")["Due now"] == [(round_1, "Offer day today")]
+        assert found("2025-03-04")["Due now"] == [(round_1, "Offer day 1 day ago")]
         assert office.parts.desk.send(HAL, ROUND, draw=True).is_done
-        found = rows("2025-03-16")
-        assert found[2] == ["First round", "yes",
-                            "held for 3 March 2025: 3 children were offered a place", "", ""]
-        assert found[3] == ["Answers to offers", "next", "3 offers without an answer",
-                            "17 March 2025, in 1 day", ""]
+        remind, lapse, end = ("Remind families who do not answer",
+                              "Withdraw offers that stay unanswered", "End the season")
+        last = (end, "From 1 January 2026")
+        done.append(("Hold round 1", "Done"))
         # (on the last day of the answer nothing is due yet)
-        assert rows("2025-03-17")[3][3:] == ["17 March 2025, today", ""]
-        assert rows("2025-03-18")[3][3:] == ["", "3 reminders are due."]
+        for day in ("2025-03-16", "2025-03-17"):
+            assert found(day) == {
+                "Not yet": [(remind, "From 18 March 2025"), last], "Done": done}
+        remind = "Remind families who have not answered"
+        assert found("2025-03-18") == {
+            "Due now": [(remind, "3 due")], "Not yet": [last], "Done": done}
         assert office.parts.desk.send(HAL, REMIND).is_done
-        found = rows("2025-03-18")
-        assert found[3][3:] == ["1 April 2025, in 14 days", "2 reminders are due."]
-        found = rows("2025-04-01")
-        assert found[3][3:] == ["1 April 2025, today", "2 reminders are due."]
-        found = rows("2025-04-02")
-        assert found[3][3:] == ["", "2 reminders are due.1 offer may be withdrawn."]
+        for day in ("2025-03-18", "2025-04-01"):
+            assert found(day) == {"Due now": [(remind, "2 due")],
+                                  "Not yet": [(lapse, "From 2 April 2025"), last], "Done": done}
+        assert found("2025-04-02")["Due now"] == [(remind, "2 due"), (lapse, "1 due")]
         for child, code in ((1, "A"), (3, "B")):
             command = {"cmd": "accept", "child": child, "school": code}
             assert office.parts.desk.send(HAL, command).is_done
         command = {"cmd": "decline", "child": 2, "school": "A"}
         assert office.parts.desk.send(HAL, command).is_done
-        found = rows("2025-04-01")
-        assert [it[1] for it in found] == ["yes", "yes", "yes", "yes", "next", ""]
-        assert found[4][2:] == ["1 place vacant, 4 waiting", "31 December 2025, in 274 days",
-                                "A place can be filled at A."]
-        found = rows("2026-01-02")
-        assert [it[1] for it in found] == ["yes", "yes", "yes", "yes", "yes", "next"]
-        assert found[5][2] == "the lists ended on Wednesday, 31 December 2025, 2 days ago"
-        assert found[5][4] == "Keep the last copy with the sheets and the audits."
+        done.append(("Record the answers", "Done"))
+        assert found("2025-04-01") == {
+            "When you are ready": [("Offer 1 place from waiting lists", "Ready")],
+            "Not yet": [last], "Done": done}
+        assert found("2026-01-02") == {"Due now": [(end, "Due")], "Done": done}
 
 
 def test_nothing_is_due_on_a_day_on_which_a_family_may_answer() -> None:
@@ -130,14 +129,14 @@ def test_nothing_is_due_on_a_day_on_which_a_family_may_answer() -> None:
     assert due(remind_due, "2025-03-17") == due(lapse_due, "2025-04-03") == []
     assert due(remind_due, "2025-03-18") == [[1, "A", "2025-03-03", "2025-03-18", "Ada"]]
     assert due(lapse_due, "2025-04-04") == [[2, "B", "2025-03-20", "2025-04-04", "Ben"]]
-    assert [str(it) for it in steps.last_days(register)] == ["2025-03-17", "2025-04-03"]
+    assert [str(it) for it in home.last_days(register)] == ["2025-03-17", "2025-04-03"]
     assert [wording.deadline(it) for it in register.places.values()] == [
         "A reminder is due from 18 March 2025 on.",
         "The offer may be withdrawn from 4 April 2025 on, if it is not answered."]
 
 
-def test_each_step_leads_to_its_screens(office: Site, monkeypatch: pytest.MonkeyPatch) -> None:
-    """Those that are there, and that a person may see."""
+def test_each_task_leads_to_its_screen(office: Site, monkeypatch: pytest.MonkeyPatch) -> None:
+    """If a person may do it there; and each number to its list."""
     on(monkeypatch, "2025-03-18")
     jane, rita = office.browser("jane"), office.browser("rita", "reader")
     for browser in (jane, rita):
@@ -145,26 +144,30 @@ def test_each_step_leads_to_its_screens(office: Site, monkeypatch: pytest.Monkey
         links = [it for it in page.stops if it.startswith("/")]
         for it in links:
             assert browser.get(it).status_code == 200, it
-        assert "/lists/remind-due" in links and "/schools/" in links
-        assert ("/schools/new/" in links) == ("/answers/" in links) == (browser is jane)
-        # (what is due leads to where it is done)
+        assert {"/lists/no-answer", "/lists/vacancies", "/lists/unplaced"} <= {*links}
         assert ("/notices/remind" in links) == (browser is jane)
-        assert ">3 reminders are due.<" in page.text
 
 
-def test_the_first_screen_says_who_is_there_and_what_is_closed(office: Site) -> None:
-    """And its counts are the register's."""
+def test_the_first_screen_says_how_the_season_stands(office: Site) -> None:
+    """Worked out by hand of the four children: 1 and 2 had A, 3 has B, 4 has none; 2 declines."""
+    command = {"cmd": "decline", "child": 2, "school": "A"}
+    assert office.parts.desk.send(HAL, command).is_done
+    command = {"cmd": "accept", "child": 1, "school": "A"}
+    assert office.parts.desk.send(HAL, command).is_done
     office.browser("bo")
     rita = office.browser("rita", "reader")
     office.parts.desk.closed = lambda: "Closed for draw 2 by hal since 10:02."
     page = Page(rita.get("/").text)
-    assert page.text.count(">Closed for draw 2 by hal since 10:02.<") == 1
-    assert "Signed in: bo, rita" in page.text
-    text = re.sub(r"<[^>]*>|\s+", " ", page.text)
-    for name, number in (("Schools", 2), ("Children", 4), ("Applications", 4),
-                         ("Places offered, without an answer", 3), ("Places accepted", 0),
-                         ("Children without a place", 1), ("Rounds", 1), ("Fills", 0)):
-        assert re.search(rf"{name} +{number} ", text), name
+    assert page.text.count("Closed for draw 2 by hal since 10:02.") == 1
+    assert "bo, rita" in page.text
+    text = html.unescape(re.sub(r"<[^>]*>|\s+", " ", page.text))
+    for words in ("Applications 4", "Offers not answered 1", "Vacant places 1",
+                  "Children without a place 2", "Accepted 1 33.3%", "Not answered 1 33.3%",
+                  "Declined or withdrawn 1 33.3%", "First preference 1 25.0%",
+                  "Second 1 25.0%", "No place 2 50.0%", "1 place is vacant, at 1 school."):
+        assert re.search(rf"\b{re.sub(' ', ' +', re.escape(words))}(?![0-9])", text), words
+    assert [it[1:] for it in page.tables["places-table"][1:]] == [
+        ["2", "1", "1", "2"], ["1", "1", "0", "2"]]
 
 
 def test_every_list_of_the_office_is_there(office: Site, monkeypatch: pytest.MonkeyPatch) -> None:
@@ -264,15 +267,6 @@ def test_a_workbook_of_a_list_has_texts_alone(tmp_path: pathlib.Path) -> None:
     page = openpyxl.load_workbook(io.BytesIO(found.data))["children"]
     assert [it.value for it in page[2]][:3] == [1, "=1+1", datetime.datetime(2024, 10, 31)]
     assert page["B2"].data_type == "s" and page["B2"].quotePrefix
-
-
-def test_the_next_step_is_the_first_that_is_not_done() -> None:
-    """Whatever comes after it."""
-    def step(title: str, is_done: bool) -> steps.Step:
-        return steps.Step(title, is_done, "", None, (), ())
-
-    found = [step("a", True), step("b", False), step("c", True), step("d", False)]
-    assert steps.next_of(found) is found[1] and steps.next_of(found[:1]) is None
 
 
 def test_a_step_that_begins_with_a_file_has_its_form_on_the_first_screen(

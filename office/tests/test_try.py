@@ -213,10 +213,10 @@ def test_a_change_is_seen(tmp_path: pathlib.Path) -> None:
         assert "a new heading" in officer.get("/")
         style.write_text(style.read_text() + "/* a new style */")
         assert "a new style" in officer.get("/ui.css")
-        module = tree / "office/web/app.py"
-        module.write_text(module.read_text().replace('"Season", "read"', '"Saison", "read"'))
+        module = tree / "office/web/frame.py"
+        module.write_text(module.read_text().replace('"Reports":', '"Rapports":'))
         end = time.monotonic() + LONGEST
-        while "Saison" not in officer.get("/"):
+        while "Rapports" not in officer.get("/"):
             assert time.monotonic() < end
             time.sleep(0.2)
         found.end()

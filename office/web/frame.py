@@ -39,7 +39,7 @@ def of_list(name: str, title: str) -> Screen:
 
 # the groups of the menu in their order, with their screens
 GROUPS: dict[str, tuple[Screen, ...]] = {
-    "Home": (Screen("season.show", "Season", READ, ("season",)),),
+    "Home": (Screen("season.show", "Home", READ, ("season",)),),
     "Applications": (
         Screen("applications.show", "Applications", RECORD, (
             "applications", "applications_add")),

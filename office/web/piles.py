@@ -163,6 +163,12 @@ class Piles:
         is_other = bool(given and name and entry.meant.kind) and not answers.is_of(given, name)
         return Shown(entry, name, tuple(found), note, named, is_other)
 
+    def left_of(self, person: str) -> int:
+        """How many answers wait in the pile of a person."""
+        row = self.store.row("SELECT count(*) AS many FROM answer WHERE person=? AND state<>?",
+                             person, DONE)
+        return int(row["many"]) if row else 0
+
     def waiting(self, person: str) -> dict[str, int]:
         """How many answers wait in the piles of others, by whose they are."""
         rows = self.store.rows("SELECT person, count(*) AS many FROM answer WHERE person<>?"

@@ -32,7 +32,7 @@ def first_sign_in(office: Office) -> None:
     office.report.step("the head of the office signs in, and changes the password")
     jane = office.arrive(office.first[0])
     sign_in(jane, office.first[1])
-    office.report.same(jane.title, "Season", "the first screen of the head of the office")
+    office.report.same(jane.title, "Home", "the first screen of the head of the office")
     jane.see("Next: Schools")
 
 
@@ -112,7 +112,7 @@ def people(office: Office) -> None:
 
 def arrivals(office: Office) -> None:
     """Each signs in and sees what is theirs."""
-    firsts = {HAL: "Season", SUP: "Lots", RITA: "Season", ABBEY: "A Abbey School"}
+    firsts = {HAL: "Home", SUP: "Lots", RITA: "Home", ABBEY: "A Abbey School"}
     menus = {
         HAL: "Home Applications Children Schools Offers Reports Office", SUP: "Offers", ABBEY: "",
         RITA: "Home Children Schools Offers Reports Office"}

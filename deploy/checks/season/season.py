@@ -102,7 +102,7 @@ def other_screens(office: Office) -> None:
     office.report.step("the other screens")
     hal, rita, season = office.people[HAL], office.people[RITA], office.season
     placed = next(it for it in season.places if it not in season.plans)
-    hal.open("/", "Season, near its end")
+    hal.open("/", "Home, near the end of the season")
     hal.open("/draws/", "Draws, all of them")
     for path in ("/schools/", f"/schools/{SCHOOL}", f"/find?q={placed}",
                  f"/children/{placed}", f"/children/{placed}/correct", "/lists/", "/lists/list",

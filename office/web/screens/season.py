@@ -1,4 +1,4 @@
-"""The first screen: what is done, what is next and by when."""
+"""The first screen: what is to be done, by when, and how the season stands."""
 import datetime
 from collections.abc import Mapping
 from typing import Any
@@ -9,17 +9,21 @@ from werkzeug.wrappers import Response
 
 from office.model import Register
 
-from .. import head, steps
+from .. import home, pictures
 from ..draws_terms import LOTS, Draw
 from ..guard import SIGNED_IN, needs, parts, person
-from ..head import Waits
-from ..people import DRAW, READ, RECORD
+from ..home import Known, Task
+from ..letters_sender import Sender
+from ..people import DRAW, NOTES, READ, RECORD
 from ..schools import COLUMNS
-from ..steps import Step
+from ..staging_rows import OPEN
+from ..staging_tools import tools
 from ..wording import sentence, weekday
-from . import draws, letters
+from . import answers, draws, letters
 
 screen = flask.Blueprint("season", __name__)
+PLACES = [{"name": it, "title": it, "kind": "number" if at else "", "href": ""}
+          for at, it in enumerate(("School", "Places", "Taken", "Vacant", "Waiting"))]
 
 
 def today() -> datetime.date:
@@ -27,8 +31,8 @@ def today() -> datetime.date:
     return datetime.date.today()
 
 
-def home() -> str:
-    """The first screen of a person."""
+def first_screen() -> str:
+    """The first screen of a person who does not see the season, or ""."""
     found = person()
     if found.may(READ):
         return ""
@@ -42,66 +46,101 @@ def home() -> str:
         flask.url_for("lots.show"))
 
 
-def links(step: Step) -> list[tuple[str, str]]:
-    """The addresses of a step's screens, of those that this application has and this person may
-    see, each with its words.
-    """
-    found: dict[str, str] = {}
-    for view, words, values in step.links:
-        if words not in found and (address := address_of(view, values)):
-            found[words] = address
-    return [(address, words) for words, address in found.items()]
-
-
-def due(step: Step) -> list[tuple[str, str]]:
-    """What is due of a step, each with the address where this person does it, or ""."""
-    return [(it.said, address_of(it.view, it.values)) for it in step.due]
-
-
 def address_of(view: str, values: Mapping[str, str]) -> str:
-    """The address of a screen, if this application has it and this person may see it; or ""."""
+    """The address of a screen, if this person may see it; or ""."""
     right = getattr(flask.current_app.view_functions.get(view), "right", None)
     if right is None or not person().may(right):
         return ""
     return flask.url_for(view, **dict[str, Any](values))
 
 
-def for_head(found: Register | None, draw: Draw | None, step: str) -> list[Waits] | None:
-    """What waits for the head of the office, where the head asks."""
+def known(register: Register, draw: Draw | None) -> Known:
+    """What the application knows that this person may do something about."""
+    step = draws.next_in_words(draw, register) if draw else ""
+    if not person().may(RECORD):
+        return Known(draw, step)
+    return Known(draw, step, letters.lists().untold(register),
+                 answers.all_piles().left_of(person().name), tools().staging.count(OPEN),
+                 of_head(register))
+
+
+def of_head(register: Register) -> tuple[Task, ...]:
+    """What only a head of the office has to do."""
     if not person().may(DRAW):
-        return None
-    state = draws.state_to_come(draw, found) if draw else ""
-    return head.waiting(parts(), found, today(), draw, step, state)
+        return ()
+    found = list(home.of_people(parts().store.rows(
+        "SELECT name, signed_in, is_locked FROM person WHERE kind='person' ORDER BY name")))
+    if register.draws and not Sender(parts().store, parts().history).number:
+        found.append(Task("Type the office’s name and address", "Letters have no sender yet.",
+                          "Missing", home.WAITING, "letter_sender.show"))
+    return tuple(found)
 
 
-def untold(found: Register) -> dict[int, int]:
-    """How many letters of each draw are not recorded as sent, for who may make letters."""
-    return letters.lists().untold(found) if person().may(RECORD) else {}
+def linked(it: Task) -> dict[str, str]:
+    """A task as the page shows it."""
+    return {"title": it.title, "hint": it.hint, "state": it.state, "kind": it.kind,
+            "href": address_of(it.view, it.values) if it.view else ""}
+
+
+def bars(rows: list[tuple[str, int, str]]) -> list[tuple[str, str, str, Any]]:
+    """Numbers with their share of the whole, and a bar."""
+    every = sum(many for _, many, _ in rows)
+    return [(words, f"{many:,}", home.share(many, every), pictures.bar(many, every, kind))
+            for words, many, kind in rows]
+
+
+def page(found: Register, draw: Draw | None) -> dict[str, Any]:
+    """What the page shows of a register."""
+    day = today()
+    tasks = home.tasks(found, day, known(found, draw))
+    met = home.preferences_met(found)
+    return {
+        "tasks": [(title, [linked(it) for it in rows]) for title, rows in tasks],
+        "done": [linked(it) for it in home.done(found, day)],
+        "figures": [(it.number, it.words, it.note, address_of(it.view, it.values), it.kind)
+                    for it in home.figures(found)],
+        "dates": home.dates(found, day),
+        "season": home.season(found, day),
+        "schools": list(found.schools.values()), "places_columns": PLACES,
+        "map": home.places_map(found) if found.schools else "",
+        "vacant": home.vacant_in_words(found),
+        "answered": bars(home.answers(found)) if found.draws else [],
+        "met": bars(list(zip(home.RANKS, met, home.RANK_KINDS))) if found.draws else [],
+        "work": home.work(parts().history.entries) if person().may(NOTES) else [],
+        "form": form_of(found), "acts": acts(found),
+    }
+
+
+def acts(found: Register) -> list[tuple[str, str]]:
+    """What is done most at this time of the season, with its screen."""
+    views = (("Record answers", "answers.show"), ("Add an application", "applications_add.show"))
+    links = [(words, address_of(view, {})) for words, view in views[0 if found.draws else 1:]]
+    return [it for it in links if it[1]]
+
+
+def form_of(found: Register) -> str:
+    """The template of the form that begins what is next where a file does, or ""."""
+    is_over = bool(found.applications) and today() > found.days[0]
+    if not person().may(RECORD) or found.draws or is_over:
+        return ""
+    return "files_of_applications.html" if found.schools else "sheet_of_schools.html"
 
 
 @screen.get("/")
 @needs(SIGNED_IN)
 def show() -> str | Response:
     """The season; for somebody who may not read it, their own first screen."""
-    if other := home():
+    if other := first_screen():
         return flask.redirect(other)
     found, reason = None, ""
     try:
         found = parts().desk.now()
     except Refused as error:
         reason = sentence(str(error))
-    day = today()
     draw: Draw | None = parts().draws.present()
     if draw:
         parts().following.look(person(), draw)
         draw = parts().draws.present()
-    made = steps.steps(found, day, untold(found), draw) if found else []
-    step, first = draws.next_in_words(draw, found) if draw and found else "", steps.next_of(made)
     return flask.render_template(
-        "season.html", waits=for_head(found, draw, step), register=found, reason=reason,
-        day=weekday(day),
-        rows=[(it, links(it), due(it), steps.when(it.by, day) if it.by else "") for it in made],
-        next=first, form=first.form if first and person().may(RECORD) else "",
-        columns=COLUMNS, counts=steps.counts(found) if found else [],
-        draw=draw, next_step=step, is_running=parts().following.under_way() is not None,
-        signed_in=parts().people.signed_in())
+        "season.html", register=found, reason=reason, day=weekday(today()), columns=COLUMNS,
+        **(page(found, draw) if found else {"acts": []}))

@@ -1,0 +1,69 @@
+"""Pictures of the screens: what they draw is what the register has, by another computation."""
+import datetime
+import random
+import re
+import xml.etree.ElementTree as ET
+
+from office.web import home, pictures
+from office.web.pictures import LEAST, SIDE, Places, Span
+
+SVG = "{http://www.w3.org/2000/svg}"
+
+
+def parsed(text: str) -> ET.Element:
+    """A picture as a tree: it is well-formed."""
+    return ET.fromstring(text.replace("<svg ", '<svg xmlns="http://www.w3.org/2000/svg" ', 1))
+
+
+def test_the_map_has_each_school_and_each_square_of_homes() -> None:
+    """The numbers of vacant places, and of homes in squares of 500 metres; few homes are left out.
+    """
+    drawn = random.Random(7)
+    schools = [Places("A&B", 400_000, 300_000, 60, 45, 15),
+               Places("C", 404_000, 302_500, 30, 33, 0)]
+    homes = [(drawn.randrange(399_000, 405_000), drawn.randrange(299_000, 304_000))
+             for _ in range(900)]
+    homes += [(399_100, 299_100)] * (LEAST - 1)
+    found = parsed(str(pictures.authority_map("m", "Places <b>", "said", schools, homes)))
+    texts = [it.text for it in found.iter(f"{SVG}text")]
+    assert texts[:4] == ["15", "A&B", "0", "C"]
+    titles = [it.text or "" for it in found.iter(f"{SVG}title")]
+    assert titles[0] == "Places <b>" and titles[-1] == "C: 33 of 30 places are taken"
+    shown = [int(it.split()[0]) for it in titles if it.endswith(" homes")]
+    wanted = []
+    for east in range(398_500, 405_500, SIDE):
+        for north in range(298_500, 304_000, SIDE):
+            many = sum(east <= e < east + SIDE and north <= n < north + SIDE for e, n in homes)
+            # (a square is drawn if its corner is within the map)
+            if many >= LEAST and 398_500 < east < 405_500 and 298_500 < north < 304_000:
+                wanted.append(many)
+    assert sorted(shown) == sorted(wanted) and len(shown) > 50
+    lengths = [it.get("stroke-dasharray", "").split()[0]
+               for it in found.iter(f"{SVG}circle") if "taken" in it.get("class", "")]
+    assert lengths == ["75.0", "100.0"]
+
+
+def test_the_season_has_its_parts_and_today() -> None:
+    """In proportion to their days: a part of a quarter of the time is a quarter as long."""
+    first = datetime.date(2025, 9, 1)
+    day = datetime.timedelta(days=1)
+    spans = [Span("one", first, first + 49 * day),
+             Span("two", first + 50 * day, first + 199 * day, 1)]
+    text = str(pictures.season("s", "Season", "said", spans, first + 100 * day))
+    found = parsed(text)
+    bars = [it for it in found.iter(f"{SVG}rect") if "span" in it.get("class", "")]
+    assert [it.get("class") for it in bars] == ["span done", "span now"]
+    lengths = [float(it.get("width", "")) for it in bars]
+    assert abs(lengths[1] / lengths[0] - 149 / 49) < 0.01
+    [today] = [it for it in found.iter(f"{SVG}line") if it.get("class") == "today"]
+    assert abs(float(today.get("x1", "")) / 1160 - 100 / 200) < 0.001
+    # (a day outside of the season has no mark)
+    later = str(pictures.season("s", "Season", "said", spans, first + 300 * day))
+    assert 'class="today"' not in later and not re.search(r"style=|<script", text + later)
+
+
+def test_a_bar_is_as_long_as_its_share() -> None:
+    """And one of nothing has no length."""
+    assert 'width="24.6"' in pictures.bar(25, 100, "first")
+    assert not any("first" in pictures.bar(0, it, "first") for it in (0, 100))
+    assert home.share(1, 3) == "33.3%" and home.share(0, 0) == ""

@@ -1,0 +1,213 @@
+"""Pictures of the screens as SVG: drawn on the server from plain values, without a script, a
+library or an inline style.
+
+Each function returns one <svg> with a title and a description. Colours and the size of text come
+from classes of ui.css, so a picture follows the dark look, paper and narrow screens. A picture
+never stands alone: the macro `picture` puts a table of the same numbers below it.
+"""
+import collections
+import dataclasses
+import datetime
+import math
+from collections.abc import Iterable, Sequence
+from typing import NamedTuple
+
+from markupsafe import Markup, escape
+
+DAY = datetime.timedelta(days=1)
+# the side of a square in which homes are counted, in metres, and how few homes are not shown
+SIDE, LEAST = 500, 5
+# so far a map reaches beyond its schools, in metres
+BEYOND = 1500
+
+
+def svg(
+    name: str, width: float, height: float, title: str, text: str, parts: Iterable[str], kind: str,
+) -> Markup:
+    """A picture with its title and its description, which a screen reader says in place of it. A
+    broad one has larger words on a narrow screen.
+    """
+    kind = f"{kind} broad" if width >= 640 else kind
+    return Markup(
+        f'<svg class="drawn {kind}" viewBox="0 0 {width:g} {height:g}" role="img"'
+        f' aria-labelledby="{name}-title {name}-text"><title id="{name}-title">{escape(title)}'
+        f'</title><desc id="{name}-text">{escape(text)}</desc>{"".join(parts)}</svg>')
+
+
+def line(x1: float, y1: float, x2: float, y2: float, kind: str) -> str:
+    """A straight line."""
+    return f'<line class="{kind}" x1="{x1:.1f}" y1="{y1:.1f}" x2="{x2:.1f}" y2="{y2:.1f}"/>'
+
+
+def rect(
+    x: float, y: float, width: float, height: float, kind: str, hint: str = "", round_by: int = 0,
+) -> str:
+    """A rectangle, with a hint that a browser shows under the pointer."""
+    inside = f"><title>{escape(hint)}</title></rect>" if hint else "/>"
+    corner = f' rx="{round_by}"' if round_by else ""
+    return (f'<rect class="{kind}" x="{x:.1f}" y="{y:.1f}" width="{max(width, 0):.1f}"'
+            f' height="{max(height, 0):.1f}"{corner}{inside}')
+
+
+def label(x: float, y: float, words: str, kind: str = "", at: str = "start") -> str:
+    """A text; `at` is start, middle or end."""
+    return f'<text class="{kind}" x="{x:.1f}" y="{y:.1f}" text-anchor="{at}">{escape(words)}</text>'
+
+
+def bar(value: float, of: float, kind: str) -> Markup:
+    """A bar for the cell of a table: a length of a whole, with the class of its colour. The numbers
+    are in the cells beside it, so it is hidden from a screen reader.
+    """
+    width = 100 * value / of if of else 0
+    drawn = rect(0, 0, max(width - 0.4, 0.4), 10, kind) if value else ""
+    return Markup('<svg class="bar" viewBox="0 0 100 10" preserveAspectRatio="none"'
+                  f' aria-hidden="true">{rect(0, 0, 100, 10, "trough")}{drawn}</svg>')
+
+
+class Ground:
+    """The ground of a map: from metres on the national grid to the picture."""
+
+    def __init__(self, west: float, south: float, east: float, north: float, width: float) -> None:
+        self.west, self.south, self.east, self.north = west, south, east, north
+        self.width, self.scale = width, width / (east - west)
+        self.height = (north - south) * self.scale
+
+    def at(self, east: float, north: float) -> tuple[float, float]:
+        """A point of the picture."""
+        return (east - self.west) * self.scale, (self.north - north) * self.scale
+
+    def has(self, east: float, north: float) -> bool:
+        """Whether a point is inside."""
+        return self.west < east < self.east and self.south < north < self.north
+
+    def grid(self) -> str:
+        """The lines of the national grid: at most twelve of each kind."""
+        reach = max(self.east - self.west, self.north - self.south)
+        step = next((it for it in (1000, 2000, 5000, 10_000, 20_000) if reach / it <= 12), 50_000)
+        found = []
+        for east in range(math.ceil(self.west / step) * step, int(self.east), step):
+            x = self.at(east, 0)[0]
+            found.append(line(x, 0, x, self.height, "grid"))
+        for north in range(math.ceil(self.south / step) * step, int(self.north), step):
+            y = self.at(0, north)[1]
+            found.append(line(0, y, self.width, y, "grid"))
+        return "".join(found)
+
+    def scale_bar(self) -> str:
+        """A length of about a sixth of the picture, and where north is, in the lower left corner.
+        """
+        lengths = (500, 1000, 2000, 5000, 10_000, 20_000, 50_000)
+        metres = max((it for it in lengths if it * self.scale <= self.width / 5), default=500)
+        x, y, long = 16, self.height - 16, metres * self.scale
+        words = f"{metres // 1000} km" if metres >= 1000 else f"{metres} m"
+        return (
+            f'{rect(6, y - 26, long + 54, 34, "plate", round_by=3)}'
+            f'<path class="axis" d="M{x} {y - 6:.1f}v6h{long:.1f}v-6"/>'
+            f'{label(x + long / 2, y - 8, words, "", "middle")}'
+            f'<path class="north" d="M{x + long + 18:.1f} {y:.1f}l7-22 7 22-7-5z"/>')
+
+
+class Places(NamedTuple):
+    """A school on a map: its code, its point in metres, its places, how many children have one, and
+    how many are vacant. With plans more children can have a place than there are places.
+    """
+
+    code: str
+    east: int
+    north: int
+    places: int
+    taken: int
+    vacant: int
+
+
+def squares(homes: Iterable[tuple[int, int]]) -> dict[tuple[int, int], int]:
+    """How many homes each square has, by its south-west corner; those with fewer than LEAST are
+    left out.
+    """
+    found = collections.Counter(
+        (east // SIDE * SIDE, north // SIDE * SIDE) for east, north in homes)
+    return {corner: many for corner, many in found.items() if many >= LEAST}
+
+
+def authority_map(
+    name: str, title: str, text: str, schools: Sequence[Places], homes: Iterable[tuple[int, int]],
+) -> Markup:
+    """All schools, each as a ring that is closed as far as its places are taken, with the number of
+    those that are vacant; and the squares in which children live, the darker the more.
+    """
+    easts, norths = [it.east for it in schools], [it.north for it in schools]
+    ground = Ground(min(easts) - BEYOND, min(norths) - BEYOND,
+                    max(easts) + BEYOND, max(norths) + BEYOND, 720)
+    counts = squares(homes)
+    top, parts = max(counts.values(), default=1), [ground.grid()]
+    for (east, north), many in sorted(counts.items()):
+        if ground.has(east, north):
+            x, y = ground.at(east, north + SIDE)
+            shade = min(1 + int(4 * many / top), 4)
+            side = SIDE * ground.scale
+            parts.append(rect(x, y, side, side, f"shade s{shade}", f"{many} homes"))
+    for it in schools:
+        parts.append(ring(ground, it))
+    parts.append(ground.scale_bar())
+    return svg(name, ground.width, ground.height, title, text, parts, "map")
+
+
+def ring(ground: Ground, it: Places) -> str:
+    """A school of a map."""
+    x, y = ground.at(it.east, it.north)
+    r, share = 9 + min(math.sqrt(it.places), 16), 100 * (1 - it.vacant / it.places)
+    return (
+        f'<circle class="ring" cx="{x:.1f}" cy="{y:.1f}" r="{r:.1f}"/>'
+        f'<circle class="ring taken" cx="{x:.1f}" cy="{y:.1f}" r="{r:.1f}" pathLength="100"'
+        f' stroke-dasharray="{share:.1f} 100" transform="rotate(-90 {x:.1f} {y:.1f})">'
+        f"<title>{escape(it.code)}: {it.taken} of {it.places} places are taken</title></circle>"
+        f'{label(x, y + 5, str(it.vacant), "many", "middle")}'
+        f'{label(x, y + r + 20, it.code, "halo name", "middle")}')
+
+
+@dataclasses.dataclass(frozen=True)
+class Span:
+    """A part of a season: its words, its first and its last day, and its lane from the top."""
+
+    words: str
+    first: datetime.date
+    last: datetime.date
+    lane: int = 0
+
+    def state(self, today: datetime.date) -> str:
+        """Whether it is over, runs or is to come: the class of its colour."""
+        return "done" if self.last < today else "now" if self.first <= today else "next"
+
+
+def season(
+    name: str, title: str, text: str, spans: Sequence[Span], today: datetime.date,
+) -> Markup:
+    """The parts of a season in time, and where today is, if it is within. Words are in their bar,
+    or after it where it is too short.
+    """
+    first, last = min(it.first for it in spans).replace(day=1), max(it.last for it in spans)
+    width, row, top = 1160.0, 28.0, 26.0
+    scale, high = width / ((last - first).days + 1), top + row * (1 + max(it.lane for it in spans))
+
+    def x_of(day: datetime.date) -> float:
+        return (day - first).days * scale
+
+    parts, month = [], first
+    while month <= last:
+        words = f"{month:%b %Y}" if month.month == 1 else f"{month:%b}"
+        parts += [line(x_of(month), 20, x_of(month), high, "grid"),
+                  label(x_of(month) + 5, 14, words, "quiet")]
+        month = (month + 32 * DAY).replace(day=1)
+    for it in spans:
+        y, x, long = top + it.lane * row, x_of(it.first), max((it.last - it.first).days * scale, 8)
+        state = it.state(today)
+        hint = f"{it.words}: {it.first.day} {it.first:%B} to {it.last.day} {it.last:%B %Y}"
+        parts.append(rect(x, y, long, row - 5, f"span {state}", hint, 3))
+        is_inside = long > 7.2 * len(it.words) + 16
+        parts.append(label(x + (8 if is_inside else long + 7), y + 16.5, it.words,
+                           f"span-words {state}" if is_inside else "halo"))
+    if first <= today <= last:
+        x = x_of(today)
+        parts += [line(x, 20, x, high, "today"),
+                  f'<circle class="today" cx="{x:.1f}" cy="20" r="4.5"/>']
+    return svg(name, width, high, title, text, parts, "season")
