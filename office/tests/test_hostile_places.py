@@ -247,6 +247,7 @@ def test_each_view_that_takes_a_form_or_a_file_is_in_the_list(world: World) -> N
     inputs = [it for it in re.findall(r"<input[^>]*>", re.sub(r"\{\{.*?\}\}", "", pages))
               if 'type="file"' in it]
     there = {re.search('name="([a-z_]+)"', it)[1] for it in inputs}  # type: ignore[index]
+    there |= set(re.findall(r'text_field\("([a-z_]+)"[^}]*kind="file"', pages))
     assert there == {it for fields in FILES.values() for it in fields}
     assert {name for name, text in screens().items() if "request.files" in text} == {
         view.partition(".")[0] for view in FILES}
