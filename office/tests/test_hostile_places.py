@@ -217,7 +217,8 @@ def world_fixture(tmp_path_factory: pytest.TempPathFactory) -> Iterator[World]:
         after_round(machine, office)
         head = office.browser("hal", "head")
         something(head)
-        names = {"code": ["OAK"], "name": ["children", "waiting", "style.css"], "owner": ["jane"]}
+        names = {"code": ["OAK"], "name": ["children", "waiting", "style.css"], "owner": ["jane"],
+                 "key": ["key"]}
         gets = addresses(office, names, "GET")
         starts = sorted({it for paths in gets.values() for it in paths})
         starts += ["/letters/whom?whom=offers&value=1", "/notices/remind?day=2025-04-20"]
@@ -369,7 +370,7 @@ OF_SCHOOL = (
     "/signed-in",
 )
 OF_READER = ("lists.save", "lists.remove", "register.question")
-ODD = {"code": ["OAK"], "name": ["children"], "owner": ["jane"]}
+ODD = {"code": ["OAK"], "name": ["children"], "owner": ["jane"], "key": ["key"]}
 
 
 @pytest.mark.parametrize("role", ["reader", "school-OAK", "school-ELM", "administrator"])
