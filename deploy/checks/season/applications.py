@@ -22,7 +22,7 @@ def from_workbook(office: Office) -> None:
     report.step("applications from a workbook, with ten that have an error")
     path = office.folder / "applications.xlsx"
     town.write(path, town.COLUMNS, town.rows(given))
-    hal.see("Next: Applications")
+    hal.see("Add workbooks (.xlsx) or CSV files")
     hal.choose("Add workbooks (.xlsx) or CSV files", path)
     hal.see(f"applications.xlsx is added: {len(given) + 1} rows.")
     hal.look("Applications, with errors")

@@ -32,8 +32,8 @@ def first_sign_in(office: Office) -> None:
     office.report.step("the head of the office signs in, and changes the password")
     jane = office.arrive(office.first[0])
     sign_in(jane, office.first[1])
-    office.report.same(jane.title, "Home", "the first screen of the head of the office")
-    jane.see("Next: Schools")
+    office.report.same(jane.tab, "Home", "the first screen of the head of the office")
+    jane.see("a CSV with a row for each school")
 
 
 def schools(office: Office) -> None:
@@ -119,6 +119,6 @@ def arrivals(office: Office) -> None:
     for who, first in firsts.items():
         hands = office.arrive(who)
         sign_in(hands, office.drawn[who])
-        office.report.same(hands.title, first, f"the first screen of {who}")
+        office.report.same(hands.tab, first, f"the first screen of {who}")
         office.report.same(hands.text("nav"), menus[who], f"the menu of {who}")
         hands.look(f"The first screen of {who}")

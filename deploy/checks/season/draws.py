@@ -253,7 +253,8 @@ def rehearsed(office: Office, draw: Draw, lots: Lots) -> None:
                     for number, child, school in got)
     report.same(shown, wanted, f"the outcome of the rehearsal of {draw.numbers}")
     hal.open("/")
-    hal.see(f"{draw.title} is in progress. Next: confirm {draw.numbers}.")
+    office.report.see("A second person has to confirm it." in hal.text(".closed"),
+                      f"hal is not told whose turn it is: {hal.text('.closed')}")
     hal.press(f"To {draw.numbered}")
     hal.press(f"Confirm {draw.numbers}")
 

@@ -73,6 +73,11 @@ class Hands:
         return self.text("h1")
 
     @property
+    def tab(self) -> str:
+        """What the browser calls the screen."""
+        return str(self.driver.title).partition(" – ")[0]
+
+    @property
     def main(self) -> str:
         """All text of the screen."""
         return self.text("main")

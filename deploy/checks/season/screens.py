@@ -98,7 +98,8 @@ for (const it of all("main :is(a[href], button, input, select, summary)").filter
     it.scrollIntoView({block: "center", behavior: "instant"});
     const box = it.getClientRects()[0];
     const top = document.elementFromPoint(box.left + box.width / 2, box.top + box.height / 2);
-    if (top && !it.contains(top) && !top.contains(it)) found.push(`${named(it)} is below ${named(top)}`);
+    const isAlone = !top || it.contains(top) || top.contains(it);
+    if (!isAlone) found.push(`${named(it)} is below ${named(top)}`);
 }
 scrollTo(0, 0);
 return found.slice(0, 5);
@@ -131,7 +132,8 @@ HERE = "return document.activeElement?.dataset.stop ?? null;"
 # how far a page is wider than its window
 TOO_WIDE = """
 const it = document.documentElement;
-const out = [...document.querySelectorAll("body *")].filter((one) => !one.closest(".region, pre, .unseen")
+const out = [...document.querySelectorAll("body *")].filter((one) => (
+    !one.closest(".region, pre, .unseen"))
     && one.getBoundingClientRect().right > it.clientWidth + 1);
 return it.scrollWidth <= it.clientWidth ? [] : [`${it.scrollWidth} pixels wide, by ${
     out.slice(0, 3).map((one) => one.tagName + one.className).join(", ")}`];
