@@ -81,6 +81,11 @@ class Browser:
             self.secret = Form(found.text).secret or self.secret
         return found
 
+    def sent(self, path: str, given: dict[str, Any] | None = None) -> Answer:
+        """A form that is sent, and the page that it leads to."""
+        found = self.post(path, given)
+        return self.get(found.location) if found.status_code == 303 else found
+
     def change(self, **given: str) -> Answer:
         """A change of a person, once what it does is shown."""
         asked = self.get(f"/people/ask?{urllib.parse.urlencode(given)}")

@@ -82,13 +82,43 @@ def test_each_way_from_the_table_saves_it(
         assert away == []
         names = [it for it in fields if it.startswith("lot-")]
         form = page.form("5")
-        found = sup.post(form.action, {**fields, **form.sent_by("5"), names[0]: "77"})
+        found = sup.sent(form.action, {**fields, **form.sent_by("5"), names[0]: "77"})
         assert "Lots, page 5 of 5" in Page(found.text).tables
         form = page.form("Save, and show all lots")
         found = sup.post(form.action, {**form.sent_by("Save, and show all lots"), names[1]: "78"})
         assert (found.status_code, found.location) == (303, f"/lots/{number}/seal")
         typed_now = office.parts.lots.sheet(number)[1].cells().values()
         assert sorted(filter(None, typed_now)) == ["77", "78"]
+
+
+def test_no_step_is_sent_again_by_the_way_back(small: Machine) -> None:
+    """Each leads to an address that says what was done: the table, or all lots to be sealed where
+    none is missing; but what is saved without a button stays at the table. An address that nobody
+    was led to says nothing.
+    """
+    with small.office() as office:
+        number = begun(office)
+        brought(office, number, "lots")
+        sup = at_lots(office)
+        path, table = f"/lots/{number}", f"/lots/{number}?page=1"
+        given = {f"lot-OAK-{at}-0": str(at) for at in (1, 2, 3)}
+        found = sup.post(path, {**given, "to": "1"})
+        assert (found.status_code, found.location) == (303, f"{table}&done=saved&lots=3")
+        assert Page(sup.get(found.location).text).said() == "3 lots saved."
+        found = sup.post(f"{path}/seed", {"seed": "1 2 3"})
+        assert found.location == f"{table}&done=drawn&lots=5"
+        last = {"lot-ELM-2-0": "8", "lot-ELM-3-0": "9"}
+        found = sup.post(path, last)
+        assert found.location == f"{table}&done=saved&lots=2"
+        assert "2 lots saved." in sup.get(found.location).text
+        found = sup.post(path, {**last, "to": "1"})
+        assert found.location == f"{path}/seal?done=saved&lots=0"
+        page = Page(sup.get(found.location).text)
+        assert page.said() == "What is on this page is saved."
+        assert "Seal the lots of draw 1" in page.buttons()
+        for words in ("done=saved", "done=taken&lots=1", "lots=7", "done=x&lots=7",
+                      "done=taken&lots=1&changed=<b>&draw=1"):
+            assert Page(sup.get(f"{table}&{words}").text).said() == ""
 
 
 def test_what_is_wrong_is_marked_at_its_cell(small: Machine) -> None:
@@ -103,7 +133,7 @@ def test_what_is_wrong_is_marked_at_its_cell(small: Machine) -> None:
                  "lot-OAK-3-0": "<b>x</b>", "lot-OAK-4-0": "4294967296", "lot-OAK-5-0": "-1",
                  "lot-ELM-2-0": "٣", "lot-ELM-3-0": "=1+1", "lot-NONE-3-0": "1",
                  "lot-OAK-1-9": "1"}
-        page = sup.post(f"/lots/{number}", given)
+        page = sup.sent(f"/lots/{number}", given)
         assert page.status_code == 200 and "<b>x" not in page.text
         fields, no_number = Fields(page.text), "has a lot that is no number"
         assert {it: fields.said(it) for it in fields.values if it.startswith("lot-")} == {
@@ -138,7 +168,7 @@ def test_two_at_the_lots_see_each_other(small: Machine) -> None:
         sheet = office.parts.lots.sheet(number)[1]
         assert sheet.cells()[("OAK", 1), 0] == "1" and sheet.cells()[("OAK", 2), 0] == ""
         again = {it: value for it, value in fields.values.items() if "lot-" in it}
-        assert two.post(f"/lots/{number}", again).status_code == 200
+        assert two.sent(f"/lots/{number}", again).status_code == 200
         sheet = office.parts.lots.sheet(number)[1]
         assert sheet.cells()[("OAK", 1), 0] == "8" and sheet.cells()[("OAK", 2), 0] == "2"
         # an untouched cell does not take back what somebody else saved there
@@ -233,13 +263,13 @@ def test_lots_come_from_a_sheet(small: Machine) -> None:
         filled: list[list[object]] = [list(rows[0])]
         filled += [[*row[:2], 50 + at] for at, row in enumerate(rows[1:])]
         path = f"/lots/{number}/sheet"
-        page = sup.post(path, {"file": (io.BytesIO(workbook(filled)), "lots.xlsx")})
+        page = sup.sent(path, {"file": (io.BytesIO(workbook(filled)), "lots.xlsx")})
         assert page.status_code == 200 and "10 lots of draw 1: 10 new or changed." in page.text
         want = {(str(row[0]), int(str(row[1]))): str(row[2]) for row in filled[1:]}
         cells = office.parts.lots.sheet(number)[1].cells()
         assert {pair: text for (pair, _), text in cells.items()} == want
         part = b"OAK;1;900\r\nOAK;2;901\r\n"
-        page = sup.post(path, {"file": (io.BytesIO(part), "x.csv")})
+        page = sup.sent(path, {"file": (io.BytesIO(part), "x.csv")})
         assert "2 lots of draw 1: 2 new or changed." in page.text
         found = sup.client.get(f"/lots/{number}/sheet.xlsx", base_url=ORIGIN)
         assert zipfile.is_zipfile(io.BytesIO(found.data))
@@ -263,7 +293,7 @@ def test_each_of_several_fills_has_a_sheet_that_names_it(small: Machine) -> None
         path = f"/lots/{number}/sheet"
         page = sup.post(path, {"file": (io.BytesIO(workbook(filled)), "a.xlsx"), "fill": "0"})
         assert page.status_code == 409 and "lots of draw &#34;3&#34;, and draw 2" in page.text
-        page = sup.post(path, {"file": (io.BytesIO(workbook(filled)), "a.xlsx"), "fill": "1"})
+        page = sup.sent(path, {"file": (io.BytesIO(workbook(filled)), "a.xlsx"), "fill": "1"})
         assert "4 lots of draw 3: 4 new or changed." in page.text
         cells = office.parts.lots.sheet(number)[1].cells()
         assert sorted(text for (_, at), text in cells.items() if at == 1) == [

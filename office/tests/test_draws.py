@@ -194,8 +194,8 @@ def test_a_round_by_five_hands(machine: Machine, town: Town) -> None:
         assert {(it[1], int(it[2])) for it in parts} == decided
         given = {f"lot-{code}-{it}-0": str(lots[code, it]) for code, it in sorted(decided)}
         assert "Abel" not in sup.get("/lots/1").text
-        assert f"{len(decided)} lots saved." in sup.post("/lots/1", given).text
-        page = sup.post("/lots/1/seed", {"seed": " 05 17 23"})
+        assert f"{len(decided)} lots saved." in sup.sent("/lots/1", given).text
+        page = sup.sent("/lots/1/seed", {"seed": " 05 17 23"})
         assert f"{len(lots) - len(decided)} lots are drawn by the seed." in page.text
         # (the last lots lead to the seal)
         values = Fields(page.text).values

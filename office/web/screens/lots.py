@@ -116,11 +116,31 @@ def sheet_page(
     ), status
 
 
-def kept_page(number: int, said: str, shown: int | None = None) -> Answer:
-    """The table, or all lots to be sealed where each pair has its lot."""
-    _, sheet = found_sheet(number)
-    return sheet_page(number, said, shown=shown) if sheet.wrong() else (
-        whole_page(number, said=said))
+def said_now() -> str:
+    """What was done before this page, as its address counts it."""
+    lots, other, draw = (numbers.read(flask.request.args.get(it, ""))
+                         for it in ("lots", "changed", "draw"))
+    done = flask.request.args.get("done", "") if lots >= 0 else ""
+    if done == "saved":
+        return f"{texts.count(lots, 'lot')} saved." if lots else (
+            "What is on this page is saved.")
+    if done == "drawn":
+        return f"{texts.count(lots, 'lot is', 'lots are')} drawn by the seed."
+    if done == "taken" and other >= 0 and draw > 0:
+        return f"The file has {texts.count(lots, 'lot')} of draw {draw}: {other} new or changed."
+    return ""
+
+
+def kept(
+    number: int, done: str, lots: int, shown: int = 1, is_table: bool = False, **more: int
+) -> Response:
+    """Leads to the table, or to all lots to be sealed where each pair has its lot, which says what
+    was done: an address of its own, so that Back from there sends nothing again.
+    """
+    address: dict[str, Any] = {"number": number, "done": done, "lots": lots, **more}
+    if is_table or found_sheet(number)[1].wrong():
+        return flask.redirect(flask.url_for("lots.one", page=shown, **address), 303)
+    return flask.redirect(flask.url_for("lots.whole", **address), 303)
 
 
 def free_cells(sheet: Sheet) -> int:
@@ -159,7 +179,9 @@ def one(number: int) -> Answer:
     """The lots of a draw: the table, or all of them to be sealed where each pair has its lot and no
     page of the table is asked for.
     """
-    return sheet_page(number) if "page" in flask.request.args else kept_page(number, "")
+    draw, sheet = found_sheet(number)
+    is_table = draw.state == LOTS and (sheet.wrong() or "page" in flask.request.args)
+    return sheet_page(number, said_now()) if is_table else whole_page(number, said=said_now())
 
 
 @screen.post("/<int:number>")
@@ -174,9 +196,8 @@ def save(number: int) -> Answer:
     to = flask.request.form.get("to", "")
     if to == "all":
         return flask.redirect(flask.url_for("lots.whole", number=number), 303)
-    shown = int(to) if to.isascii() and to.isdigit() and len(to) < 6 else None
-    said = f"{texts.count(count, 'lot')} saved." if count else "What is on this page is saved."
-    return kept_page(number, said, shown)
+    # (what is typed is saved without a button too, and is on the table then)
+    return kept(number, "saved", count, numbers.read(to, page_asked()), not to)
 
 
 @screen.post("/<int:number>/seed")
@@ -188,7 +209,7 @@ def seed(number: int) -> Answer:
         count = parts().lots.draw_by_seed(person(), number, flask.request.form.get("seed", ""))
     except Refused as error:
         return sheet_page(number, reason=f"Nothing was drawn: {error}.", status=409)
-    return kept_page(number, f"{texts.count(count, 'lot is', 'lots are')} drawn by the seed.")
+    return kept(number, "drawn", count)
 
 
 @screen.post("/<int:number>/sheet")
@@ -217,8 +238,7 @@ def upload(number: int) -> Answer:
         changed = parts().lots.take(person(), number, fill, lots)
     except Refused as error:
         return sheet_page(number, reason=f"Nothing was taken: {error}.", status=409)
-    return kept_page(number, f"The file has {texts.count(len(lots), 'lot')} of draw {of}:"
-                             f" {changed} new or changed.")
+    return kept(number, "taken", len(lots), changed=changed, draw=of)
 
 
 @screen.get("/<int:number>/sheet.<any(xlsx, csv):kind>")
@@ -247,7 +267,7 @@ def sheet_file(number: int, kind: str) -> flask.Response:
 @needs(RIGHT)
 def whole(number: int) -> Answer:
     """All lots, before they are sealed or after."""
-    return whole_page(number)
+    return whole_page(number, said=said_now())
 
 
 @screen.post("/<int:number>/seal")
