@@ -20,7 +20,7 @@ from conftest import apply, school
 
 from office import book, texts
 from office.register_lists import Rows
-from office.web import flags, list_choice
+from office.web import flags, list_choice, tables
 
 # A has two places and B one: the nearest two have A, the third B, and the fourth none
 ADA, BEN, CYD, DAI = "Ada Abel", "Ben Bell", "Cyd <b>Cole</b>", "Dai O'Dare"
@@ -153,7 +153,8 @@ def test_columns_and_order_are_chosen(browser: Browser) -> None:
     assert names(listed(browser, "children", order="name", down="yes")) == [
         DAI, CYD, BEN, ADA, SUM]
     cells: Rows = [[2], [10], ["9.5"], [None], ["B"], ["a"]]
-    assert list_choice.in_order(cells, 0, False) == [[2], ["9.5"], [10], ["a"], ["B"], [None]]
+    assert tables.in_order(cells, lambda it: it[0], False) == [
+        [2], ["9.5"], [10], ["a"], ["B"], [None]]
 
 
 def test_one_child_and_a_name_have_lists_too(browser: Browser) -> None:
@@ -253,9 +254,9 @@ def test_children_on_other_screens_have_the_files_of_their_list(
 
 def test_a_long_list_has_pages(browser: Browser, monkeypatch: pytest.MonkeyPatch) -> None:
     """On paper all rows are on one."""
-    monkeypatch.setattr(list_choice, "PAGE", 2)
+    monkeypatch.setattr(tables, "PAGE", 2)
     asked = {"1": [ADA, BEN], "2": [CYD, DAI], "3": [SUM], "99": [SUM], "x": [ADA, BEN],
-             "": [ADA, BEN], "0": [ADA, BEN], "-1": [ADA, BEN], "1" * 9: [ADA, BEN],
+             "": [ADA, BEN], "0": [ADA, BEN], "-1": [ADA, BEN], "1" * 30: [ADA, BEN],
              "all": [ADA, BEN, CYD, DAI, SUM]}
     for number, wanted in asked.items():
         assert names(listed(browser, "children", page=number)) == wanted, number

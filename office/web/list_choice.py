@@ -2,8 +2,7 @@
 in the address of the screen, so that it can be kept and passed on.
 """
 import dataclasses
-import math
-import re
+import operator
 from collections.abc import Iterator, Sequence
 
 from werkzeug.datastructures import MultiDict
@@ -12,14 +11,11 @@ from office import texts
 from office.model import Register
 from office.register_lists import Cell, Rows
 
-from . import worklists
+from . import tables, worklists
 
-# so many rows are on a page of the screen; on paper all of them are
-PAGE = 500
 # the columns that say in which state something is, and those that name schools one after another
 STATES, SEVERAL = ("place", "came", "held", "kind"), ("preferences", "waiting")
 NONE = "none"
-NUMBER = re.compile(r"[0-9]{1,15}(?:\.[0-9]{1,6})?")
 NO_COLUMN, NO_SCHOOL, NO_STATE = "a column of the list", "one of the list", "one of the list"
 
 
@@ -108,7 +104,8 @@ def chosen(choice: Choice, rows: Rows, register: Register) -> Rows:
     header, *others = rows
     found = [it for it in others if is_meant(choice, header, it, register)]
     if choice.order:
-        found = in_order(found, header.index(choice.order), choice.is_down)
+        found = tables.in_order(found, operator.itemgetter(header.index(choice.order)),
+                                choice.is_down)
     kept = [at for at, name in enumerate(header) if name in (choice.columns or header)]
     return [[row[at] for at in kept] for row in [header, *found]]
 
@@ -138,40 +135,3 @@ def has_words(words: str, row: list[Cell], register: Register) -> bool:
     whole = set(text.split())
     return all(it in whole if it.isdigit() else it in text
                for it in texts.folded(words).split())
-
-
-def in_order(rows: Rows, at: int, is_down: bool) -> Rows:
-    """Rows by a column. What is empty there comes last, whichever comes first."""
-    filled = [it for it in rows if it[at] not in (None, "")]
-    empty = [it for it in rows if it[at] in (None, "")]
-    return sorted(filled, key=lambda it: key_of(it[at]), reverse=is_down) + empty
-
-
-def key_of(cell: Cell) -> tuple[float, str, str]:
-    """By numbers as such, and then by words."""
-    text = str(cell)
-    if isinstance(cell, int) or NUMBER.fullmatch(text):
-        return (float(text), "", text)
-    return (math.inf, texts.plain(text), text)
-
-
-@dataclasses.dataclass(frozen=True)
-class Paged:
-    """The rows of a page of a list, without the header; its number, and how many pages there are;
-    all is on one where number is 0.
-    """
-
-    rows: Rows
-    number: int
-    count: int
-
-
-def paged(rows: Rows, asked: str) -> Paged:
-    """A page of a list's rows, of which the first is the header; all of them where that is asked.
-    """
-    count = max(1, math.ceil((len(rows) - 1) / PAGE))
-    if asked == "all":
-        return Paged(rows[1:], 0, count)
-    number = int(asked) if asked.isascii() and asked.isdigit() and len(asked) < 7 else 1
-    number = min(max(number, 1), count)
-    return Paged(rows[1 + (number - 1) * PAGE:1 + number * PAGE], number, count)

@@ -2,15 +2,22 @@
 has several, the name of the table is before it: `?order=TABLE.COLUMN`.
 """
 import dataclasses
-from collections.abc import Callable, Mapping, Sequence
+import math
+import re
+from collections.abc import Callable, Iterable, Mapping, Sequence
 from typing import Any, Generic, TypeVar
 
 import flask
 
 from office import texts
 
+from . import numbers
+
 Row = TypeVar("Row")
 UP, DOWN = "ascending", "descending"
+NUMBER = re.compile(r"[0-9]{1,15}(?:\.[0-9]{1,6})?")
+# so many rows are on a page of the screen; on paper all of them are
+PAGE = 500
 
 
 @dataclasses.dataclass(frozen=True)
@@ -40,18 +47,25 @@ def table(
     is_down, before = asked.endswith(".down"), f"{name}." if name else ""
     found = columns.get(column) if asked.startswith(before) else None
     made, sort = list(rows), ("", "")
-    if found and (by := found.by):
-        there = [it for it in made if by(it) not in (None, "")]
-        there.sort(key=lambda row: in_order(by(row)), reverse=is_down)
-        # (what is not there comes last in both orders)
-        made = there + [it for it in made if by(it) in (None, "")]
-        sort = column, DOWN if is_down else UP
+    if found and found.by:
+        made, sort = in_order(made, found.by, is_down), (column, DOWN if is_down else UP)
     return Table(made, [head(before, it, columns[it], sort) for it in columns], sort)
 
 
-def in_order(value: Any) -> Any:
-    """By what a value is put in order: a name without accents."""
-    return texts.plain(value) if isinstance(value, str) else value
+def in_order(rows: Iterable[Row], by: Callable[[Row], Any], is_down: bool) -> list[Row]:
+    """Rows by a value of each. What has none comes last, whichever comes first."""
+    filled, empty = list[Row](), list[Row]()
+    for it in rows:
+        (empty if by(it) in (None, "") else filled).append(it)
+    return sorted(filled, key=lambda it: key_of(by(it)), reverse=is_down) + empty
+
+
+def key_of(value: Any) -> tuple[float, str, str]:
+    """By numbers and days as such, and then by words without accents."""
+    text = str(value)
+    if isinstance(value, int) or NUMBER.fullmatch(text):
+        return (float(value), "", text)
+    return (math.inf, texts.plain(text), text)
 
 
 def pages(view: str, **values: Any) -> str:
@@ -67,9 +81,30 @@ def head(before: str, column: str, it: Column[Any], sort: tuple[str, str]) -> di
     # (a page that answers a form has no address)
     if it.by and flask.request.method == "GET":
         way = ".down" if sort == (column, UP) else ""
-        others = {key: value for key, value in flask.request.args.items() if key != "order"}
+        others = {key: value for key, value in flask.request.args.items()
+                  if key not in ("order", "page")}
         values = {**(flask.request.view_args or {}), **others}
         made["href"] = flask.url_for(flask.request.endpoint or "", **values,
                                      order=f"{before}{column}{way}",
                                      _anchor=before.rstrip(".") or None)
     return made
+
+
+@dataclasses.dataclass(frozen=True)
+class Paged(Generic[Row]):
+    """The rows of a page of a table; its number, and how many pages there are; all is on one where
+    number is 0.
+    """
+
+    rows: Sequence[Row]
+    number: int
+    count: int
+
+
+def paged(rows: Sequence[Row], asked: str) -> Paged[Row]:
+    """A page of a table; all of its rows where that is asked."""
+    count = max(1, math.ceil(len(rows) / PAGE))
+    if asked == "all":
+        return Paged(rows, 0, count)
+    number = min(max(numbers.read(asked, 1), 1), count)
+    return Paged(rows[(number - 1) * PAGE:number * PAGE], number, count)

@@ -4,6 +4,7 @@ and as CSV; and the views that a person has saved.
 import dataclasses
 import datetime
 import urllib.parse
+from collections.abc import Sequence
 from typing import Any
 
 import flask
@@ -16,7 +17,7 @@ from office.book import Page
 from office.model import Register
 from office.register_lists import Cell, Rows
 
-from .. import flags, guard, list_choice, worklists
+from .. import flags, guard, list_choice, tables, worklists
 from ..guard import needs, parts, person
 from ..list_choice import Choice
 from ..list_views import Views
@@ -76,6 +77,12 @@ class Asked:
         return list_choice.chosen(self.choice, self.all_rows, self.register)
 
     @property
+    def sort(self) -> tuple[str, str]:
+        """The column that gives the order, and from which end."""
+        end = tables.DOWN if self.choice.is_down else tables.UP
+        return (self.choice.order, end) if self.choice.order else ("", "")
+
+    @property
     def is_wrong(self) -> bool:
         """Whether something of what was asked for cannot be."""
         return bool(self.wrong) or any(it.wrong for it in self.options)
@@ -115,7 +122,7 @@ def page(found: Asked, number: str, said: str = "", status: int = 200, typed: st
     """The page of a list."""
     is_shown = bool(found.all_rows) and not found.wrong
     rows: Rows = found.rows if is_shown else [[]]
-    shown, header = list_choice.paged(rows, number), rows[0]
+    shown, header = tables.paged(rows[1:], number), rows[0]
     columns = [str(it) for it in found.all_rows[0]] if found.all_rows else []
     states = list_choice.states(found.all_rows) if found.all_rows else []
     return flask.render_template(
@@ -125,7 +132,8 @@ def page(found: Asked, number: str, said: str = "", status: int = 200, typed: st
         states=[(it, it) for it in states], orders=[(it, it.capitalize()) for it in columns],
         has_children=bool(found.all_rows) and worklists.CHILD in found.all_rows[0],
         has_schools=bool(found.all_rows) and list_choice.has_schools(found.all_rows),
-        schools=worklists.choices(found.register, "school"), heads=heads(found, header),
+        schools=worklists.choices(found.register, "school"), heads=heads(found, header, shown.rows),
+        sort=found.sort,
         is_shown=is_shown, count_all=len(found.all_rows) - 1, count_found=len(rows) - 1,
         page=shown, words=found.words, today=today(), said=said, typed=typed,
         query=urllib.parse.urlencode(found.address, doseq=True),
@@ -133,19 +141,21 @@ def page(found: Asked, number: str, said: str = "", status: int = 200, typed: st
     ), 400 if found.is_wrong and status == 200 else status
 
 
-def heads(found: Asked, header: list[Cell]) -> list[dict[str, Any]]:
-    """The columns that are shown: each with the address of the list in its order, and with the
-    order that it has.
-    """
+def heads(
+    found: Asked, header: list[Cell], rows: Sequence[list[Cell]],
+) -> list[dict[str, str]]:
+    """The columns that are shown: each with the address of the list in its order."""
+    others = {name: value for name, value in found.address.items()
+              if name not in ("order", "down")}
     made = []
-    for it in header:
-        is_order = found.choice.order == it
-        is_down = is_order and not found.choice.is_down
-        way = {"order": str(it), **({"down": "yes"} if is_down else {})}
-        others = {name: value for name, value in found.address.items()
-                  if name not in ("order", "down")}
-        sort = ("descending" if found.choice.is_down else "ascending") if is_order else ""
-        made.append({"name": str(it), "address": {**others, **way}, "sort": sort})
+    for at, it in enumerate(header):
+        name = str(it)
+        is_next_down = found.sort == (name, tables.UP)
+        way = {"order": name, **({"down": "yes"} if is_next_down else {})}
+        values: dict[str, Any] = {**others, **way}
+        kind = "number" if any(isinstance(row[at], int) for row in rows) else ""
+        made.append({"name": name, "title": name.capitalize(), "kind": kind,
+                     "href": flask.url_for("lists.one", name=found.name, **values)})
     return made
 
 
