@@ -99,17 +99,24 @@ def order(nth: int | str) -> tuple[float, str]:
     return (math.inf, nth) if isinstance(nth, str) else (nth, "")
 
 
+def met(register: Register, draw: int) -> list[tuple[int | str, int, str]]:
+    """How many children a draw left with their first, second, .. preference, or with none, and how
+    many percent of those who took part that is.
+    """
+    outcomes = register.outcomes[draw]
+    counts = collections.Counter(preference(register, *it) for it in outcomes.items())
+    found = []
+    for nth in sorted(counts, key=order):
+        # (tenths of a percent, rounded half up)
+        tenths = (2000 * counts[nth] + len(outcomes)) // (2 * len(outcomes))
+        found.append((nth, counts[nth], f"{tenths // 10}.{tenths % 10}"))
+    return found
+
+
 def preferences(register: Register) -> Rows:
-    """How many children each round left with their first, second, .. preference, or with none."""
-    rows: Rows = []
-    for draw in register.rounds:
-        outcomes = register.outcomes[draw.number]
-        counts = collections.Counter(preference(register, *it) for it in outcomes.items())
-        for nth in sorted(counts, key=order):
-            # (tenths of a percent, rounded half up)
-            tenths = (2000 * counts[nth] + len(outcomes)) // (2 * len(outcomes))
-            percent = f"{tenths // 10}.{tenths % 10}"
-            rows.append([draw.round, draw.day.isoformat(), nth, counts[nth], percent])
+    """The same of each round."""
+    rows: Rows = [[draw.round, draw.day.isoformat(), *it] for draw in register.rounds
+                  for it in met(register, draw.number)]
     return [["round", "day", "preference", "children", "percent"], *rows]
 
 

@@ -36,7 +36,7 @@ ANSWERED = ("03-02", "03-03", "03-04", "03-05", "03-08", "03-09", "03-10", "03-1
 PLANS = ("DEAN", "HIGH", "QUAY", "CLIFF", "HIGH")
 LONGEST_WAIT = 600.0
 # what a page has while a step of it goes on
-RUNNING = ("data-running", 'http-equiv="refresh"')
+RUNNING = ("data-running",)
 Answer = Any
 
 
@@ -229,7 +229,8 @@ class Making:
         self.drawn(HEAD, "close")
         pairs = supervisor.get("/lots/1/sheet.csv").data
         sheet = try_season.lots_sheet(pairs)
-        page = supervisor.upload("/lots/1/sheet", "file", "lots.csv", sheet, 200).text
+        found = supervisor.upload("/lots/1/sheet", "file", "lots.csv", sheet)
+        page = supervisor.get(found.headers["Location"]).text
         supervisor.post("/lots/1/seal", {it: field(page, it) for it in ("seen", "digest")})
 
     def confirmed(self) -> None:

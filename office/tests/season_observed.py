@@ -101,7 +101,8 @@ class Trace:
             self.add("machine", [f"left: {it.name}" for one in left for it in one.rglob("*.*")])
             self.pages()
             return
-        copies = self.room.person("rita").get("/copies/").page.tables["copies"][1:]
+        tables = self.room.person("rita").get("/copies/").page.tables
+        copies = tables.get("copies", [])[1:]
         self.add("machine", [f"copy {row[0]} for {row[2]}, asked by {row[3]}"
                              for row in self.new("copies", copies[::-1])])
 

@@ -264,7 +264,7 @@ def test_a_stale_page_goes_on_with_nothing(small: Machine) -> None:
 
 def test_long_work_says_that_it_runs(small: Machine, monkeypatch: pytest.MonkeyPatch) -> None:
     """Who holds a draw has an answer while the audit runs. The page says what runs, has no button
-    and looks again by itself; the browser need not stay for the audit and the opening to follow.
+    and is read again by itself; the browser need not stay for the audit and the opening to follow.
     """
     with small.office() as office:
         number = begun(office)
@@ -287,7 +287,7 @@ def test_long_work_says_that_it_runs(small: Machine, monkeypatch: pytest.MonkeyP
         seen = str(version(office, number))
         for who in (hal, jane):
             page = who.browser.get(f"/draws/{number}").text
-            assert '<meta http-equiv="refresh"' in page and "begun by hal" in page
+            assert f'data-running="/draws/{number}"' in page and "begun by hal" in page
             assert "the draw is held, and then audited." in page
             assert "Audit draw 1</button>" not in page and "Ask to restore" not in page
             assert "is in progress, and a step of it runs now." in who.browser.get("/").text
@@ -296,7 +296,7 @@ def test_long_work_says_that_it_runs(small: Machine, monkeypatch: pytest.MonkeyP
         may_end.set()
         assert work.is_over.wait(600)
         page = hal.browser.get(f"/draws/{number}").text
-        assert "the register is open for all again" in page and "refresh" not in page
+        assert "the register is open for all again" in page and "data-running" not in page
         assert [it.who for it in office.parts.draws.get(number).done[-2:]] == ["hal", "hal"]
 
 

@@ -70,7 +70,8 @@ def locked(office: Site, name: str) -> None:
 
 def ends(browser: Browser, number: int) -> set[str]:
     """The buttons of a draw's page by which it ends, or goes on."""
-    return set(Page(browser.get(f"/draws/{number}").text).buttons())
+    # (nor does the search of its outcome)
+    return set(Page(browser.get(f"/draws/{number}").text).buttons()) - {"Find"}
 
 
 def wanted(state: str, of: str, how: str, who: str) -> set[str]:

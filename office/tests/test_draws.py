@@ -214,8 +214,8 @@ def test_a_round_by_five_hands(machine: Machine, town: Town) -> None:
         shown = hal.browser.get("/draws/1").text
         assert "from then on until the register is open again. All can still read" in shown
         placed = sum(it is not None for it in wanted.values())
-        assert f"<dt>A new place</dt><dd>{placed} children</dd>" in shown
-        assert f"<dt>No place</dt><dd>{40 - placed} children</dd>" in shown
+        for words, many in (("A new place", placed), ("No place", 40 - placed)):
+            assert re.search(rf'>{words}</a></dt><dd class="number">{many}</dd>', shown)
         assert "<bdi>&lt;script&gt;alert(1)&lt;/script&gt; 3</bdi>" in shown
         assert hal.step(1, "confirm").status_code == 409
         assert jane.step(1, "confirm").status_code == 303
@@ -244,6 +244,40 @@ def test_a_round_by_five_hands(machine: Machine, town: Town) -> None:
         assert purposes == ["after draw 1", "before draw 1"]
         assert all(re.fullmatch(r"office-00000[12]-\d{4}-\d\d-\d\dT\d{6}\.db", it) for it in names)
         assert [(machine.copies / it).stat().st_mode & 0o777 for it in names] == [0o640] * 2
+
+
+def test_the_outcome_is_found_and_put_in_order(small: Machine) -> None:
+    """One place at OAK, which all five want first: its nearest has it, and four wait there. Each
+    table has an order of its own, and each child its page.
+    """
+    with small.office() as office:
+        number = begun(office)
+        brought(office, number, "rehearsed")
+        jane = office.browser("jane")
+
+        def tables(given: str = "") -> dict[str, list[list[str]]]:
+            return Page(jane.get(f"/draws/{number}?{given}").text).tables
+
+        def children(given: str) -> list[str]:
+            found = next(rows for name, rows in tables(given).items()
+                         if name.startswith("By child"))
+            return [it[1] for it in found[1:]]
+
+        schools = [["ELM ELM School", "9", "4", "0", "0", "0", "5", "0", "0"],
+                   ["OAK OAK School", "1", "1", "0", "0", "0", "0", "4", "0"]]
+        assert tables()["By school"][1:] == schools
+        assert tables("order=schools.waiting.down&q=x")["By school"][1:] == (
+            schools[::-1])
+        assert tables()["met"][1:] == [["First preference", "1", "20.0"],
+                                       ["Second preference", "4", "80.0"]]
+        assert children("") == ["1", "2", "3", "4", "5"]
+        assert children("order=children.has") == ["2", "3", "4", "5", "1"]
+        assert children("q=elm&order=children.child.down") == ["5", "4", "3", "2"]
+        assert children("q=3") == ["3"] and children("q=x") == children("what=none") == []
+        page = jane.get(f"/draws/{number}?q=elm&order=children.child")
+        assert "By child: 4 of 5" in Page(page.text).tables
+        assert 'href="/children/2"' in page.text
+        assert f'href="/draws/{number}?q=elm&amp;order=children.child.down#children"' in page.text
 
 
 def test_a_second_round(machine: Machine, town: Town) -> None:
@@ -1046,7 +1080,7 @@ def test_what_looks_wrong_is_read_before_it_closes(small: Machine) -> None:
         at = page.text.index(">Confirm draw 1</button>")
         assert page.text.index("<caption>By school</caption>") < at
         assert at < page.text.index("<caption>By child</caption>")
-        assert at < page.text.index("<caption>Steps</caption>")
+        assert at < page.text.index('aria-label="Steps"')
 
 
 def test_the_checks_have_all_that_a_file_is_asked(small: Machine) -> None:

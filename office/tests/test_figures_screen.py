@@ -175,10 +175,11 @@ def test_last_year_is_beside_it(browser: Browser, last_year: pathlib.Path) -> No
     assert done.status_code == 303, done.text
     found = Cells(browser.get(done.location).text)
     rows = found.tables["Schools beside those of 2024, as they are published"]
-    assert [it[:3] for it in rows[2:]] == [
+    assert [it[:3] for it in rows[1:]] == [
         ["ELM ELM School", "2", "2"], ["OAK OAK School", "7", "8"]]
     met = found.tables["Preferences that were met, as they are published"]
-    assert met[0] == ["", "2025", "2024"] and len(met[2]) == 5
+    assert met[0] == ["Place", "Children, 2025", "Percent, 2025", "Children, 2024",
+                      "Percent, 2024"] and len(met[1]) == 5
     page = browser.get(f"{done.location}/page").text
     assert "Compared with 2024" in page
 

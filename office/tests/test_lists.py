@@ -17,6 +17,7 @@ import openpyxl
 import pytest
 from applications import ROUND, Browser, Site, child, office_over, town
 from conftest import apply, school
+from pages import Page, press
 
 from office import book, texts
 from office.register_lists import Rows
@@ -46,7 +47,7 @@ class Table(html.parser.HTMLParser):
         self.is_error = self.is_error or found.get("class") == "error"
         self.is_list = self.is_list or found.get("id") == "list"
         self.is_paper = self.is_paper or found.get("class") == "paper-title"
-        if not self.is_list or self.is_paper:
+        if not self.is_list or self.is_paper or found.get("class") == "screen-only":
             return
         if tag == "tr" and self.at == "tbody":
             self.rows.append([])
@@ -59,14 +60,14 @@ class Table(html.parser.HTMLParser):
 
     def handle_endtag(self, tag: str) -> None:
         """Ends what is marked, and the table."""
-        self.is_error = self.is_error and tag != "span"
+        self.is_error = self.is_error and tag != "p"
         self.is_paper = self.is_paper and tag != "td"
         self.is_list = self.is_list and tag != "table"
 
     def handle_data(self, data: str) -> None:
         """Takes a text."""
         if self.is_error:
-            self.errors.append(data)
+            self.errors += [data] if data != "Error: " else []
         elif self.is_paper:
             self.paper += data
         elif self.is_list and data.strip("\n ▲▼"):
@@ -272,8 +273,6 @@ def test_paper_says_what_it_is(browser: Browser) -> None:
     paper = listed(browser, "children", at="A", words="bell").paper
     assert paper.startswith("All children, with “bell”, at A")
     assert 'Tŷ "Ddewi" Council, secondary-2025, as of ' in paper and "1 of 5 rows" in paper
-    assert '<link rel="stylesheet" href="/sheet.css" media="print">' in browser.get(
-        "/lists/children").text
 
 
 def test_a_person_saves_a_view(office: Site, browser: Browser) -> None:
@@ -340,3 +339,58 @@ def test_words_are_those_of_the_command(browser: Browser) -> None:
     assert texts.folded("Abel, Ada") == "abel ada"
     assert names(listed(browser, "children", words="Abel, Ada")) == [ADA]
     assert len(names(listed(browser, "children", words=" "))) == 5
+
+
+def piled(office: Site, who: str) -> list[tuple[Any, ...]]:
+    """What is in the pile of somebody."""
+    rows = office.parts.store.rows(
+        "SELECT child, school, kind, trouble FROM answer WHERE person=? ORDER BY number", who)
+    return [tuple(it) for it in rows]
+
+
+def test_children_of_a_list_are_put_into_a_pile(office: Site) -> None:
+    """Each without an answer, which is given there: to its offer, or about the list where it waits.
+    Only an answer that can be one of it is taken.
+    """
+    june, yet = office.browser("june", "officer"), "no answer yet"
+    for name, row in (("no-answer", "3 B"), ("list", "4 A"), ("unplaced", "4")):
+        page = Page(june.get(f"/lists/{name}").text)
+        found = press(june, f"/lists/{name}", page, "Put into my batch", row=[row])
+        assert (found.status_code, found.location) == (303, "/answers/")
+    assert piled(office, "june") == [
+        (3, "B", "", yet), (4, "A", "", yet), (4, "A", "", yet), (4, "B", "", yet)]
+    buttons = Page(june.get("/answers/").text).buttons()
+    assert "Record" not in " ".join(buttons)
+    assert {"3: accept", "3: decline", "4: leave the list at A"} <= set(buttons)
+    for at, answer in ((0, "leave_list"), (0, "accept"), (1, "accept"), (1, "leave_list")):
+        number = office.parts.store.rows("SELECT number FROM answer ORDER BY number")[at][0]
+        june.post("/answers/choose", {"number": str(number), "answer": answer})
+    assert piled(office, "june")[:2] == [(3, "B", "accept", ""), (4, "A", "leave_list", "")]
+
+
+def test_letters_go_to_those_that_are_ticked(office: Site, browser: Browser) -> None:
+    """Who reads alone can look at whom, and has no pile. What is not on the list any more is asked
+    for again.
+    """
+    page = Page(browser.get("/lists/no-answer?order=name&tick=all").text)
+    form = page.form("Letters to these")
+    assert form.values["row"] == ["1 A", "2 A", "3 B"]
+    assert "Put into my batch" not in form.buttons
+    path, given = "/lists/no-answer/ticked", {"query": "", "to": "letters"}
+    found = browser.post(path, {**given, "row": ["1 A", "3 B"]})
+    assert found.location == "/letters/whom?whom=children&value=1,3"
+    for rows, said in (([], "Nothing is ticked."), (["1 A", "4 A"], "The list has changed"),
+                       (["1 B"], "The list has changed")):
+        refused = browser.post(path, {**given, "row": rows})
+        assert refused.status_code == 409 and said in Page(refused.text).said()
+    assert browser.post(path, {"query": "", "to": "batch", "row": "1 A"}).status_code == 403
+    assert browser.post("/lists/children/ticked", given).status_code == 404
+    june = office.browser("june", "officer")
+    found = june.post("/lists/unplaced/ticked", {"query": "", "to": "batch", "row": "5"})
+    assert found.status_code == 409 and "none of those ticked has an offer" in found.text
+
+
+def test_a_list_says_its_moment(browser: Browser) -> None:
+    """In its caption: the counts are of that minute."""
+    assert re.search(r"All children: 5 rows, as of [0-2][0-9]:[0-5][0-9]",
+                     browser.get("/lists/children").text)

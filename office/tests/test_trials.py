@@ -163,7 +163,7 @@ def test_one_trial_at_a_time_can_be_ended(
     jane = office.browser("jane")
     first = tried(jane, **{"pan-A": "3"})
     page = Page(jane.get(first.location).text)
-    assert "under way" in page.said() and "Look again" in page.buttons()
+    assert "under way" in page.said() and f'href="{first.location}">Look again' in page.text
     again = tried(jane, **{"pan-A": "1"})
     assert again.status_code == 409 and "a trial of jane is under way" in Page(again.text).said()
     assert Page(again.text).fields["pan-A"]["value"] == "1"

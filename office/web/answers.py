@@ -19,6 +19,8 @@ DIGITS = re.compile(r"[0-9]+")
 # so many children are named where a name is that of several
 MOST_NAMED = 8
 FINAL = ("decline", "leave_list", "name_plan")
+# of a child that was put into a pile from a list
+NO_ANSWER_YET = "no answer yet"
 WORDS = {"accept": "accept", "decline": "decline", "leave_list": "leave the list",
          "name_plan": "plan", "": "none"}
 
@@ -100,6 +102,34 @@ def with_school(register: Register, meant: Meant) -> Meant:
     place = register.places.get(meant.child) if meant.child else None
     is_open = place is not None and place.kind != model.PLAN
     return dataclasses.replace(meant, school=place.school if place and is_open else "")
+
+
+def unanswered(register: Register, child: int, school: str) -> list[Meant]:
+    """A child of a list in a pile, whose answer is still to be given: to its offer, or about the
+    waiting list of a school; about each of those where it waits, if no school is given.
+    """
+    name = register.children[child].name
+    application, place = register.applications.get(child), register.places.get(child)
+    waits = [code for _, code, _ in application.in_state(model.WAITS)] if application else []
+    if not school and not place:
+        schools = waits
+    else:
+        has_offer = place is not None and place.kind == model.OFFERED
+        is_there = school in waits or has_offer and place is not None and (
+            school in ("", place.school))
+        schools = [school or (place.school if place else "")] if is_there else []
+    return [Meant(f"{child} {name}"[:MOST_TYPED], "", child, it, name, NO_ANSWER_YET)
+            for it in schools]
+
+
+def answers_to(register: Register, entry: Entry) -> list[str]:
+    """The answers that can be given to an entry that has none yet."""
+    meant = entry.meant
+    if meant.trouble != NO_ANSWER_YET:
+        return []
+    place = register.places.get(meant.child or 0)
+    has_offer = place is not None and place.kind == model.OFFERED and place.school == meant.school
+    return ["accept", "decline"] if has_offer else ["leave_list"]
 
 
 def of_place(register: Register, meant: Meant) -> str:

@@ -90,7 +90,7 @@ def draws_of(register: Register) -> Iterator[Page]:
 
 def audit_text(draw: Draw) -> str:
     """What the second program said of a draw: of its rehearsal, and of the register after it."""
-    found = [draw.terms.in_words, f"State: {draw.state}."]
+    found = [draw.in_words, f"State: {draw.state}."]
     for title, kept in (("Rehearsal", draw.rehearsal), ("Register after the draw", draw.audit)):
         if kept:
             lines = [line for one in kept["audits"] for line in one]
@@ -103,13 +103,13 @@ def audit_text(draw: Draw) -> str:
 def steps_text(draw: Draw) -> str:
     """Who did what of a draw."""
     lines = [f"{it.at} {it.who}: {it.state}. {it.said}".rstrip() for it in draw.done]
-    return "\n".join([draw.terms.in_words, *lines]) + "\n"
+    return "\n".join([draw.in_words, *lines]) + "\n"
 
 
 def of_draws(parts: Parts) -> Iterator[tuple[str, str, bytes]]:
     """What the application has of the draws that were held with it."""
     for draw in reversed(parts.draws.listed()):
-        title = f"{draw.terms.in_words} (number {draw.number} in the application)"
+        title = f"{draw.in_words} (number {draw.number} in the application)"
         yield f"draws/{draw.number}-steps.txt", f"who did what: {title}", steps_text(draw).encode()
         if draw.rehearsal or draw.audit:
             yield (f"draws/{draw.number}-audit.txt", f"what the audits said: {title}",

@@ -172,6 +172,14 @@ IN_WORDS = {
     AUDITED: "held, and the audit agrees", OPENED: "held, and open for all",
     GIVEN_UP: "given up: nothing was recorded", RESTORED: "undone: the copy was restored",
 }
+# the same in one to three words, and how it looks
+TAGS = {
+    BEGUN: ("Begun", "info"), CLOSED: ("Closed", "info"), COPIED: ("Copied", "info"),
+    LOTS: ("Waits for the lots", "warn"), SEALED: ("Lots sealed", "info"),
+    REHEARSED: ("Waits for a second person", "warn"), CONFIRMED: ("Confirmed", "info"),
+    SENDING: ("Being held", "warn"), AUDITED: ("Audited", "info"), OPENED: ("Held", "good"),
+    GIVEN_UP: ("Given up", "plain"), RESTORED: ("Undone", "bad"),
+}
 RUNS = {
     BEGUN: "the register is closed for all others", CLOSED: "the register is copied",
     COPIED: "the pairs are given to the supervisor", SEALED: "the draw is rehearsed",

@@ -34,7 +34,8 @@ FIELDS = ("person", "typed", "kind", "child", "school", "name", "trouble", "seen
 @dataclasses.dataclass(frozen=True)
 class Shown:
     """An entry as it is shown: the name of its child, what speaks against it, and what is said
-    beside it; the children that its name can mean; and whether the name given is another.
+    beside it; the children that its name can mean; whether the name given is another; and the
+    answers that can be given to one that has none yet.
     """
 
     entry: Entry
@@ -43,6 +44,7 @@ class Shown:
     note: str
     candidates: tuple[tuple[int, str], ...]
     is_other_name: bool
+    answers: tuple[str, ...]
 
     @property
     def is_ready(self) -> bool:
@@ -119,11 +121,11 @@ class Piles:
         """Gives an entry that waits another meaning: a child that was chosen, or a name that is
         right.
         """
-        _, _, kind, child, school, name, _, seen, *_ = self.values(entry.person, register, meant)
+        _, _, *found, seen, _, _, _ = self.values(entry.person, register, meant)
         with self.store.writing() as db:
-            db.execute("UPDATE answer SET kind=?, child=?, school=?, name=?, seen=?, said=''"
-                       " WHERE number=? AND person=? AND state=?",
-                       (kind, child, school, name, seen, entry.number, entry.person, WAITS))
+            db.execute("UPDATE answer SET kind=?, child=?, school=?, name=?, trouble=?, seen=?,"
+                       " said='' WHERE number=? AND person=? AND state=?",
+                       (*found, seen, entry.number, entry.person, WAITS))
 
     def begin(self, entry: Entry) -> bool:
         """Marks an entry as being sent, unless it was removed or handed over meanwhile."""
@@ -161,7 +163,8 @@ class Piles:
         note = answers.by_colleagues(entry, colleagues)
         given, name = entry.meant.name, child.name if child else ""
         is_other = bool(given and name and entry.meant.kind) and not answers.is_of(given, name)
-        return Shown(entry, name, tuple(found), note, named, is_other)
+        return Shown(entry, name, tuple(found), note, named, is_other,
+                     tuple(answers.answers_to(names.register, entry)))
 
     def left_of(self, person: str) -> int:
         """How many answers wait in the pile of a person."""

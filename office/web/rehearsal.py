@@ -13,7 +13,7 @@ from typing import Any, Self
 import register_files as files
 from register_files import Refused
 
-from office import audit, audit_rows, commands, model, next_draw
+from office import audit, audit_rows, commands, draw_lists, model, next_draw
 from office.model import Register
 
 from . import plain
@@ -179,7 +179,20 @@ class Rehearsal:
     def kept(self) -> dict[str, Any]:
         """What is kept of it: numbers and codes alone."""
         return {"answers": self.answers, "audits": self.found.lines, "outcomes": self.outcomes,
-                "accepted_ended": self.accepted_ended, "wrong": self.found.wrong}
+                "accepted_ended": self.accepted_ended, "wrong": self.found.wrong,
+                "schools": self.schools(), "met": self.met()}
+
+    def schools(self) -> dict[str, list[int]]:
+        """The places of each school after the draws: its admission number, how many are held by
+        plans, how many are vacant, and how many children wait for one.
+        """
+        return {code: [it.pan, it.plans, it.vacancies, it.waiting]
+                for code, it in self.registers[-1].schools.items()}
+
+    def met(self) -> list[tuple[int | str, int, str]]:
+        """How many children a round leaves with which preference."""
+        is_round = self.outcomes and not self.terms.school
+        return draw_lists.met(self.registers[-1], self.terms.first) if is_round else []
 
     def has_outcome(self, kept: dict[str, Any]) -> bool:
         """Whether its answers and outcomes are those that were kept of another one."""

@@ -5,7 +5,7 @@ import contextlib
 import dataclasses
 import sqlite3
 import threading
-from collections.abc import Iterator
+from collections.abc import Iterable, Iterator, Mapping, Sequence
 from typing import Generic, Protocol, TypeVar
 
 from register_files import Refused
@@ -16,6 +16,7 @@ from .desk import local
 from .history import History, now
 from .people import Person
 from .store import Store
+from .wording import moment, sentence
 
 
 @dataclasses.dataclass(frozen=True)
@@ -31,6 +32,52 @@ class Done:
 def steps_in(rows: list[sqlite3.Row]) -> tuple[Done, ...]:
     """The steps of rows."""
     return tuple(Done(it["state"], it["who"], it["at"], it["said"]) for it in rows)
+
+
+class Step(Protocol):
+    """A step: the state to which it leads, its title, and what it does."""
+
+    @property
+    def state(self) -> str:
+        """The state."""
+
+    @property
+    def title(self) -> str:
+        """The title."""
+
+    @property
+    def does(self) -> str:
+        """What it does."""
+
+
+def shown(
+    steps: Iterable[Step], done: Sequence[Done], state: str, does: Mapping[str, str],
+    end: str = "",
+) -> list[dict[str, str]]:
+    """Steps as a screen shows them: who did each, and when; the one that is next, which leads to a
+    state, and those after it, with who does them where they do not follow by themselves. Of what
+    has ended otherwise, those that were done, and the end in words.
+    """
+    found = []
+    for it in steps:
+        by = next((one for one in done if one.state == it.state), None)
+        if by is not None:
+            found.append({"title": it.title, "does": it.does, "who": by.who,
+                          "when": moment(by.at), "state": "done"})
+        elif not end:
+            found.append({"title": it.title, "does": it.does, "when": "",
+                          "who": does.get(it.state, "by itself"),
+                          "state": "now" if it.state == state else "next"})
+    if end:
+        found.append({"title": end, "does": "", "who": done[-1].who, "when": moment(done[-1].at),
+                      "state": "done"})
+    return found
+
+
+def history(done: Sequence[Done]) -> list[dict[str, str]]:
+    """All that was done, in order, as a screen shows it."""
+    return [{"at": it.at, "when": moment(it.at), "who": it.who, "what": sentence(it.state),
+             "more": it.said, "kind": ""} for it in done]
 
 
 class Stepped(Protocol):

@@ -173,12 +173,19 @@ def remove_all(which: str, seen: str) -> Answer:
 @screen.post("/choose")
 @needs(RECORD)
 def choose() -> Answer:
-    """Says which child a name means, or that the name of an entry is right."""
+    """Says which child a name means, that the name of an entry is right, or which answer one that
+    was put here from a list has.
+    """
     entry, child = entry_of_form(), flask.request.form.get("child", "")
+    kind = flask.request.form.get("answer", "")
     register = parts().desk.now()
     if entry is not None:
         meant = entry.meant
-        if (number := numbers.read(child)) in register.children:
+        if kind:
+            if kind in answers.answers_to(register, entry):
+                meant = dataclasses.replace(meant, kind=kind, trouble="")
+                all_piles().replace(entry, register, meant)
+        elif (number := numbers.read(child)) in register.children:
             meant = dataclasses.replace(meant, child=number, name="")
             if not meant.school:
                 meant = answers.with_school(register, meant)

@@ -7,6 +7,7 @@ from werkzeug.wrappers import Response
 
 from .. import guard, numbers
 from ..copies import Copy, words_of
+from ..draws_terms import RESTORED
 from ..guard import needs, parts, person
 from ..people import DRAW, READ
 from ..wording import sentence
@@ -20,10 +21,12 @@ BY_HAND = "by hand"
 def list_page(reason: str = "", status: int = 200, said: str = "", purpose: str = "") -> Answer:
     """All copies, and the restores."""
     found = parts()
+    undone = {it: draw for draw in found.draws.listed() if draw.state == RESTORED
+              for it in (draw.before, draw.after) if it}
     return flask.render_template(
         "copies.html", copies=found.copies.listed(), restores=found.restores.listed(),
         present=found.restores.present(), draw=found.draws.present(), reason=reason, said=said,
-        most_purpose=MOST_PURPOSE, purpose=purpose), status
+        most_purpose=MOST_PURPOSE, purpose=purpose, undone=undone), status
 
 
 def found_copy(number: int) -> Copy:
@@ -37,7 +40,14 @@ def found_copy(number: int) -> Copy:
 @screen.get("/")
 @needs(READ)
 def show() -> Answer:
-    """All copies."""
+    """All copies, with what was done before."""
+    made, tested = (numbers.read(flask.request.args.get(it, "")) for it in ("made", "tested"))
+    copy = next((it for it in parts().copies.listed() if it.number == max(made, tested)), None)
+    if copy is not None and made > 0:
+        return list_page(said=f"Copy {made} is made, and compared with the register.")
+    if copy is not None and copy.tested:
+        return list_page(f"Copy {tested} was tested, and is not right: see below.") if (
+            copy.test["wrong"]) else list_page(said=f"Copy {tested} was tested, and is right.")
     return list_page()
 
 
@@ -55,7 +65,7 @@ def make() -> Answer:
         number = parts().copies.make(purpose or BY_HAND, person().name)
     except (Refused, sqlite3.Error) as error:
         return list_page(sentence(words_of(error)), 409, purpose=purpose)
-    return list_page(said=f"Copy {number} is made, and compared with the register.")
+    return flask.redirect(flask.url_for("copies.show", made=number), 303)
 
 
 @screen.post("/<int:number>/test")
@@ -64,12 +74,10 @@ def test(number: int) -> Answer:
     """Tests a copy."""
     found_copy(number)
     try:
-        is_right = parts().copy_tests.test(person(), number)
+        parts().copy_tests.test(person(), number)
     except (Refused, sqlite3.Error, OSError) as error:
         return list_page(sentence(f"copy {number} was not tested: {words_of(error)}"), 409)
-    if not is_right:
-        return list_page(f"Copy {number} was tested, and is not right: see below.")
-    return list_page(said=f"Copy {number} was tested, and is right.")
+    return flask.redirect(flask.url_for("copies.show", tested=number), 303)
 
 
 @screen.get("/<int:number>/restore")

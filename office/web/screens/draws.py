@@ -8,25 +8,27 @@ import flask
 from register_files import Refused
 from werkzeug.wrappers import Response
 
-from office import days
+from office import days, texts
 from office.model import Register
 
 from .. import (
-    draws_again, draws_changes, draws_checks, draws_outcome, draws_second, explanations, numbers,
-    restores_terms,
+    draws_again, draws_changes, draws_checks, draws_outcome, draws_second, explanations,
+    list_choice, numbers, restores_terms, step_store, tables,
 )
 from ..draws import case_of, held_in, next_state
 from ..draws_changes import Change
 from ..draws_following import Work
 from ..draws_lots import sheet_of
 from ..draws_second import Case, Second
+from ..draws_outcome import OfChild, OfSchool
 from ..draws_terms import (
-    AUDITED, BEGUN, CLOSED, CONFIRMED, FOLLOWED, GIVEN_UP, IN_ORDER, IN_WORDS, MOST_FILLS, OPENED,
-    REHEARSED, RESTORED, RUNS, SEALED, SENDING, SENT, STEPS, UNSEALED, UNSENT_SEALED, Draw,
+    AUDITED, BEGUN, CLOSED, CONFIRMED, FOLLOWED, IN_ORDER, IN_WORDS, MOST_FILLS, OPENED, REHEARSED,
+    RUNS, SEALED, SENDING, SENT, STEPS, TAGS, UNSEALED, UNSENT_SEALED, Draw,
 )
 from ..guard import needs, parts, person
 from ..parts import Parts
 from ..people import CONFIRM, DRAW, READ, Person
+from ..tables import Column
 from ..wording import day_of, sentence
 
 screen = flask.Blueprint("draws", __name__, url_prefix="/draws")
@@ -38,8 +40,22 @@ ACTIONS, AGAIN = {CLOSED: "close", CONFIRMED: "confirm", SENDING: "send"}, "go-o
 NAMING = (CONFIRMED, SENDING, AUDITED)
 # in these a draw is still to be confirmed
 TO_CONFIRM = IN_ORDER[:IN_ORDER.index(CONFIRMED)]
-# seconds after which a page of what runs is loaded again
-LOOKS_AGAIN = 5
+# who does a step that does not follow by itself
+DOES = {CLOSED: "by a head of the office", SEALED: "by the supervisor",
+        CONFIRMED: "by a second person", SENDING: "by a head of the office"}
+SCHOOLS: dict[str, Column[OfSchool]] = {
+    "school": Column("School", "", lambda it: it.school),
+    "pan": Column("Places", "number", lambda it: it.pan),
+    "offers": Column("New places", "number", lambda it: it.offers),
+    "moves": Column("of these, moves", "number", lambda it: it.moves),
+    "kept": Column("Kept", "number", lambda it: it.kept),
+    "plans": Column("EHC plans", "number", lambda it: it.plans),
+    "vacancies": Column("Vacant", "number", lambda it: it.vacancies),
+    "waiting": Column("Waiting", "number", lambda it: it.waiting),
+    "gone": Column("Left for another", "number", lambda it: it.gone),
+}
+# those of which a rehearsal of an earlier release says nothing
+LATER = ("pan", "plans", "vacancies", "waiting")
 
 
 def register_now() -> tuple[Register | None, str]:
@@ -50,8 +66,8 @@ def register_now() -> tuple[Register | None, str]:
         return None, f"The register does not answer: {error}."
 
 
-def list_page(reason: str = "", status: int = 200) -> Answer:
-    """All draws, and the form by which one begins."""
+def list_page(reason: str = "", status: int = 200, field: str = "") -> Answer:
+    """All draws, and the form by which one begins; `field` is the one that the reason is about."""
     register, trouble = register_now()
     draws = parts().draws
     day = register.days[1] if register and not register.draws else datetime.date.today()
@@ -60,7 +76,8 @@ def list_page(reason: str = "", status: int = 200) -> Answer:
     return flask.render_template(
         "draws.html", draws=listed, present=draws.present(), register=register,
         reason=reason or trouble, kind=given.get("kind", "round"), given=given,
-        day=given.get("day", days.in_words(day)), most=MOST_FILLS, schools=schools_of(register),
+        day=given.get("day", days.in_words(day)), most=MOST_FILLS, choices=schools_of(register),
+        wrong={field: sentence(reason.partition(": ")[2])} if field else {}, tags=TAGS,
         undone=draws_again.undone(listed), is_again=bool(repeated(listed)),
         most_reason=draws_again.MOST_REASON, in_words=IN_WORDS,
     ), status
@@ -75,10 +92,12 @@ def repeated(draws: Sequence[Draw]) -> dict[str, str]:
     return {"kind": found.kind, "school": found.school or "", "fills": str(found.fills), "day": ""}
 
 
-def schools_of(register: Register | None) -> list[Any]:
+def schools_of(register: Register | None) -> list[tuple[str, str]]:
     """The schools of a register by their codes, those with vacancies first."""
     found = register.schools.values() if register else ()
-    return sorted(found, key=lambda it: (not (it.vacancies and it.waiting), it.code))
+    return [(it.code, f"{it.code} {it.name}: {texts.count(it.vacancies, 'vacancy', 'vacancies')},"
+             f" {it.waiting} waiting")
+            for it in sorted(found, key=lambda it: (not (it.vacancies and it.waiting), it.code))]
 
 
 @screen.get("/")
@@ -92,20 +111,24 @@ def show() -> Answer:
 @needs(DRAW)
 def begin() -> Answer:
     """Begins a draw."""
-    form = flask.request.form
+    form, field = flask.request.form, "day"
     day, count = day_of(form.get("day", "")), numbers.read(form.get("fills", "1").strip())
     school = form.get("school", "") if form.get("kind") == "fill" else None
     try:
         if day is None:
             raise Refused("type the day of the draw as 3 March 2025 or 3/3/2025")
+        field = "school"
         if school == "":
             raise Refused("choose the school of the fills")
+        field = "fills"
         if school and count < 0:
             raise Refused(f"the number of fills is from 1 to {MOST_FILLS}")
-        number = parts().draws.begin(
-            person(), school, count if school else 1, day, reason_of(form))
+        field = "reason"
+        reason = reason_of(form)
+        field = ""
+        number = parts().draws.begin(person(), school, count if school else 1, day, reason)
     except Refused as error:
-        return list_page(f"Nothing was begun: {error}.", 409)
+        return list_page(f"Nothing was begun: {error}.", 409, field)
     return flask.redirect(flask.url_for("draws.one", number=number), 303)
 
 
@@ -148,11 +171,14 @@ def draw_page(number: int, reason: str = "", status: int = 200) -> Answer:
     # (while something runs the register may be away for some seconds)
     trouble = "" if work else trouble
     return flask.render_template(
-        "draw.html", draw=draw, reason=reason or trouble, steps=STEPS, step=step,
+        "draw.html", draw=draw, reason=reason or trouble, step=step, tag=TAGS[draw.state],
+        steps=step_store.shown(STEPS, draw.done, "" if work else state, DOES, end_of(draw)),
+        history=step_store.history(draw.done),
         action=action_of(draw, state), by_second=SECOND, button=button, standing=standing,
         why_not=why_not(draw, state, register), register=register,
         checks=checks, outcome=outcome, agreed=agreed,
-        is_agreed=flask.request.form.get("agreed") == agreed, ends=(GIVEN_UP, RESTORED),
+        is_agreed=flask.request.form.get("agreed") == agreed,
+        round_held=round_held(draw, register),
         may_give_up=draw.state in UNSEALED, has_lots=parts().draws.has_lots(draw),
         second=second_of(draw), changes=changes_of(draw, register),
         needs_two=draw.state in UNSENT_SEALED,
@@ -162,7 +188,7 @@ def draw_page(number: int, reason: str = "", status: int = 200) -> Answer:
         is_tried=is_tried(draw, register),
         repeats=found_draw(draw.repeats) if draw.repeats else None,
         may_undo=draw.state == OPENED and bool(draw.before), unsent=unsent_of(draw),
-        work=work, looks_again=LOOKS_AGAIN, most_reason=draws_again.MOST_REASON,
+        work=work, most_reason=draws_again.MOST_REASON,
         typed=flask.request.form.get("reason", ""),
         is_read_first=bool(outcome) and draw.state == REHEARSED, again=again_of(draw),
         doubts="" if draw.is_ended else draw.came_to(CLOSED).said,
@@ -175,6 +201,17 @@ def state_in_words(draw: Draw, standing: int) -> str:
     if draw.state == SENDING and standing == draw.terms.fills:
         return "closed, and held; not audited yet"
     return IN_WORDS[draw.state]
+
+
+def end_of(draw: Draw) -> str:
+    """How a draw has ended that was not held to its end, in words; or ""."""
+    return sentence(IN_WORDS[draw.state]) if draw.is_ended and draw.state != OPENED else ""
+
+
+def round_held(draw: Draw, register: Register | None) -> int:
+    """The number of a round that the register has, or 0."""
+    return next((it.round or 0 for it in (register.draws if register else [])
+                 if it.number == draw.terms.first and draw.state in (AUDITED, OPENED)), 0)
 
 
 def again_of(draw: Draw) -> bool:
@@ -313,16 +350,75 @@ def changes_of(draw: Draw, register: Register | None) -> list[Change] | None:
 
 
 def outcome_of(draw: Draw, register: Register | None) -> dict[str, Any]:
-    """The outcome of the rehearsal, with the names of the children."""
+    """The outcome of the rehearsal, with the names of the children: how many have which, and the
+    tables of the schools and of the children.
+    """
     found = draw.rehearsal.get("outcomes", [])
     if not found or register is None:
         return {}
     names = {it.number: it.name for it in register.children.values()}
     # (a rehearsal of an earlier release did not keep these)
     accepted_ended = draw.rehearsal.get("accepted_ended", [])
-    return {"counts": draws_outcome.counts(found), "accepted_ended": len(accepted_ended),
-            "children": draws_outcome.by_child(found, accepted_ended),
-            "schools": draws_outcome.by_school(register, found), "names": names}
+    places = draw.rehearsal.get("schools", {})
+    columns = {name: it for name, it in SCHOOLS.items() if places or name not in LATER}
+    return {
+        "counts": figures_of(draw, found), "accepted_ended": len(accepted_ended), "names": names,
+        "met": draws_outcome.met_in_words(draw.rehearsal.get("met", [])),
+        "schools": tables.table(columns, draws_outcome.by_school(register, found, places),
+                                "schools"),
+        "children": children_of(draw, register, draws_outcome.by_child(found, accepted_ended)),
+    }
+
+
+def with_children(draw: Draw, **given: str) -> str:
+    """The address of the rows of the children, with what was chosen before."""
+    kept = {name: text for name, text in flask.request.args.items() if name != "page"}
+    values: dict[str, Any] = {**kept, **given}
+    return flask.url_for("draws.one", number=draw.number, _anchor="children", **values)
+
+
+def figures_of(draw: Draw, found: Sequence[Any]) -> list[tuple[str, str, str, str, str]]:
+    """How many children have each outcome, each with the address of their rows."""
+    counts = draws_outcome.counts(found)
+    return [(f"{counts[words]:,}", words.capitalize(),
+             "child" if counts[words] == 1 else "children", with_children(draw, what=name),
+             "warn" if name == "none" and counts[words] else "")
+            for name, words in draws_outcome.NAMES.items()]
+
+
+def children_of(draw: Draw, register: Register, rows: list[OfChild]) -> dict[str, Any]:
+    """The rows of the children as they were asked for: by words and an outcome, in an order, on a
+    page.
+    """
+    given, named = flask.request.args, draws_outcome.NAMES
+    words, what = given.get("q", "").strip(), given.get("what", "")
+    names = {it.number: it.name for it in register.children.values()}
+    found = [it for it in rows if not words or list_choice.has_words(
+        words, [it.draw, it.child, names.get(it.child), it.had, it.has], register)]
+    chosen = [it for it in found if it.what == named.get(what, it.what)]
+    columns: dict[str, Column[OfChild]] = {
+        "draw": Column("Draw", "", lambda it: it.draw),
+        "child": Column("Child", "", lambda it: it.child),
+        "name": Column("Name", "", lambda it: names.get(it.child)),
+        "had": Column("Before", "", lambda it: it.had),
+        "has": Column("After", "", lambda it: it.has),
+        "what": Column("Outcome", "", lambda it: it.what),
+    }
+    table = tables.table(columns, chosen, "children")
+    filters = [("All", with_children(draw, what=""), len(found), "")]
+    filters += [(text.capitalize(), with_children(draw, what=name),
+                 sum(it.what == text for it in found), "") for name, text in named.items()]
+    return {
+        "page": tables.paged(table.rows, given.get("page", "")), "columns": table.columns,
+        "sort": table.sort, "words": words, "filters": filters,
+        "filter": named.get(what, "all").capitalize(),
+        "caption": f": {len(chosen):,} of {len(rows):,}" if len(chosen) < len(rows) else "",
+        "all": flask.url_for("draws.one", number=draw.number, _anchor="children"),
+        "kept": [(it, text) for it, text in given.items() if it not in ("q", "page")],
+        "whole": with_children(draw, page="all"),
+        "address": tables.pages("draws.one", number=draw.number, q=words or None,
+                                what=what or None, _anchor="children"),
+    }
 
 
 @screen.get("/<int:number>")

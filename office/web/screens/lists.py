@@ -4,7 +4,7 @@ and as CSV; and the views that a person has saved.
 import dataclasses
 import datetime
 import urllib.parse
-from collections.abc import Sequence
+from collections.abc import Collection, Sequence
 from typing import Any
 
 import flask
@@ -17,17 +17,21 @@ from office.book import Page
 from office.model import Register
 from office.register_lists import Cell, Rows
 
-from .. import flags, guard, list_choice, tables, worklists
+from .. import answers, flags, guard, list_choice, tables, worklists
 from ..guard import needs, parts, person
 from ..list_choice import Choice
+from ..letters_whom import CHILDREN
 from ..list_views import Views
-from ..people import READ
+from ..people import READ, RECORD
 from ..wording import sentence
+from .answers import all_piles
 from .schools import attachment, title_of
 
 screen = flask.Blueprint("lists", __name__, url_prefix="/lists")
 Answer = str | Response | tuple[str, int]
 Address = dict[str, str | list[str]]
+# the lists whose children are ticked, to be put into a pile or written to; of so many at once
+TICKED, MOST_TICKED, SCHOOL = ("no-answer", "unplaced", "list"), 500, "school"
 SAID = {"saved": "The view is saved.", "removed": "The view is removed."}
 
 
@@ -118,8 +122,11 @@ def one(name: str) -> Answer:
     return page(asked(name, flask.request.args), flask.request.args.get("page", ""))
 
 
-def page(found: Asked, number: str, said: str = "", status: int = 200, typed: str = "") -> Answer:
-    """The page of a list."""
+def page(
+    found: Asked, number: str, said: str = "", status: int = 200, typed: str = "",
+    ticked: Collection[str] = (),
+) -> Answer:
+    """The page of a list, with what was typed and ticked."""
     is_shown = bool(found.all_rows) and not found.wrong
     rows: Rows = found.rows if is_shown else [[]]
     shown, header = tables.paged(rows[1:], number), rows[0]
@@ -136,6 +143,11 @@ def page(found: Asked, number: str, said: str = "", status: int = 200, typed: st
         sort=found.sort,
         is_shown=is_shown, count_all=len(found.all_rows) - 1, count_found=len(rows) - 1,
         page=shown, words=found.words, today=today(), said=said, typed=typed,
+        time=f"{datetime.datetime.now():%H:%M}",
+        page_address=flask.url_for("lists.one", name=found.name, page="PAGE", **values_of(found)
+                                   ).replace("%", "%%").replace("PAGE", "%s"),
+        ticks=ticks_of(found, header, shown.rows), ticked=ticked,
+        ticked_all=flask.request.args.get("tick") == "all",
         query=urllib.parse.urlencode(found.address, doseq=True),
         rows=[worklists.shown(header, row, found.register) for row in shown.rows],
     ), 400 if found.is_wrong and status == 200 else status
@@ -157,6 +169,70 @@ def heads(
         made.append({"name": name, "title": name.capitalize(), "kind": kind,
                      "href": flask.url_for("lists.one", name=found.name, **values)})
     return made
+
+
+def values_of(found: Asked) -> dict[str, Any]:
+    """What is in the address of a list."""
+    return dict(found.address)
+
+
+@dataclasses.dataclass(frozen=True)
+class Tick:
+    """The box of a row: its value, and whom it is of."""
+
+    value: str
+    label: str
+
+
+def ticks_of(found: Asked, header: list[Cell], rows: Sequence[list[Cell]]) -> list[Tick]:
+    """The boxes of the rows of a page, of a list whose children are chosen from it."""
+    if found.name not in TICKED or worklists.CHILD not in header:
+        return []
+    at, school = header.index(worklists.CHILD), (
+        header.index(SCHOOL) if SCHOOL in header else None)
+    made = []
+    for row in rows:
+        child, code = row[at], str(row[school]) if school is not None else ""
+        name = found.register.children[child].name if isinstance(child, int) else ""
+        made.append(Tick(f"{child} {code}".strip(), f"{child} {name} {code}".strip()))
+    return made
+
+
+@screen.post("/<name>/ticked")
+@needs(READ)
+def ticked(name: str) -> Answer:
+    """Puts the children that were ticked into the pile of the person, or leads to the question of
+    their letters.
+    """
+    form = flask.request.form
+    found = asked(name, MultiDict(urllib.parse.parse_qsl(form.get("query", ""))))
+    if name not in TICKED or found.is_wrong or not found.all_rows:
+        flask.abort(404)
+    given = dict.fromkeys(form.getlist("row"))
+    header, *rows = found.all_rows
+    there = {it.value for it in ticks_of(found, header, rows)}
+    chosen = [it.partition(" ") for it in given if it in there]
+    number = form.get("page", "")
+    if not chosen or len(chosen) < len(given):
+        said = "The list has changed: look at it, and tick again." if given else (
+            "Nothing is ticked.")
+        return page(found, number, said, 409, ticked=given)
+    if len(chosen) > MOST_TICKED:
+        return page(found, number, f"Tick at most {MOST_TICKED} rows at once.", 409, ticked=given)
+    if form.get("to") == "letters":
+        children = ",".join(dict.fromkeys(it[0] for it in chosen))
+        return flask.redirect(flask.url_for("letters.whom", whom=CHILDREN, value=children), 303)
+    if not person().may(RECORD):
+        flask.abort(403)
+    meant = [it for child, _, school in chosen
+             for it in answers.unanswered(found.register, int(child), school)]
+    try:
+        if not meant:
+            raise Refused("none of those ticked has an offer or waits for a place")
+        all_piles().add(person().name, found.register, meant)
+    except Refused as error:
+        return page(found, number, f"Nothing was put into your batch: {error}.", 409, ticked=given)
+    return flask.redirect(flask.url_for("answers.show"), 303)
 
 
 def whole(name: str) -> Asked:

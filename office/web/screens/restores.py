@@ -11,7 +11,7 @@ from werkzeug.wrappers import Response
 
 from office.model import Register
 
-from .. import draws_again, draws_second, numbers, restores_since
+from .. import draws_again, draws_second, numbers, restores_since, step_store
 from ..copies import words_of
 from ..draws_second import Second
 from ..guard import needs, parts, person
@@ -36,6 +36,8 @@ NEXT = {
     RESTORED: ("send", "Go on: send again what was ticked"),
     SENT: ("open", "Open for all"),
 }
+# who does a step that does not follow by itself
+DOES = {ASKED: "by a head of the office", CONFIRMED: "by a second person"}
 # what is shown of the present register until it is restored
 BEFORE = (*UNTOUCHED, RESTORING)
 
@@ -126,7 +128,9 @@ def page(
     draws = {it.number: it for it in parts().draws.listed()}
     return flask.render_template(
         "restore.html", restore=restore, copy=parts().copies.get(restore.copy), rows=rows,
-        lost=lost, lost_count=restores_since.count_lost(lost), steps=STEPS,
+        lost=lost, lost_count=restores_since.count_lost(lost),
+        steps=steps_of(restore),
+        history=step_store.history(restore.done),
         reason=reason or trouble, action=action, button=button.format(restore.copy),
         why_not=why_not(restore), not_steady=not_steady(restore),
         may_choose=restore.state == CLOSED, may_give_up=restore.state in BEFORE,
@@ -139,6 +143,17 @@ def page(
         would_fail=sum(it.is_chosen and it.came != WOULD for it in rows),
         may_begin=may_begin(restore), second=second_of(restore),
     ), status
+
+
+def steps_of(restore: Restore) -> list[dict[str, str]]:
+    """The steps of a restore, as far as it is brought now: what is chosen can be chosen again."""
+    states = [it.state for it in STEPS]
+    at = COPIED if restore.state == RESTORING else restore.state
+    come = states.index(at) + 1 if at in states else len(states)
+    done = [it for it in map(restore.came_to, states[:come]) if it.who]
+    end = sentence(restore.state) if restore.state == GIVEN_UP else ""
+    state = "" if restore.is_ended else next(iter(states[come:]), "")
+    return step_store.shown(STEPS, [*done, *restore.done[-1:]], state, DOES, end)
 
 
 def may_begin(restore: Restore) -> bool:

@@ -17,7 +17,7 @@ from ..draws_second import Second
 from ..guard import needs, parts, person
 from ..people import CONFIRM, END
 from ..season_end import DELETED, DELETING, End, WrongField
-from ..wording import day_of, sentence
+from ..wording import day_of, moment, sentence
 
 screen = flask.Blueprint("season_end", __name__, url_prefix="/season-end")
 Answer = str | Response | tuple[str, int]
@@ -54,11 +54,27 @@ def page(said: str = "", status: int = 200, wrong: dict[str, str] | None = None)
         "season_end.html", end=found, open=there, read=season_end.read_of(there),
         is_stopped=any(it.is_stop for it in there), said=said or trouble, wrong=wrong or {},
         register=register, months=end.months(), form=flask.request.form,
+        steps=steps_of(found, there),
         proposed=days.in_words(proposed) if proposed else "",
         soonest=soonest(register, end.today()) if register else None,
         is_due=is_due, counts=counts, shown=season_end.read_counts(counts),
         not_second=not_second(found), second=second_of(found), deleting=DELETING,
         deleted=DELETED), status
+
+
+def steps_of(found: End, there: list[season_end.Open]) -> list[dict[str, str]]:
+    """How far the end of the season is."""
+    rows = (
+        ("What is still open", not there or bool(found.copy), "", ""),
+        ("Last copy", bool(found.copy), found.copied_by, found.copied),
+        ("Archive", bool(found.taken), found.taken_by, found.taken),
+        ("Day of deletion", bool(found.day), found.day_by, ""),
+        ("Deletion", False, "by two people", ""),
+    )
+    first = next(title for title, is_done, _, _ in rows if not is_done)
+    return [{"title": title, "does": "", "who": who, "when": moment(at) if at else "",
+             "state": "done" if is_done else "now" if title == first else "next"}
+            for title, is_done, who, at in rows]
 
 
 def register_now(found: End) -> tuple[Register | None, str]:

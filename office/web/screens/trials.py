@@ -1,7 +1,8 @@
 """Trials of other admission numbers or criteria: asked for, ended, and shown as a page, PDF and
 workbook.
 """
-from typing import NamedTuple
+import operator
+from typing import Any, NamedTuple
 
 import flask
 from register_files import Refused
@@ -10,7 +11,7 @@ from werkzeug.wrappers import Response
 from office import pdf_apart
 from office.model import Draw, Register
 
-from .. import explanations, flags, schools, trials
+from .. import explanations, flags, schools, tables, trials
 from ..guard import needs, parts, person
 from ..people import READ, RECORD
 from ..trials import Found, Line, Run
@@ -23,6 +24,9 @@ Answer = str | Response | tuple[str, int]
 # a page waits for so many seconds for the end of a trial
 WAIT_SECONDS = 5
 NEXT = "next"
+# the columns of the children who would have another school
+CHILDREN = (("child", "Child"), ("name", "Name"), ("effect", "Effect"), ("school", "School"),
+            ("by", "By"), ("would", "Would have"), ("would-by", "By"))
 UNFIT, DIFFERS = 422, 409
 
 
@@ -117,7 +121,14 @@ def one(number: int) -> Answer:
     return flask.render_template(
         "trial.html", run=run, found=run.found, is_over=is_over, refused=sentence(run.refused),
         seconds=trials.MOST_SECONDS, school_head=trials.SCHOOL_HEAD,
-        criterion_head=trials.CRITERION_HEAD)
+        criterion_head=trials.CRITERION_HEAD, children=children_of(run))
+
+
+def children_of(run: Run) -> tables.Table[Any]:
+    """The children who would have another school, in the order that is asked for."""
+    columns = {name: tables.Column[Any](title, "" if at else "number", operator.itemgetter(at))
+               for at, (name, title) in enumerate(CHILDREN)}
+    return tables.table(columns, run.found.children if run.found else [], "children")
 
 
 @screen.post("/<int:number>/end")
