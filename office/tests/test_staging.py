@@ -1021,8 +1021,9 @@ def test_a_child_is_added_by_a_form(office: Site, screens: Screens) -> None:
     """In the order of the keyboard, with the next number that is free."""
     screens.add(("a.csv", lines(GOOD[:1])))
     seen = screens.see("add/")
+    # (after the search of the frame)
     assert seen.order == [
-        "name", "property_number", "postcode", "east", "north", "looked_after", "flags",
+        "q", "name", "property_number", "postcode", "east", "north", "looked_after", "flags",
         "siblings", "present", "day", *[f"preference-{it}" for it in range(1, 11)], "child"]
     assert [name for (_, name), it in seen.fields.items() if "autofocus" in it] == ["name"]
     assert seen.value("child") == "102"
