@@ -104,7 +104,7 @@ class Hands:
     def facts(self) -> dict[str, str]:
         """What lists of names and values say."""
         found = self.driver.execute_script(
-            PLAIN + "return [...document.querySelectorAll('.facts div, .summary div')].map((it) =>"
+            PLAIN + "return [...document.querySelectorAll('.summary > div')].map((it) =>"
             "[plain(it.children[0].textContent), plain(it.children[1].textContent)]);")
         return dict(found)
 
