@@ -1,10 +1,10 @@
 # How the program is built, shown, tested, measured and installed.
 #
 #   make try      the office's application over an invented season of 1,500 children, at an address that it prints, until Ctrl-C; it needs no root and no
-#                 proof: bin/admissions if it is there, or a build of some minutes, which is slow, so that it shows 60 children. AT=applications: a file with
-#                 faults waits; AT=round: a round waits for the second person; AT=march, the default: two weeks after the offers. DIR=.. keeps the season
-#                 there; RELOAD=1 begins anew for a changed module
-#   make look     the commands of an example answered within minutes, without a proof: to see what it is
+#                 proof: bin/admissions if it is there, or a program of which nothing is proved, made in some minutes and kept at out/try. AT=applications:
+#                 a file with faults waits; AT=round: a round waits for the second person; AT=march, the default: two weeks after the offers. DIR=.. keeps
+#                 the season there; RELOAD=1 begins anew for a changed module
+#   make look     the commands of an example, answered by the program at out/try: to see what it is
 #   make build    the proved program, at bin/admissions
 #   make demo     the examples, run and compared with what they must print
 #   make cases    the cases, the same way; they take seconds once the program is built

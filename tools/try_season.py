@@ -26,25 +26,8 @@ OFFICE = {
 }
 
 
-@dataclasses.dataclass(frozen=True)
-class Size:
-    """How many children there are: all, those of the first file, and those in time."""
-
-    children: int
-    first: int
-    in_time: int
-
-    def share(self, many: int) -> int:
-        """So many of the whole town, here."""
-        return max(1, round(many * self.children / WHOLE.children))
-
-    def in_words(self) -> str:
-        """How many, to be said."""
-        return f"{self.children:,} children"
-
-
-# the whole town, and for a program that is slow a small part
-WHOLE, SMALL = Size(1500, 1330, 1460), Size(60, 40, 57)
+# how many children there are: all, those of the first file, and those in time
+CHILDREN, FIRST, IN_TIME = 1500, 1330, 1460
 
 
 @dataclasses.dataclass(frozen=True)
@@ -122,15 +105,15 @@ class Child:
         }
 
 
-def children(size: Size) -> list[Child]:
+def children() -> list[Child]:
     """All children by their numbers: the last ones have applied too late."""
     drawn = random.Random(SEED)
     towns = [(drawn.randrange(1500, 11500), drawn.randrange(1500, 8200)) for _ in PRIMARIES]
     found: list[Child] = []
-    for at in range(size.children):
+    for at in range(CHILDREN):
         place = drawn.randrange(len(towns))
         home = home_near(drawn, towns[place], found)
-        late = drawn.randrange(5, 80) if at >= size.in_time else -drawn.randrange(50)
+        late = drawn.randrange(5, 80) if at >= IN_TIME else -drawn.randrange(50)
         flags = flags_of(drawn, home)
         found.append(Child(
             2001 + at, f"{drawn.choice(GIVEN)} {drawn.choice(FAMILIES)}", home,
@@ -202,9 +185,9 @@ def csv_of(columns: Sequence[str], rows: Iterable[dict[str, str]]) -> bytes:
     return text.getvalue().encode()
 
 
-def schools_sheet(size: Size) -> bytes:
-    """The schools as a CSV, each with room for its part of the children."""
-    rows = ({"school": it.code, "name": it.name, "pan": str(size.share(it.pan)),
+def schools_sheet() -> bytes:
+    """The schools as a CSV."""
+    rows = ({"school": it.code, "name": it.name, "pan": str(it.pan),
              "east": str(it.east), "north": str(it.north), "criteria": ";".join(it.criteria)}
             for it in SCHOOLS)
     return csv_of(("school", "name", "pan", "east", "north", "criteria"), rows)

@@ -82,7 +82,7 @@ class Browser:
         while any(it in found.text for it in running or RUNNING):
             if time.monotonic() > end:
                 raise NotMade(f"{path} runs for more than {LONGEST_WAIT:.0f} seconds")
-            time.sleep(0.3)
+            time.sleep(0.1)
             found = self.get(path)
         return found
 
@@ -101,14 +101,13 @@ class Making:
 
     app: Any
     passwords: dict[str, str]
-    size: try_season.Size
     say: Callable[[str], None]
 
     def __post_init__(self) -> None:
         # (what follows a step of a draw is waited for)
         self.app.extensions["office"].following.wait = LONGEST_WAIT
         self.browsers: dict[str, Browser] = {}
-        self.numbers = {it.number: it for it in try_season.children(self.size)}
+        self.numbers = {it.number: it for it in try_season.children()}
 
     def at(self, moment: str) -> None:
         """The clock of the season."""
@@ -134,7 +133,7 @@ class Making:
         self.say("eight schools, their criteria and what letters say of the office")
         self.signed_in(drawn)
         self.schools()
-        self.say(f"the applications of {self.size.in_words()}")
+        self.say(f"the applications of {try_season.CHILDREN:,} children")
         if moment == APPLICATIONS:
             self.applications()
         else:
@@ -162,7 +161,7 @@ class Making:
         words = {f"flag-{at}": it for at, it in try_season.FLAG_WORDS.items()}
         head.post("/flags/", {**words, "seen": field(head.get("/flags/").text, "seen")})
         head.upload("/schools/new/sheet", "sheet", "schools.csv",
-                    try_season.schools_sheet(self.size))
+                    try_season.schools_sheet())
         digest = field(head.get("/schools/new/").text, "digest")
         head.post("/schools/new/store", {"digest": digest}, 200)
         seen = field(head.get("/letters/office/").text, "seen")
@@ -171,10 +170,8 @@ class Making:
 
     def file(self, name: str, rows: Iterator[dict[str, str]]) -> None:
         """A file of applications, which waits in the table."""
-        officer = self.by(OFFICER)
-        officer.get("/applications/")
-        officer.upload("/applications/files", "files", name,
-                       try_season.csv_of(try_season.COLUMNS, rows))
+        self.by(OFFICER).upload("/applications/files", "files", name,
+                                try_season.csv_of(try_season.COLUMNS, rows))
 
     def stored(self) -> None:
         """All of the table is stored in the register."""
@@ -185,29 +182,29 @@ class Making:
     def applications(self) -> None:
         """Most of those that came in time are stored, and the others are in a file with faults."""
         self.at("2026-10-30T15:30:00")
-        self.file("primary-schools.csv", (it.cells for it in self.rows(0, self.size.first)))
+        self.file("primary-schools.csv", (it.cells for it in self.rows(0, try_season.FIRST)))
         self.stored()
         self.at("2026-11-02T16:20:00")
         self.file("online-portal.csv", try_season.with_faults(
-            self.rows(self.size.first, self.size.in_time)))
+            self.rows(try_season.FIRST, try_season.IN_TIME)))
 
     def all_applications(self) -> None:
         """Those that came in time, those that came too late, and the plans that name a school."""
         self.at("2026-11-02T16:20:00")
-        self.file("applications.csv", (it.cells for it in self.rows(0, self.size.in_time)))
+        self.file("applications.csv", (it.cells for it in self.rows(0, try_season.IN_TIME)))
         self.stored()
         self.at("2027-01-20T11:00:00")
-        self.file("late.csv", (it.cells for it in self.rows(self.size.in_time, self.size.children)))
+        late = self.rows(try_season.IN_TIME, try_season.CHILDREN)
+        self.file("late.csv", (it.cells for it in late))
         self.stored()
         self.at("2027-02-12T14:30:00")
-        named = zip(list(self.rows(0, self.size.in_time))[::self.size.in_time // 5], PLANS)
+        named = zip(list(self.rows(0, try_season.IN_TIME))[::try_season.IN_TIME // 5], PLANS)
         self.pile("child,name,school,answer", [
             f"{it.number},{it.name},{code},plan" for it, code in named])
 
     def pile(self, titles: str, rows: list[str]) -> None:
         """Answers that are pasted, and recorded."""
         officer = self.by(OFFICER)
-        officer.get("/answers/")
         officer.post("/answers/several", {"pasted": "\n".join([titles, *rows])})
         digest = field(officer.get("/answers/").text, "digest")
         officer.post("/answers/record", {"digest": digest})
