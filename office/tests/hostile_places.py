@@ -29,6 +29,8 @@ SECONDS, KILOBYTES = 60.0, 1_500_000
 MARK, SUM, WORD = "hostile", "h8281h", "canary-4711"
 # an address of another site, or that is a script
 OTHER = re.compile(rf"\s*(?!{ORIGIN}/)(?:[a-z]+:|//)", re.I)
+# what the application draws itself
+DRAWN = ("icon", "sprite", "sign", "bar", "drawn")
 Place = tuple[str, str]
 
 
@@ -98,7 +100,7 @@ class Markup(html.parser.HTMLParser):
         given = {name: value or "" for name, value in attrs}
         if given.get("id") == MARK or any(it.startswith("on") for it in given):
             self.found.append(f"{tag} {given}")
-        is_sign = tag == "svg" and given.get("class") in ("icon", "sprite")
+        is_sign = tag == "svg" and given.get("class", "").partition(" ")[0] in DRAWN
         if tag in ("iframe", "object", "embed", "base", "img", "svg", "style", "frame") and (
                 not is_sign):
             self.found.append(tag)
