@@ -20,5 +20,7 @@ COMMANDS = [
 
 def beside(first: World) -> World:
     """The world of that register."""
-    people = {"mary": Account("head"), "alpha": Account("school-A"), MAIL: Account("school-A")}
+    people = {"mary": Account("head"), "alpha": Account("school-A"), MAIL: Account("school-A"),
+              "robot": Account("officer", is_program=True),
+              "lists": Account("school-A", is_program=True)}
     return World(first.installation, first.room / "beside", "primary-2026", HOST, COMMANDS, people)

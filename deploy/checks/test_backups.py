@@ -90,7 +90,7 @@ def test_of_the_nightly_copies_the_two_that_were_made_last_are_kept_and_the_othe
 def test_a_restore_and_the_commands_of_the_history_give_the_same_register(
         world: World, backup: Backup) -> None:
     before = len(world.entries())
-    statuses = [world.ask("/command", "jane", body).status for body in (*SENT, SENT[1])]
+    statuses = [world.ask("/command", "robot", body).status for body in (*SENT, SENT[1])]
     assert statuses == [200, 200, 409]
     wanted = letters(world)
     world.end(world.desk)

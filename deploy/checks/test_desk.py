@@ -97,9 +97,9 @@ def ask_many(world: World, count: int) -> tuple[list[Answer], float]:
         gate.wait()
         began = time.monotonic()
         if number % 4 == 0:
-            answer = world.ask("/command", "jane", named(number))
+            answer = world.ask("/command", "robot", named(number))
         else:
-            answer = world.ask(ROUTES[number % 4], "jane")
+            answer = world.ask(ROUTES[number % 4], "robot")
         return answer, time.monotonic() - began
 
     with concurrent.futures.ThreadPoolExecutor(count) as pool:
@@ -143,7 +143,7 @@ def crowd_fixture(world: World) -> list[Answer]:
     world.stop_desk()
     try:
         with concurrent.futures.ThreadPoolExecutor(300) as pool:
-            asked = [pool.submit(world.ask, "/child/1", "jane") for _ in range(300)]
+            asked = [pool.submit(world.ask, "/child/1", "robot") for _ in range(300)]
             until(lambda: sum(it.done() for it in asked) >= 44,
                   "the answers to those for whom there is no place in the queue")
             world.continue_desk()
@@ -175,11 +175,10 @@ def test_who_has_no_place_in_the_queue_is_asked_to_retry(crowd: list[Answer]) ->
 def test_of_300_commands_at_once_each_is_done_or_was_not_passed_on(world: World) -> None:
     """All but those that the application works on wait, even to be known; and who is not known
     because there is no place is not passed on."""
-    world.session("jane")
     world.stop_desk()
     try:
         with concurrent.futures.ThreadPoolExecutor(300) as pool:
-            asked = [pool.submit(world.ask, "/command", "jane", named(f"crowd {number}"))
+            asked = [pool.submit(world.ask, "/command", "robot", named(f"crowd {number}"))
                      for number in range(300)]
             until(lambda: sum(it.done() for it in asked) >= 44,
                   "the answers to those for whom there is no place in the queue")
@@ -202,7 +201,7 @@ def test_of_300_commands_at_once_each_is_done_or_was_not_passed_on(world: World)
 
 def begin(world: World, body: str) -> ssl.SSLSocket:
     """Sends a command to a desk that is suspended, and returns when it is there."""
-    head = (f"POST /command HTTP/1.1\r\nHost: {NAME}\r\n{world.field('jane')}\r\n"
+    head = (f"POST /command HTTP/1.1\r\nHost: {NAME}\r\n{world.field('robot')}\r\n"
             f"Content-Type: application/json\r\nOrigin: https://{NAME}\r\n"
             f"Content-Length: {len(body)}\r\nConnection: close\r\n\r\n")
     world.stop_desk()
@@ -253,7 +252,7 @@ def killed_fixture(world: World) -> Killed:
     """Kills the desk, and starts it again."""
     letter = world.letter(6)
     world.end(world.desk, signal.SIGKILL)
-    answer = world.ask("/child/1", "jane")
+    answer = world.ask("/child/1", "robot")
     status = world.run("admissions", "do", world.file).returncode
     world.start_desk()
     return Killed(letter, answer, status)
@@ -271,7 +270,7 @@ def test_the_log_is_taken_in_after_a_kill(killed: Killed) -> None:
 
 
 def test_a_desk_that_was_restarted_has_what_was_done_before(world: World, killed: Killed) -> None:
-    answer = world.ask("/child/6/letter", "jane")
+    answer = world.ask("/child/6/letter", "robot")
     assert (answer.status, answer.body) == (200, killed.letter)
     assert "Fay Ford left" in answer.body
 
@@ -279,12 +278,12 @@ def test_a_desk_that_was_restarted_has_what_was_done_before(world: World, killed
 def test_a_command_while_there_is_no_desk_is_not_sent_and_says_so(world: World) -> None:
     body = named("of no desk")
     world.end(world.desk)
-    answer = world.ask("/command", "jane", body)
+    answer = world.ask("/command", "robot", body)
     world.start_desk()
     said = json.loads(answer.body)
     # (the door is there: that it leads nowhere is seen when the register is asked)
     assert (answer.status, "done" in said) in [(502, False), (503, False)]
-    assert world.ask("/command", "jane", named("after no desk")).status == 200
+    assert world.ask("/command", "robot", named("after no desk")).status == 200
     assert known(world, body) in ([], [False])
     assert "Fay Ford after no desk" in world.letter(6)
 
@@ -300,7 +299,7 @@ def test_a_desk_that_is_killed_with_a_command_is_said_to_be_uncertain_and_looked
     assert "Whether it is done is looked up before anything else is sent." in said["reason"]
     assert known(world, body) == [None]
     world.start_desk()
-    assert world.ask("/command", "jane", named("after a kill")).status == 200
+    assert world.ask("/command", "robot", named("after a kill")).status == 200
     assert known(world, body) == [False]
     assert "Fay Ford after a kill" in world.letter(6)
 
@@ -316,7 +315,7 @@ def test_an_application_that_is_killed_with_a_command_finds_out_that_it_is_done(
     world.start_office()
     assert known(world, body) == [None]
     assert "Fay Ford without an answer" in world.letter(6)
-    assert world.ask("/command", "jane", named("after it")).status == 200
+    assert world.ask("/command", "robot", named("after it")).status == 200
     assert known(world, body) == [True]
     assert "Fay Ford after it" in world.letter(6)
 
@@ -325,14 +324,13 @@ def test_an_application_that_is_killed_with_a_command_finds_out_that_it_is_done(
 def test_an_application_that_begins_again_under_a_load_loses_nothing(
         world: World, how: signal.Signals) -> None:
     """What is asked meanwhile waits, or is answered that it was not done or may be."""
-    world.session("jane")
     is_over = threading.Event()
 
     def one(thread: int) -> list[tuple[str, Answer]]:
         found: list[tuple[str, Answer]] = []
         while not is_over.is_set():
             name = f"{how.name} {thread} {len(found)}"
-            found.append((f"Fay Ford {name}", world.ask("/command", "jane", named(name))))
+            found.append((f"Fay Ford {name}", world.ask("/command", "robot", named(name))))
         return found
 
     with concurrent.futures.ThreadPoolExecutor(12) as pool:
@@ -346,7 +344,7 @@ def test_an_application_that_begins_again_under_a_load_loses_nothing(
         finally:
             is_over.set()
         answers = [it for thread in asked for it in thread.result()]
-    assert world.ask("/command", "jane", named("at last")).status == 200
+    assert world.ask("/command", "robot", named("at last")).status == 200
     assert {it.status for _, it in answers} <= {200, 502, 503}
     names = done(world)
     assert [name for name, it in answers if it.status == 200 and names.count(name) != 1] == []
@@ -355,7 +353,7 @@ def test_an_application_that_begins_again_under_a_load_loses_nothing(
     assert None not in [it for _, it in outcomes(world)]
     assert names[-1] == "Fay Ford at last"
     assert "Fay Ford at last\n" in world.letter(6)
-    assert world.ask("/child/1", "jane").status == 200
+    assert world.ask("/child/1", "robot").status == 200
 
 
 def test_without_room_for_the_history_nothing_is_sent_and_afterwards_all_goes_on(
@@ -382,7 +380,7 @@ def test_a_session_outlives_the_application(world: World) -> None:
     field = world.field("jane")
     world.end(world.office)
     world.start_office()
-    assert status_of(raw(world, "GET /child/1", field)) == 200
+    assert status_of(raw(world, "GET /children/1", field)) == 200
 
 
 def test_the_history_is_one_chain_after_all_this(world: World) -> None:

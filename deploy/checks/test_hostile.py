@@ -26,7 +26,7 @@ NOT_DONE = '"NotOffered"'
 OF_CHILDREN = re.compile('Ada Abel|Ben Bell|Cyd Cole|"children"|"place"|Waiting list|<nav')
 
 
-# Odd addresses, without a sign-in and of the head of a school
+# Odd addresses, without a sign-in and of the program of a school
 
 
 ODD_PATHS = (
@@ -43,11 +43,11 @@ ODD_PATHS = (
 
 
 @pytest.mark.parametrize("path", ODD_PATHS)
-@pytest.mark.parametrize("who", ["", "alpha"])
+@pytest.mark.parametrize("who", ["", "lists"])
 def test_by_an_odd_address_nobody_reads_what_is_not_theirs(
         world: World, who: str, path: str) -> None:
     answer = raw(world, f"GET {path}", *([world.field(who)] if who else []))
-    # (the file of the page is everybody's)
+    # (the file of the screens is everybody's)
     is_own = path == "/ui.css?/register"
     assert status_of(answer) in ((200,) if is_own else (302, 308, 400, 401, 403, 404, 405, 421))
     assert OF_CHILDREN.search(answer) is None
@@ -58,7 +58,7 @@ METHODS = ("POST", "PUT", "PATCH", "DELETE", "OPTIONS", "TRACE", "CONNECT", "PRO
 
 
 @pytest.mark.parametrize("method", METHODS)
-@pytest.mark.parametrize("who", ["", "alpha"])
+@pytest.mark.parametrize("who", ["", "lists"])
 @pytest.mark.parametrize("path", ["/child/2", "/school/B/waiting", "/register"])
 def test_by_another_method_nobody_reads_what_is_not_theirs(
         world: World, path: str, who: str, method: str) -> None:
@@ -82,9 +82,9 @@ OVERRIDES = (
 
 @pytest.mark.parametrize("field", OVERRIDES)
 def test_a_field_of_a_head_gives_nobody_another_address_or_name(world: World, field: str) -> None:
-    own = raw(world, "GET /school/A/waiting", world.field("alpha"), field)
+    own = raw(world, "GET /school/A/waiting", world.field("lists"), field)
     assert (status_of(own), "Waiting list of A Alpha" in own) == (200, True)
-    for who, path, status in (("alpha", "/child/2", 403), ("", "/child/2", 401),
+    for who, path, status in (("lists", "/child/2", 403), ("", "/child/2", 401),
                               ("", "/signed-in", 404)):
         answer = raw(world, f"GET {path}", field, *([world.field(who)] if who else []))
         assert (status_of(answer), OF_CHILDREN.search(answer)) == (status, None)
@@ -212,7 +212,7 @@ def test_without_a_name_there_is_no_tls(world: World) -> None:
 ])
 def test_a_command_with_two_origins_is_refused(world: World, fields: tuple[str, ...]) -> None:
     """(Of two fields some versions of nginx take the first; a browser sends one.)"""
-    answer = raw(world, "POST /command", world.field("jane"), *fields,
+    answer = raw(world, "POST /command", world.field("robot"), *fields,
                  "Content-Type: application/json", f"Content-Length: {len(COMMAND)}", "", COMMAND)
     assert status_of(answer) in (400, 403)
 
@@ -220,7 +220,7 @@ def test_a_command_with_two_origins_is_refused(world: World, fields: tuple[str, 
 @pytest.mark.parametrize("kinds", [("application/json", "text/plain"),
                                    ("text/plain", "application/json")])
 def test_a_second_type_gives_another_site_nothing(world: World, kinds: tuple[str, str]) -> None:
-    answer = raw(world, "POST /command", world.field("jane"), "Origin: https://evil.example",
+    answer = raw(world, "POST /command", world.field("robot"), "Origin: https://evil.example",
                  *(f"Content-Type: {it}" for it in kinds), f"Content-Length: {len(COMMAND)}", "",
                  COMMAND)
     assert status_of(answer) in (400, 403)

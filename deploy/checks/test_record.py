@@ -84,7 +84,7 @@ def test_a_target_that_is_no_text_is_refused_to_nobody_and_to_the_office(world: 
 @pytest.fixture(scope="module", name="attacks")
 def attacks_fixture(world: World) -> list[Answer]:
     """The answers to both. (curl's own --data-binary takes a body as it is.)"""
-    return [world.ask("/command", "jane", body) for body in (HIDDEN, SPREAD)]
+    return [world.ask("/command", "robot", body) for body in (HIDDEN, SPREAD)]
 
 
 def test_a_command_within_a_command_and_one_of_many_lines_are_done(attacks: list[Answer]) -> None:
@@ -226,13 +226,14 @@ def test_an_import_over_the_site_is_done_and_the_history_names_it_and_has_its_ro
         world: World) -> None:
     folder, history = world.room / "rows", world.room / "office/history.jsonl"
     since, count = now("milliseconds"), len(world.entries())
-    done = world.ask("/import", "jane", ROWS, kind="text/csv")
+    done = world.ask("/import", "robot", ROWS, kind="text/csv")
     assert (done.status, json.loads(done.body)) == (200, {"added": 1, "done": True, "known": 0})
     assert world.stored()[41]["name"] == "Row"
     printed = admissions_sent(world, history, since, "--rows", folder)
     line = next(it for it in printed.stderr.splitlines() if "an import" in it)
     assert (printed.returncode, printed.stdout) == (1, "")
-    assert line.startswith(f"admissions-sent: {history}, line {count + 1}: jane sent an import at ")
+    assert line.startswith(
+        f"admissions-sent: {history}, line {count + 1}: robot sent an import at ")
     assert line.endswith(", which was done after 0 of the printed commands: import its rows there,"
                          f" from {folder}/0.csv")
     assert (folder / "0.csv").read_text() == ROWS

@@ -56,21 +56,23 @@ def test_a_user_of_one_is_nobody_at_the_other(world: World, other: World) -> Non
 
 def test_a_session_and_a_token_of_one_are_none_at_the_other(world: World, other: World) -> None:
     token = basic("robot", world.passwords["robot"])
-    for one, who, foreign in ((other, "mary", world.field("jane")), (other, "mary", token),
-                              (world, "jane", other.field("mary"))):
-        assert status_of(raw(one, "GET /child/1", foreign)) == 401
-        assert status_of(raw(one, "GET /child/1", one.field(who))) == 200
+    for one, who, path, foreign in (
+            (other, "mary", "/children/1", world.field("jane")),
+            (other, "robot", "/child/1", token),
+            (world, "jane", "/children/1", other.field("mary"))):
+        assert status_of(raw(one, f"GET {path}", foreign)) == 401
+        assert status_of(raw(one, f"GET {path}", one.field(who))) == 200
 
 
 def test_a_mail_address_is_a_name_with_its_role_and_is_whole_in_the_history(
         other: World) -> None:
-    assert other.ask("/school/A/waiting", MAIL).status == 200
-    assert other.ask("/school/B/waiting", MAIL).status == 403
+    assert other.ask("/schools/A", MAIL).status == 200
+    assert other.ask("/schools/B", MAIL).status == 403
     wrong = other.sign_in(MAIL, "wrong", "--interface", "127.0.2.61")
     assert (wrong.status, wrong.session) == (403, "")
     lines = [(it["what"], it["about"]) for it in other.entries() if it["who"] == MAIL]
     assert lines == [("signed in", {}),
-                     ("refused", {"asked": "GET /school/B/waiting", "role": "school-A"})]
+                     ("refused", {"asked": "GET /schools/B", "role": "school-A"})]
 
 
 def test_a_password_of_one_is_none_at_the_other_for_a_name_that_both_have(
@@ -80,7 +82,7 @@ def test_a_password_of_one_is_none_at_the_other_for_a_name_that_both_have(
 
 
 def test_a_school_reads_the_list_of_its_own_register(world: World, other: World) -> None:
-    lists = [it.ask("/school/A/waiting", "alpha").body.splitlines()[0] for it in (world, other)]
+    lists = [it.ask("/school/A/waiting", "lists").body.splitlines()[0] for it in (world, other)]
     assert lists == ["Waiting list of A Alpha", "Waiting list of A Ash Infants"]
 
 
@@ -88,7 +90,7 @@ def test_a_school_reads_the_list_of_its_own_register(world: World, other: World)
 
 
 class Sent(NamedTuple):
-    """The answers to a command from the page of the other site, and from that of its own; and log
+    """The answers to a command that names the other site, and to one that names its own; and log
     of the desk, history and document of the first register, before and after."""
 
     refused: Answer
@@ -103,19 +105,18 @@ def sent_fixture(world: World, other: World) -> Sent:
 
     def state() -> tuple[object, ...]:
         wal = world.file.with_name("reg.db-wal")
-        return wal.read_bytes(), world.entries(), world.ask("/register", "jane").body
+        return wal.read_bytes(), world.entries(), world.ask("/register", "robot").body
 
-    world.session("jane")
     before = state()
-    refused = other.ask("/command", "mary", AMEND, origin=f"https://{world.host}")
-    return Sent(refused, other.ask("/command", "mary", AMEND), before, state())
+    refused = other.ask("/command", "robot", AMEND, origin=f"https://{world.host}")
+    return Sent(refused, other.ask("/command", "robot", AMEND), before, state())
 
 
-def test_a_command_from_the_page_of_the_other_site_is_refused(sent: Sent) -> None:
+def test_a_command_that_names_the_other_site_is_refused(sent: Sent) -> None:
     assert sent.refused.status == 403
 
 
-def test_a_command_from_the_page_of_its_own_site_is_done(sent: Sent) -> None:
+def test_a_command_that_names_its_own_site_is_done(sent: Sent) -> None:
     assert sent.done.body == '{"done":true}'
 
 
@@ -128,7 +129,7 @@ def test_the_command_is_in_the_history_of_its_register(other: World) -> None:
 
 @pytest.mark.usefixtures("sent")
 def test_the_command_is_in_its_register(other: World) -> None:
-    children = json.loads(other.ask("/register", "mary").body)["children"]
+    children = json.loads(other.ask("/register", "robot").body)["children"]
     assert [it["name"] for it in children] == ["Zoe Zeal", NAMED]
 
 
@@ -137,8 +138,7 @@ def test_nothing_of_the_command_is_at_the_other_register(sent: Sent) -> None:
 
 
 def test_the_letter_of_child_1_is_that_of_its_own_register(world: World, other: World) -> None:
-    letters = [it.ask("/child/1/letter", who).body.splitlines()[:2]
-               for it, who in ((world, "jane"), (other, "mary"))]
+    letters = [it.ask("/child/1/letter", "robot").body.splitlines()[:2] for it in (world, other)]
     assert letters == [["Admission 2025 secondary", "Child 1 Ada Abel"],
                        ["Admission 2026 primary", "Child 1 Zoe Zeal"]]
 
@@ -150,7 +150,7 @@ def test_while_one_desk_is_away_its_site_says_so_and_the_other_register_goes_on(
         world: World, other: World) -> None:
     other.end(other.desk)
     try:
-        statuses = other.ask("/child/1", "mary").status, world.ask("/child/1", "jane").status
+        statuses = other.ask("/child/1", "robot").status, world.ask("/child/1", "robot").status
     finally:
         other.start_desk()
     assert statuses == (502, 200)
@@ -160,11 +160,10 @@ def test_while_one_application_is_away_the_other_register_goes_on_and_its_own_wa
         world: World, other: World) -> None:
     """The socket is there meanwhile, so what comes is answered when the application is."""
     with concurrent.futures.ThreadPoolExecutor(1) as pool:
-        other.session("mary")
         other.end(other.office)
-        waiting = pool.submit(other.ask, "/child/1", "mary")
+        waiting = pool.submit(other.ask, "/child/1", "robot")
         try:
-            assert world.ask("/child/1", "jane").status == 200
+            assert world.ask("/child/1", "robot").status == 200
             assert not waiting.done()
         finally:
             other.start_office()
@@ -172,6 +171,6 @@ def test_while_one_application_is_away_the_other_register_goes_on_and_its_own_wa
 
 
 def test_each_register_is_as_it_was_before_the_restarts(world: World, other: World) -> None:
-    letter = other.ask("/child/21/letter", "mary").body
+    letter = other.ask("/child/21/letter", "robot").body
     assert letter.splitlines()[1] == f"Child 21 {NAMED}"
     assert (world.desk.poll(), world.office.poll()) == (None, None)

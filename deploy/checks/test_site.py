@@ -189,16 +189,16 @@ def test_a_password_that_was_drawn_is_for_one_sign_in_and_does_nothing_else(worl
     world.people = {**world.people, "ivy": Account("officer")}
     world.passwords["ivy"] = "correct-horse"
     world.sessions["ivy"] = answer.session, time.monotonic()
-    led = [world.ask("/child/1", "ivy"), world.ask("/command", "ivy", ACCEPT)]
+    led = [world.ask("/children/1", "ivy"), world.ask("/lists/", "ivy")]
     assert [(it.status, it.fields["location"]) for it in led] == [(302, "/password")] * 2
     own = {"present": drawn, "new": "correct-horse", "again": "correct-horse"}
     assert world.submit("/password", "ivy", **{**own, "present": "wrong"}).status == 403
     assert world.submit("/password", "ivy", **{**own, "again": "another-horse"}).status == 403
     assert world.submit("/password", "ivy", **own).status == 303
-    assert world.ask("/child/1", "ivy").status == 200
+    assert world.ask("/children/1", "ivy").status == 200
     assert world.sign_in("ivy", drawn, "--interface", "127.0.2.51").status == 403
     assert changed(world, what="remove", name="ivy").status == 200
-    assert world.ask("/child/1", "ivy").status == 401
+    assert world.ask("/children/1", "ivy").status == 401
 
 
 def test_the_form_of_another_site_signs_nobody_in(world: World) -> None:
@@ -241,33 +241,42 @@ def test_the_session_is_in_a_cookie_that_no_script_and_no_other_site_gets(world:
 
 def test_who_signs_out_is_signed_in_no_more_even_with_the_cookie(world: World) -> None:
     before = world.field("hal")
-    assert status_of(raw(world, "GET /child/1", before)) == 200
+    assert status_of(raw(world, "GET /children/1", before)) == 200
     answer = world.submit("/sign-out", "hal")
     assert (answer.status, answer.fields["location"]) == (303, "/sign-in")
     world.sessions.pop("hal")
-    assert status_of(raw(world, "GET /child/1", before)) == 401
+    assert status_of(raw(world, "GET /children/1", before)) == 401
 
 
 @pytest.mark.parametrize("secret", ["", "x", "A" * 43, "%00", "' OR 1=1 --", "x" * 7000])
 def test_a_session_that_is_none_is_refused(world: World, secret: str) -> None:
-    assert status_of(raw(world, "GET /child/1", f"Cookie: {COOKIE}={secret}")) == 401
+    assert status_of(raw(world, "GET /children/1", f"Cookie: {COOKIE}={secret}")) == 401
 
 
 def test_a_session_in_a_cookie_of_another_name_is_none(world: World) -> None:
     secret = world.session("jane")
-    assert status_of(raw(world, "GET /child/1", f"Cookie: admissions={secret}")) == 401
+    assert status_of(raw(world, "GET /children/1", f"Cookie: admissions={secret}")) == 401
 
 
-# What the office gets, a person as well as a program
+# What the office gets: people the screens, and programs the register's own answers
 
 
-@pytest.fixture(name="who", params=["jane", "hal", "rita", "robot"])
-def who_fixture(request: pytest.FixtureRequest) -> str:
-    """A head of the office, an officer, a reader, and a program."""
+@pytest.fixture(name="program", params=["robot", "reads"])
+def program_fixture(request: pytest.FixtureRequest) -> str:
+    """A program of an officer, and one of a reader."""
     name: str = request.param
     return name
 
 
+@pytest.mark.parametrize("path", ["/child/1", "/child/1/letter", "/school/A/waiting", "/round/1",
+                                  *WHOLE])
+def test_a_session_gets_nothing_of_what_is_for_programs_and_is_told_so(
+        world: World, path: str) -> None:
+    answer = world.ask(path, "jane")
+    assert (answer.status, json_of(answer)) == (403, {"reason": OF_PROGRAMS, "status": 403})
+
+
+@pytest.mark.parametrize("who", ["jane", "hal", "rita", "robot"])
 def test_people_of_the_office_get_a_screen_and_a_program_does_not(world: World, who: str) -> None:
     screen = world.ask("/lists/", who)
     wanted = (403, False) if who == "robot" else (200, True)
@@ -280,15 +289,15 @@ def test_a_file_of_the_screens_has_its_type(world: World, path: str, kind: str) 
     assert world.ask(path, "jane").fields.get("content-type") == kind
 
 
-def test_the_office_reads_a_child(world: World, who: str) -> None:
-    child = world.ask("/child/2", who)
+def test_a_program_reads_a_child(world: World, program: str) -> None:
+    child = world.ask("/child/2", program)
     assert (child.status, child.body) == (
         200, '{"child":2,"place":{"kind":"offered","school":"B"},'
         '"waiting":[{"position":1,"school":"A"}]}')
 
 
 def test_nothing_is_kept_in_a_cache_or_taken_for_another_type(world: World) -> None:
-    fields = world.ask("/child/2", "jane").fields
+    fields = world.ask("/child/2", "robot").fields
     assert (fields.get("cache-control"), fields.get("x-content-type-options")) == (
         "no-store", "nosniff")
 
@@ -298,28 +307,28 @@ def test_nothing_is_kept_in_a_cache_or_taken_for_another_type(world: World) -> N
     ("/school/A/waiting", "Waiting list of A Alpha"),
     ("/round/1", "Round 1, draw 1, 2025-03-03"),
 ])
-def test_the_office_reads_letters_lists_and_reports(
-        world: World, who: str, path: str, first: str) -> None:
-    answer = world.ask(path, who)
+def test_a_program_reads_letters_lists_and_reports(
+        world: World, program: str, path: str, first: str) -> None:
+    answer = world.ask(path, program)
     assert (answer.status, answer.body.split("\n")[0]) == (200, first)
 
 
 @pytest.mark.parametrize("path, begin", [
     ("/register", '{"children":['), ("/draw/1", '{"cutoffs":['),
     ("/pairs", "A 2\n"), ("/pairs/A", "A 2\n")])
-def test_the_office_reads_what_shows_all_children(
-        world: World, who: str, path: str, begin: str) -> None:
-    answer = world.ask(path, who)
+def test_a_program_reads_what_shows_all_children(
+        world: World, program: str, path: str, begin: str) -> None:
+    answer = world.ask(path, program)
     assert (answer.status, answer.body[:len(begin)]) == (200, begin)
 
 
-def test_the_office_asks_what_would_be(world: World, who: str) -> None:
-    assert world.ask("/what-if", who, QUESTION).status == 200
+def test_a_program_asks_what_would_be(world: World, program: str) -> None:
+    assert world.ask("/what-if", program, QUESTION).status == 200
 
 
 @pytest.mark.parametrize("path", ["/child/7", "/school/X/waiting", "/round/2", "/nothing"])
 def test_what_is_not_there_is_not_found(world: World, path: str) -> None:
-    assert world.ask(path, "jane").status == 404
+    assert world.ask(path, "robot").status == 404
 
 
 @pytest.mark.skipif(not HAS_IPV6, reason="this machine has no IPv6")
@@ -331,21 +340,21 @@ def test_the_site_is_at_ipv6_too(world: World) -> None:
 @pytest.mark.parametrize("method, path, status", [("GET", "/command", 405),
                                                   ("PUT", "/child/1", 405)])
 def test_another_method_is_refused(world: World, method: str, path: str, status: int) -> None:
-    assert world.ask(path, "jane", options=("--request", method)).status == status
+    assert world.ask(path, "robot", options=("--request", method)).status == status
 
 
-# What a school gets
+# What a school gets, its program and its head
 
 
 def test_a_school_reads_its_own_list(world: World) -> None:
-    own = world.ask("/school/A/waiting", "alpha")
+    own = world.ask("/school/A/waiting", "lists")
     assert (own.status, own.body.split("\n")[0]) == (200, "Waiting list of A Alpha")
 
 
 @pytest.mark.parametrize("path", ["/school/B/waiting", "/school/AA/waiting", "/school/a/waiting",
                                   "/child/2", "/child/2/letter", "/round/1", "/lists/", *WHOLE])
 def test_a_school_reads_nothing_else(world: World, path: str) -> None:
-    assert world.ask(path, "alpha").status == 403
+    assert world.ask(path, "lists").status == 403
 
 
 @pytest.mark.parametrize("path", [
@@ -354,21 +363,21 @@ def test_a_school_reads_nothing_else(world: World, path: str) -> None:
     "/school/A%2f..%2fB/waiting", "/school/A/waiting%00/../../B/waiting", "/school/B/waiting/",
     f"https://{NAME}/school/B/waiting"])
 def test_a_school_reads_no_other_list_by_another_way(world: World, path: str) -> None:
-    answer = raw(world, f"GET {path}", world.field("alpha"))
+    answer = raw(world, f"GET {path}", world.field("lists"))
     assert status_of(answer) in (308, 400, 403, 404)
     assert "Cyd Cole" not in answer and "Waiting list" not in answer
 
 
 def test_a_school_reads_its_own_list_by_another_way(world: World) -> None:
     for path in ("/school/A/waiting?", f"https://{NAME}/school/A/waiting"):
-        answer = raw(world, f"GET {path}", world.field("alpha"))
+        answer = raw(world, f"GET {path}", world.field("lists"))
         assert (status_of(answer), "Waiting list of A Alpha" in answer) == (200, True)
 
 
 @pytest.mark.parametrize("path, body, status", [
     ("/command", ACCEPT, 403), ("/what-if", QUESTION, 403), ("/school/A/waiting", ACCEPT, 405)])
 def test_a_school_sends_nothing(world: World, path: str, body: str, status: int) -> None:
-    assert world.ask(path, "alpha", body).status == status
+    assert world.ask(path, "lists", body).status == status
 
 
 def test_a_school_gets_only_screens_of_its_own(world: World, screens: list[str]) -> None:
@@ -381,18 +390,16 @@ def test_a_school_gets_only_screens_of_its_own(world: World, screens: list[str])
 # What others get who sign in
 
 
-@pytest.mark.parametrize("path", ["/lists/", "/child/1", "/child/1/letter", "/school/A/waiting",
-                                  "/round/1", *WHOLE])
+@pytest.mark.parametrize("path", ["/lists/", "/children/", "/children/1", "/schools/A"])
 @pytest.mark.parametrize("name", ["sup", "adam"])
 def test_who_draws_lots_and_who_adds_people_see_no_child(
         world: World, name: str, path: str) -> None:
     assert world.ask(path, name).status == 403
 
 
-@pytest.mark.parametrize("name", ["sup", "adam", "rita"])
-def test_they_and_a_reader_send_no_command_and_no_rows(world: World, name: str) -> None:
-    assert [world.ask("/command", name, ACCEPT).status,
-            world.ask("/import", name, ROWS, kind="text/csv").status] == [403, 403]
+def test_the_program_of_a_reader_sends_no_command_and_no_rows(world: World) -> None:
+    assert [world.ask("/command", "reads", ACCEPT).status,
+            world.ask("/import", "reads", ROWS, kind="text/csv").status] == [403, 403]
 
 
 @pytest.mark.parametrize("name, own", [("sup", "/lots/"), ("adam", "/people/")])
@@ -403,12 +410,12 @@ def test_each_gets_what_is_its_own(world: World, name: str, own: str) -> None:
 def test_who_is_refused_is_on_record_with_what_was_asked_and_once_in_a_minute(
         world: World) -> None:
     before = len(world.entries())
-    assert [world.ask("/child/31", "alpha").status for _ in range(3)] == [403] * 3
+    assert [world.ask("/children/31", "alpha").status for _ in range(3)] == [403] * 3
     refused = [(it["who"], it["what"], it["about"]) for it in world.entries()[before:]]
-    assert refused == [("alpha", "refused", {"asked": "GET /child/31", "role": "school-A"})]
+    assert refused == [("alpha", "refused", {"asked": "GET /children/31", "role": "school-A"})]
 
 
-# What a page of another site can make a browser send, with the session of who is signed in
+# What a page of another site can make a browser send
 
 
 @pytest.mark.parametrize("origin", [
@@ -420,35 +427,33 @@ def test_who_is_refused_is_on_record_with_what_was_asked_and_once_in_a_minute(
     pytest.param(None, id="without an origin"),
 ])
 def test_a_command_from_another_page_is_refused(world: World, origin: str | None) -> None:
-    assert world.ask("/command", "jane", ACCEPT, origin=origin).status == 403
+    assert world.ask("/command", "robot", ACCEPT, origin=origin).status == 403
 
 
 @pytest.mark.parametrize("kind, status", [
     (FORM, 403), ("text/plain", 403), ("multipart/form-data; boundary=x", 403),
     ("application/json, text/plain", 415), ("", 403), ("text/csv", 415)])
-@pytest.mark.parametrize("name", ["jane", "robot"])
-def test_a_command_of_another_type_is_refused(
-        world: World, name: str, kind: str, status: int) -> None:
-    assert world.ask("/command", name, ACCEPT, kind=kind).status == status
+def test_a_command_of_another_type_is_refused(world: World, kind: str, status: int) -> None:
+    assert world.ask("/command", "robot", ACCEPT, kind=kind).status == status
 
 
 @pytest.mark.parametrize("kind, status", [("application/json", 415), ("text/plain", 403),
                                           ("text/csv, text/plain", 415), ("", 403)])
 def test_rows_of_another_type_are_refused(world: World, kind: str, status: int) -> None:
-    assert world.ask("/import", "jane", ROWS, kind=kind).status == status
+    assert world.ask("/import", "robot", ROWS, kind=kind).status == status
 
 
 def test_rows_from_another_site_are_refused(world: World) -> None:
-    assert world.ask("/import", "jane", ROWS, origin=EVIL, kind="text/csv").status == 403
+    assert world.ask("/import", "robot", ROWS, origin=EVIL, kind="text/csv").status == 403
 
 
 def test_nobody_but_the_office_sends_rows(world: World) -> None:
-    statuses = [world.ask("/import", who, ROWS, kind="text/csv").status for who in (None, "alpha")]
+    statuses = [world.ask("/import", who, ROWS, kind="text/csv").status for who in (None, "lists")]
     assert statuses == [401, 403]
 
 
 def test_a_question_from_another_site_is_refused(world: World) -> None:
-    assert world.ask("/what-if", "jane", QUESTION, origin=EVIL).status == 403
+    assert world.ask("/what-if", "robot", QUESTION, origin=EVIL).status == 403
 
 
 @pytest.mark.parametrize("secret", ["", "x", "of another session"])
@@ -458,18 +463,18 @@ def test_a_form_without_the_secret_of_its_session_is_refused(world: World, secre
     found = re.findall('name="form" value="([^"]+)"', page)[0] if len(secret) > 1 else secret
     form = {"what": "lock", "name": "rita", "form": found}
     answer = world.ask("/people/", "jane", urllib.parse.urlencode(form), kind=FORM)
-    assert (answer.status, world.ask("/child/1", "rita").status) == (403, 200)
+    assert (answer.status, world.ask("/children/1", "rita").status) == (403, 200)
 
 
 def test_a_form_with_its_secret_from_another_site_is_refused(world: World) -> None:
     secret = re.findall('name="form" value="([^"]+)"', world.ask("/people/", "jane").body)[0]
     form = urllib.parse.urlencode({"what": "lock", "name": "rita", "form": secret})
     answer = world.ask("/people/", "jane", form, EVIL, FORM)
-    assert (answer.status, world.ask("/child/1", "rita").status) == (403, 200)
+    assert (answer.status, world.ask("/children/1", "rita").status) == (403, 200)
 
 
 def test_another_site_is_not_permitted_to_ask(world: World) -> None:
-    asked = world.ask("/command", "jane", options=(
+    asked = world.ask("/command", "robot", options=(
         "--request", "OPTIONS", "--header", f"Origin: {EVIL}",
         "--header", "Access-Control-Request-Method: POST"))
     permissions = [name for name in asked.fields if name.startswith("access-control")]
@@ -481,7 +486,7 @@ def test_another_site_is_not_permitted_to_ask(world: World) -> None:
 
 def test_a_body_of_the_greatest_length_reaches_the_desk(world: World) -> None:
     (world.room / "body").write_text(" " * 1_048_576)
-    answer = world.ask("/command", "jane", f"@{world.room}/body")
+    answer = world.ask("/command", "robot", f"@{world.room}/body")
     assert answer.body == '{"fault":1,"name":"NotJson"}'
 
 
@@ -490,13 +495,13 @@ def test_a_body_of_the_greatest_length_reaches_the_desk(world: World) -> None:
                                         ("/what-if", "application/json")])
 def test_a_body_of_one_byte_more_is_refused(
         world: World, long_body: str, path: str, kind: str, options: tuple[str, ...]) -> None:
-    assert world.ask(path, "jane", long_body, kind=kind, options=options).status == 413
+    assert world.ask(path, "robot", long_body, kind=kind, options=options).status == 413
 
 
 def test_a_body_that_is_longer_than_what_a_head_may_be_is_done(world: World) -> None:
     """As a workbook, or many rows, is."""
     rows = HEAD + "".join(f"1,Row,0,700,no,,,2025-06-02,{'B' * 12}\n" for _ in range(1000))
-    answer = world.ask("/import", "jane", rows, kind="text/csv")
+    answer = world.ask("/import", "robot", rows, kind="text/csv")
     assert len(rows) > 20_000
     assert (answer.status, json.loads(answer.body)["fault"] > 0) == (400, True)
 
@@ -511,10 +516,10 @@ OTHER_FILES = (
 @pytest.mark.parametrize("options", [(), CHUNKED])
 def test_a_gazetteer_is_taken_at_its_own_address_alone(
         world: World, options: tuple[str, ...]) -> None:
-    """It is longer than all other files. (What is sent here is none, as the application says.)"""
+    """It is longer than all other files. (What is sent here is no form of a screen.)"""
     (world.room / "gazetteer").write_text(" " * (17 << 20))
     body = f"@{world.room}/gazetteer"
-    assert world.ask("/applications/gazetteer/file", "jane", body, options=options).status == 409
+    assert world.ask("/applications/gazetteer/file", "jane", body, options=options).status == 403
     for path in OTHER_FILES:
         assert world.ask(path, "jane", body, options=options).status == 413, path
     assert world.ask("/applications/gazetteer/file", None, body).status == 401
@@ -535,20 +540,20 @@ def test_a_sign_in_of_over_8_kb_is_not_read(world: World) -> None:
 ])
 def test_a_target_a_field_or_a_head_that_is_too_long_is_refused(
         world: World, path: str, options: tuple[str, ...], statuses: list[int]) -> None:
-    seen = [world.ask(path, "jane", options=(version, *options)).status for version in HTTP]
+    seen = [world.ask(path, "robot", options=(version, *options)).status for version in HTTP]
     assert seen == statuses
 
 
 def test_100_short_fields_stay_here_and_the_desk_does_not_see_them(world: World) -> None:
     many = itertools.chain.from_iterable(("--header", f"X{it}: x") for it in range(100))
-    assert world.ask("/child/1", "jane", options=tuple(many)).status == 200
+    assert world.ask("/child/1", "robot", options=tuple(many)).status == 200
 
 
 # Other names, and TLS
 
 
 def test_another_name_in_the_head_is_refused(world: World) -> None:
-    other = world.ask("/child/1", "jane", options=("--header", "Host: evil.example"))
+    other = world.ask("/child/1", "robot", options=("--header", "Host: evil.example"))
     assert other.status == 421
 
 
@@ -573,7 +578,7 @@ def test_the_port_of_the_site_requires_tls(world: World) -> None:
 
 
 def test_an_old_version_of_tls_is_refused_by_the_site(world: World) -> None:
-    old = world.ask("/child/1", "jane", options=(
+    old = world.ask("/child/1", "robot", options=(
         "--tlsv1.0", "--tls-max", "1.1", "--ciphers", "DEFAULT:@SECLEVEL=0", "--show-error"))
     assert old.status == 0
     assert "alert protocol version" in old.error
@@ -612,58 +617,66 @@ LONG_BODY = ("a body has at most 16 MB, a gazetteer 64 MB, a sign-in 8 KB, and 1
              " is signed in")
 LONG_COMMAND = "the register takes at most 1,048,576 bytes at once"
 NO_REQUEST = "this is no request that the site reads, or its head has over 8 KB"
+OF_PROGRAMS = ("this is for other programs, which send a token: the head of the office adds a"
+               " program on the screen People")
 # What is asked, its status and the reason
 REFUSED: dict[str, tuple[Ask, int, str]] = {
     "no sign-in": (lambda world: world.ask("/child/1"), 401, SIGN_IN),
     "a command of nobody": (lambda world: world.ask("/command", None, ACCEPT), 401, SIGN_IN),
     "a wrong token": (
         lambda world: world.ask("/child/1", options=("--user", "robot:wrong")), 401, SIGN_IN),
-    "a role": (lambda world: world.ask("/command", "rita", ACCEPT), 403,
-               "the role reader may not do this"),
-    "another school": (lambda world: world.ask("/school/B/waiting", "alpha"), 403,
+    "a role": (lambda world: world.ask("/people/", "rita"), 403, "the role reader may not do this"),
+    "another school": (lambda world: world.ask("/schools/B", "alpha"), 403,
                        "the role school-A may not do this"),
+    "a program": (lambda world: world.ask("/command", "reads", ACCEPT), 403,
+                  "a program may not do this"),
+    "a session": (lambda world: world.ask("/command", "jane", ACCEPT), 403, OF_PROGRAMS),
     "another site": (
-        lambda world: world.ask("/command", "jane", ACCEPT, origin=EVIL), 403, NOT_FROM_HERE),
+        lambda world: world.ask("/command", "robot", ACCEPT, origin=EVIL), 403, NOT_FROM_HERE),
     "no JSON": (
-        lambda world: world.ask("/command", "jane", ACCEPT, kind="text/plain"), 403, NOT_FROM_HERE),
+        lambda world: world.ask("/command", "robot", ACCEPT, kind="text/plain"), 403,
+        NOT_FROM_HERE),
     "rows that are a command": (
-        lambda world: world.ask("/command", "jane", ACCEPT, kind="text/csv"), 415,
+        lambda world: world.ask("/command", "robot", ACCEPT, kind="text/csv"), 415,
         "this takes application/json alone"),
     "no such file": (
         lambda world: world.ask("/nothing.js", "jane"), 404, "there is no such page"),
-    "a POST to the page": (
+    "a POST to a screen": (
         lambda world: world.ask("/lists/", "jane", ACCEPT), 405, "the page takes no such request"),
     "a long command": (
-        lambda world: world.ask("/command", "jane", f"@{world.room}/long-body"), 413, LONG_COMMAND),
+        lambda world: world.ask("/command", "robot", f"@{world.room}/long-body"), 413,
+        LONG_COMMAND),
     "a long body": (
-        lambda world: world.ask("/command", "jane", f"@{world.room}/longest-body"), 413, LONG_BODY),
+        lambda world: world.ask("/command", "robot", f"@{world.room}/longest-body"), 413,
+        LONG_BODY),
     "a long body in chunks": (
-        lambda world: world.ask("/command", "jane", f"@{world.room}/longest-body", options=CHUNKED),
-        413, LONG_BODY),
+        lambda world: world.ask(
+            "/command", "robot", f"@{world.room}/longest-body", options=CHUNKED), 413, LONG_BODY),
     "a long sign-in": (
         lambda world: world.sign_in("jane", "x" * 8192, "--interface", "127.0.2.40"), 413,
         LONG_BODY),
     "a long address": (
-        lambda world: world.ask("/" + "x" * 8192, "jane", options=("--http1.1",)), 414,
+        lambda world: world.ask("/" + "x" * 8192, "robot", options=("--http1.1",)), 414,
         "an address has at most 8 KB"),
     "a long head": (
-        lambda world: world.ask("/child/1", "jane", options=(
+        lambda world: world.ask("/child/1", "robot", options=(
             "--http1.1", "--header", "X: " + "x" * 8192)), 400, NO_REQUEST),
     "a length that is none": (
-        lambda world: world.ask("/child/1", "jane", options=(
+        lambda world: world.ask("/child/1", "robot", options=(
             "--http1.1", "--header", "Content-Length: x")), 400, NO_REQUEST),
 }
-PATHS = ("/", "/lists/", "/pile.js", "/register", "/child/2",
-         "/child/2/letter", "/school/A/waiting", "/round/1", "/child/7", "/command", "/people/")
+SCREENS = ("/", "/lists/", "/people/", "/pile.js")
+PATHS = (*SCREENS, "/register", "/child/2", "/child/2/letter", "/school/A/waiting", "/round/1",
+         "/child/7", "/command")
 # Others, of which the desk refuses some
 OTHERS: dict[str, Ask] = {
     "a command that is refused": lambda world: world.ask(
-        "/command", "jane", ACCEPT.replace('"A"', '"B"')),
-    "not JSON": lambda world: world.ask("/command", "jane", "{"),
-    "PUT": lambda world: world.ask("/child/1", "jane", options=("--request", "PUT")),
+        "/command", "robot", ACCEPT.replace('"A"', '"B"')),
+    "not JSON": lambda world: world.ask("/command", "robot", "{"),
+    "PUT": lambda world: world.ask("/child/1", "robot", options=("--request", "PUT")),
     "a part": lambda world: world.ask("/pile.js", "jane", options=("--range", "0-1")),
     "no such part": lambda world: world.ask("/pile.js", "jane", options=("--range", "99999999-")),
-    "compressed": lambda world: world.ask("/register", "jane", options=("--compressed",)),
+    "compressed": lambda world: world.ask("/register", "robot", options=("--compressed",)),
     "the form": lambda world: world.ask("/sign-in"),
     "a page of nobody": lambda world: world.ask("/lists/", options=PAGE),
     "a form of nobody": lambda world: world.ask(
@@ -677,12 +690,17 @@ OTHERS: dict[str, Ask] = {
 }
 
 
+def asker(path: str) -> str:
+    """Who asks for a path: a person for a screen, and a program for what is for programs."""
+    return "jane" if path in SCREENS else "robot"
+
+
 @pytest.fixture(scope="module", name="answers")
 def answers_fixture(world: World, long_body: str) -> dict[str, Answer]:
     """The answer to each of these. (Three of them send a long body.)"""
     (world.room / "longest-body").write_text(" " * ((16 << 20) + 1))
     answers = {what: ask(world) for what, (ask, _, _) in REFUSED.items()}
-    answers |= {path: world.ask(path, "jane") for path in PATHS}
+    answers |= {path: world.ask(path, asker(path)) for path in PATHS}
     return answers | {what: ask(world) for what, ask in OTHERS.items()}
 
 
@@ -703,7 +721,7 @@ def test_who_is_refused_gets_the_reason(answers: dict[str, Answer], what: str) -
 
 
 def test_a_request_for_another_host_gets_the_reason(world: World) -> None:
-    other = world.ask("/child/1", "jane", options=("--header", "Host: evil.example"))
+    other = world.ask("/child/1", "robot", options=("--header", "Host: evil.example"))
     assert (other.status, json_of(other), other.fields.get("server")) == (
         421, {"reason": "this machine has no site of this name", "status": 421}, "nginx")
 
@@ -720,10 +738,10 @@ def test_the_register_is_compressed_for_whoever_takes_that_and_is_the_same(
     assert compressed.body == plain.body
 
 
-@pytest.mark.parametrize("path", ["/pile.js", "/", "/lists/", "/people/", "/child/2"])
+@pytest.mark.parametrize("path", [*SCREENS, "/child/2"])
 def test_what_has_a_secret_beside_something_of_the_request_is_not_compressed(
         world: World, path: str) -> None:
-    answer = world.ask(path, "jane", options=("--compressed",))
+    answer = world.ask(path, asker(path), options=("--compressed",))
     assert (answer.status, answer.fields.get("content-encoding")) == (200, None)
 
 
@@ -807,13 +825,13 @@ def test_what_is_no_text_is_answered_by_the_register_and_is_in_the_history_as_te
         world: World) -> None:
     before = len(world.entries())
     body = '{"cmd":"accept","child":1,"school":"\xff\xfe"}'
-    answer = raw(world, "POST /command", world.field("jane"), f"Origin: https://{NAME}",
+    answer = raw(world, "POST /command", world.field("robot"), f"Origin: https://{NAME}",
                  "Content-Type: application/json", f"Content-Length: {len(body)}", "",
                  body, source=STRANGER)
     assert status_of(answer) == 400
     assert [(it["who"], it["what"], it["about"]) for it in world.entries()[before:]] == [
-        ("jane", "sends", {"line": body.replace("\xff\xfe", "\ufffd\ufffd")}),
-        ("jane", "answer", {"of": before + 1, "answer": {"fault": 1, "name": "NotJson"}})]
+        ("robot", "sends", {"line": body.replace("\xff\xfe", "\ufffd\ufffd")}),
+        ("robot", "answer", {"of": before + 1, "answer": {"fault": 1, "name": "NotJson"}})]
 
 
 def test_of_a_long_line_that_is_no_command_the_begin_alone_is_in_the_history(
@@ -852,7 +870,7 @@ class Tries(NamedTuple):
 def tries_fixture(world: World) -> Tries:
     """Sends them."""
     here, elsewhere = ("--interface", "127.0.0.3"), ("--interface", "127.0.0.5")
-    world.ask("/child/1", "jane")
+    world.ask("/children/1", "jane")
     before, began = len(world.entries()), time.monotonic()
     with concurrent.futures.ThreadPoolExecutor(40) as pool:
         wrong = list(pool.map(lambda _: world.sign_in("rita", "wrong", *here), range(200)))
@@ -862,7 +880,7 @@ def tries_fixture(world: World) -> Tries:
     answers = (world.sign_in("rita", world.passwords["rita"], *here) for _ in range(100))
     right = next(it for it in answers if it.status != 429)
     return Tries(wrong, seconds, right, world.ask("/child/1", options=here),
-                 world.ask("/child/1", "jane", options=here),
+                 world.ask("/children/1", "jane", options=here),
                  world.ask("/child/1", "robot", options=here),
                  world.sign_in("rita", world.passwords["rita"], *elsewhere), lines)
 
@@ -956,7 +974,7 @@ def test_the_time_of_an_answer_does_not_tell_which_names_there_are(
     assert apart(times) < times["right"] / 4
 
 
-# What the office sends
+# What a program of the office sends
 
 
 def test_nothing_of_the_above_has_changed_the_child(world: World, letter_before: str) -> None:
@@ -964,15 +982,15 @@ def test_nothing_of_the_above_has_changed_the_child(world: World, letter_before:
 
 
 def test_a_command_of_the_office_is_done_and_refused_when_it_is_repeated(world: World) -> None:
-    done = world.ask("/command", "jane", ACCEPT)
+    done = world.ask("/command", "robot", ACCEPT)
     assert (done.status, done.body) == (200, '{"done":true}')
-    again = world.ask("/command", "jane", ACCEPT)
+    again = world.ask("/command", "robot", ACCEPT)
     assert (again.status, again.body) == (409, '{"name":"NotOffered","refused":15}')
 
 
 def test_the_same_type_in_other_letters_is_accepted(world: World) -> None:
     kind = "application/json; charset=UTF-8"
-    assert world.ask("/command", "jane", ACCEPT, kind=kind).status == 409
+    assert world.ask("/command", "robot", ACCEPT, kind=kind).status == 409
 
 
 @pytest.mark.parametrize("rows, kind, status, body", [
@@ -984,27 +1002,27 @@ def test_the_same_type_in_other_letters_is_accepted(world: World) -> None:
 ])
 def test_rows_of_the_office_are_imported_or_refused_or_not_read_with_their_number(
         world: World, rows: str, kind: str, status: int, body: str) -> None:
-    answer = world.ask("/import", "jane", rows, kind=kind)
+    answer = world.ask("/import", "robot", rows, kind=kind)
     assert (answer.status, answer.body) == (status, body)
 
 
 def test_a_body_in_chunks_is_passed_on_whole(world: World) -> None:
-    answer = world.ask("/command", "jane", ACCEPT, options=CHUNKED)
+    answer = world.ask("/command", "robot", ACCEPT, options=CHUNKED)
     assert answer.body == '{"name":"NotOffered","refused":15}'
 
 
 @pytest.mark.parametrize("name", ["rita", "robot"])
 def test_who_is_locked_is_signed_in_no_more_and_who_is_not_any_more_signs_in_again(
         world: World, name: str) -> None:
-    before = world.field(name)
-    assert status_of(raw(world, "GET /child/1", before)) == 200
+    before, path = world.field(name), "/child/1" if name == "robot" else "/children/1"
+    assert status_of(raw(world, f"GET {path}", before)) == 200
     try:
         assert changed(world, what="lock", name=name).status == 200
-        assert status_of(raw(world, "GET /child/1", before)) == 401
+        assert status_of(raw(world, f"GET {path}", before)) == 401
     finally:
         changed(world, what="unlock", name=name)
         world.sessions.pop(name, None)
-    assert world.ask("/child/1", name).status == 200
+    assert world.ask(path, name).status == 200
 
 
 def test_who_is_given_another_role_has_no_more_what_the_one_before_could(world: World) -> None:
@@ -1012,12 +1030,12 @@ def test_who_is_given_another_role_has_no_more_what_the_one_before_could(world: 
     try:
         changed(world, what="role", name="hal", role="reader")
         world.sessions.pop("hal")
-        assert status_of(raw(world, "GET /child/1", before)) == 401
-        assert world.ask("/command", "hal", ACCEPT).status == 403
+        assert status_of(raw(world, "GET /children/1", before)) == 401
+        assert world.ask("/activity/", "hal").status == 403
     finally:
         changed(world, what="role", name="hal", role="officer")
         world.sessions.pop("hal")
-    assert world.ask("/command", "hal", ACCEPT).status == 409
+    assert world.ask("/activity/", "hal").status == 200
 
 
 def test_the_history_has_who_sent_which_command_and_its_result(world: World) -> None:
@@ -1025,7 +1043,7 @@ def test_the_history_has_who_sent_which_command_and_its_result(world: World) -> 
     answers = {it["about"]["of"]: it["about"]["answer"] for it in entries if it["what"] == "answer"}
     sent = [(it["who"], answers[it["n"]]) for it in entries
             if it["what"] == "sends" and it["about"].get("command") == json.loads(ACCEPT)]
-    assert sent[0] == ("jane", {"done": True})
+    assert sent[0] == ("robot", {"done": True})
     assert [answer for _, answer in sent].count({"done": True}) == 1
 
 

@@ -60,7 +60,7 @@ class Beside(NamedTuple):
 
 def open_slow_ones(world: World) -> list[Slow]:
     """Ten clients of each kind."""
-    signed_in = f"Host: {NAME}\r\n{world.field('jane')}\r\n"
+    signed_in = f"Host: {NAME}\r\n{world.field('robot')}\r\n"
     head = f"GET /child/1 HTTP/1.1\r\n{signed_in}X: {'x' * 7000}".encode()
     body = (f"POST /command HTTP/1.1\r\n{signed_in}Content-Type: application/json\r\n"
             f"Origin: https://{NAME}\r\nContent-Length: 500000\r\n\r\n{{").encode()
@@ -79,8 +79,8 @@ def beside_fixture(world: World) -> Beside:
     for _ in range(5):
         clients = open_slow_ones(world)
         with concurrent.futures.ThreadPoolExecutor(8) as pool:
-            asked = [pool.submit(world.ask, "/command", "jane", AMEND)]
-            asked += [pool.submit(world.ask, "/child/1", "jane") for _ in range(7)]
+            asked = [pool.submit(world.ask, "/command", "robot", AMEND)]
+            asked += [pool.submit(world.ask, "/child/1", "robot") for _ in range(7)]
             while not all(it.done() for it in asked):
                 for client in clients:
                     client.drip()
@@ -134,7 +134,7 @@ def test_beside_over_1536_half_heads_and_silent_clients_of_one_address_another_i
     for _ in range(5):
         clients = [Slow(world.connect("127.0.0.2"), head) for _ in range(half)]
         clients += [Slow(world.knock("127.0.0.2")) for _ in range(silent)]
-        status = world.ask("/child/1", "jane").status
+        status = world.ask("/child/1", "robot").status
         still_open = sum(it.ended() is None for it in clients)
         for it in clients:
             it.connection.close()

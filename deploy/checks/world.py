@@ -30,6 +30,7 @@ PEOPLE = {
     "jane": Account("head"), "hal": Account("officer"), "rita": Account("reader"),
     "alpha": Account("school-A"), "sup": Account("supervisor"), "adam": Account("administrator"),
     "smith": Account("officer", is_locked=True), "robot": Account("officer", is_program=True),
+    "reads": Account("reader", is_program=True), "lists": Account("school-A", is_program=True),
 }
 # Has the site of a register, the machine's own part, or a main file of nginx made by the installed
 # admissions-setup: its folder, then what is called and its arguments
@@ -472,7 +473,7 @@ class World:
             return basic(who, self.passwords[who])
         return f"Cookie: {COOKIE}={self.session(who)}"
 
-    def send(self, who: str = "jane", **command: object) -> None:
+    def send(self, who: str = "robot", **command: object) -> None:
         """Sends a command that must be done, as somebody else of the office does."""
         answer = self.ask("/command", who, json.dumps(command))
         if answer.status != 200:
@@ -480,7 +481,7 @@ class World:
 
     def letter(self, child: int) -> str:
         """The letter of a child."""
-        return self.ask(f"/child/{child}/letter", "jane").body
+        return self.ask(f"/child/{child}/letter", "robot").body
 
     def place(self, child: int) -> str:
         """The place of a child, as its letter has it."""
@@ -488,7 +489,7 @@ class World:
 
     def stored(self) -> dict[int, dict[str, Any]]:
         """The children as the register has them now, by their numbers."""
-        children = json.loads(self.ask("/register", "jane").body)["children"]
+        children = json.loads(self.ask("/register", "robot").body)["children"]
         return {it["child"]: it for it in children}
 
     def connect(self, source: str = "127.0.0.1") -> ssl.SSLSocket:

@@ -2,6 +2,7 @@
 import base64
 import contextlib
 import html.parser
+import json
 import pathlib
 import re
 import urllib.parse
@@ -92,14 +93,33 @@ class Browser:
         shown = re.findall('name="shown" value="([0-9a-f]+)"', asked.text)
         return self.post("/people/", {**given, "shown": shown[0]}) if shown else asked
 
-    def command(self, command: dict[str, Any], seen: str | None = None) -> Answer:
-        """A command, as the page sends it."""
-        headers = {"Origin": ORIGIN, **({"X-Seen": seen} if seen else {})}
-        return self.client.post("/command", base_url=ORIGIN, headers=headers, json=command)
-
     def sign_in(self, name: str, password: str) -> Answer:
         """The form of the sign-in."""
         return self.post("/sign-in", {"name": name, "password": password})
+
+
+class Program:
+    """Another program, which sends its token with each request."""
+
+    def __init__(self, site: flask.Flask, token: dict[str, str]) -> None:
+        self.client: flask.testing.FlaskClient = site.test_client()
+        self.token = token
+
+    def get(self, path: str) -> Answer:
+        """An answer of the register."""
+        return self.client.get(path, base_url=ORIGIN, headers=self.token)
+
+    def post(self, path: str, data: bytes | str, kind: str = "application/json",
+             origin: str | None = ORIGIN, **more: str) -> Answer:
+        """A body that is sent."""
+        headers = {**self.token, **({"Origin": origin} if origin else {}), **more}
+        return self.client.post(
+            path, base_url=ORIGIN, headers=headers, data=data, content_type=kind)
+
+    def command(self, command: dict[str, Any], seen: str | None = None) -> Answer:
+        """A command, with what its sender saw."""
+        more = {} if seen is None else {"X-Seen": seen}
+        return self.post("/command", json.dumps(command), **more)
 
 
 class Site:
@@ -128,6 +148,15 @@ class Site:
         # (a screen that each role has, with the secret of the session)
         found.get("/password")
         return found
+
+    def record(self, name: str, command: dict[str, Any]) -> None:
+        """What an officer records, by whatever screen."""
+        done = self.parts.desk.send(people.Person(name, people.OFFICER), command)
+        assert done.is_done, done
+
+    def program(self, name: str, role: str = people.OFFICER) -> Program:
+        """Another program."""
+        return Program(self.app, self.token(name, role))
 
     def token(self, name: str, role: str) -> dict[str, str]:
         """The header of a program."""

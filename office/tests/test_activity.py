@@ -7,6 +7,7 @@ from applications import ROUND, Browser, Site, office_over, town
 from pages import Page
 
 from office.web.history import SENDS, Entry
+from office.web.people import Person
 from office.web.screens import activity
 
 
@@ -14,9 +15,10 @@ from office.web.screens import activity
 def office_fixture(tmp_path_factory: pytest.TempPathFactory) -> Iterator[Site]:
     """The application after a round, in which two officers have recorded answers."""
     with office_over(tmp_path_factory.mktemp("activity"), [*town(), ROUND]) as found:
-        jane, bo = found.browser("jane"), found.browser("bo")
-        for browser, child, school in ((jane, 1, "A"), (bo, 3, "B"), (bo, 3, "B")):
-            browser.command({"cmd": "accept", "child": child, "school": school})
+        bo = found.browser("bo")
+        for who, child, school in (("jane", 1, "A"), ("bo", 3, "B"), ("bo", 3, "B")):
+            found.parts.desk.send(Person(who, "officer"), {
+                "cmd": "accept", "child": child, "school": school})
         bo.post("/flags/", {"flag-2": "<b>medical</b> need", "seen": "{}"})
         yield found
 

@@ -13,7 +13,9 @@ from collections.abc import Callable, Iterator
 from typing import Any
 
 import pytest
-from applications import ORIGIN, ROUND, Browser, Site, child, office_over, site, town
+from applications import (
+    ORIGIN, ROUND, Browser, Program, Site, child, office_over, site, town,
+)
 from conftest import ROOT
 from pages import Page, press
 from register_files import Refused
@@ -65,7 +67,7 @@ def test_a_browser_that_asks_for_an_icon_finds_no_error(office: Site) -> None:
 
 
 RIGHTS = [
-    # (method and path, and who may)
+    # (method and path, and who may: of what is for programs, those of the role)
     ("GET /", "head officer supervisor reader administrator school-A"),
     ("GET /register", "head officer reader"),
     ("GET /child/1", "head officer reader"),
@@ -78,27 +80,29 @@ RIGHTS = [
     ("POST /import", "head officer"),
     ("POST /people/", "head administrator"),
 ]
+SCREENS = ("/", "/activity/", "/people/")
 ROLES = ("head", "officer", "supervisor", "reader", "administrator", "school-A")
 
 
 @pytest.mark.parametrize("role", ROLES)
 def test_each_role_may_do_what_is_its_own(office: Site, role: str) -> None:
     """Everything else is refused, and on record."""
-    browser = office.browser("kim", role)
+    browser, program = office.browser("kim", role), office.program("portal", role)
     kinds = {"/command": "application/json", "/import": "text/csv"}
     for what, roles in RIGHTS:
         method, path = what.split()
-        found = browser.client.open(
-            path, method=method, base_url=ORIGIN, headers={"Origin": ORIGIN},
+        is_screen = path in SCREENS
+        found = (browser.client if is_screen else program.client).open(
+            path, method=method, base_url=ORIGIN,
+            headers={"Origin": ORIGIN, **({} if is_screen else program.token)},
             content_type=kinds.get(path, "application/x-www-form-urlencoded"),
-            data={} if path == "/command" or method == "GET" or path == "/import"
-            else {"form": browser.secret, "what": "none"})
+            data={"form": browser.secret, "what": "none"} if is_screen and method == "POST" else {})
         is_refused = found.status_code == 403
         assert is_refused == (role not in roles.split()), (what, found.status_code, found.text)
         if is_refused:
             last = office.parts.history.entries[-1]
             assert (last.who, last.what, last.about) == (
-                "kim", "refused", {"asked": what, "role": role})
+                "kim" if is_screen else "portal", "refused", {"asked": what, "role": role})
 
 
 def test_each_view_says_which_right_it_needs(office: Site) -> None:
@@ -118,12 +122,11 @@ def test_a_refusal_is_on_record_once_in_a_while(office: Site) -> None:
 
 
 def test_a_page_of_another_site_changes_nothing(office: Site) -> None:
-    """Neither by a form nor by a script."""
-    browser = office.browser("jane")
-    head = office.browser("hal", "head")
+    """Neither by a form nor by a script; nor does a program that does not name this site."""
+    portal, head = office.program("portal"), office.browser("hal", "head")
     for origin in ("https://evil.example", "null", "http://admissions.example", None):
         headers = {"Origin": origin} if origin else {}
-        found = browser.client.post("/command", base_url=ORIGIN, headers=headers, json=ACCEPT)
+        found = portal.post("/command", json.dumps(ACCEPT), origin=origin)
         assert found.status_code == 403
         given = {"what": "add", "name": "eve", "role": "head", "form": head.secret}
         found = head.client.post("/people/", base_url=ORIGIN, headers=headers, data=given)
@@ -131,24 +134,26 @@ def test_a_page_of_another_site_changes_nothing(office: Site) -> None:
     given = {"what": "add", "name": "eve", "role": "head", "form": "guessed"}
     found = head.client.post("/people/", base_url=ORIGIN, headers={"Origin": ORIGIN}, data=given)
     assert found.status_code == 403
-    plain = browser.client.post("/command", base_url=ORIGIN, headers={"Origin": ORIGIN},
-                                data=json.dumps(ACCEPT), content_type="text/plain")
-    assert plain.status_code == 403
+    # (of a kind that no form sends, and without the secret of the session)
+    del given["form"]
+    found = head.client.post("/people/", base_url=ORIGIN, headers={"Origin": ORIGIN}, json=given)
+    assert found.status_code == 403
+    assert portal.post("/command", json.dumps(ACCEPT), "text/plain").status_code == 403
     assert office.parts.people.store.row("SELECT 1 FROM person WHERE name='eve'") is None
     assert office.parts.desk.now().places[1].kind == "offered"
 
 
 def test_a_command_is_on_record_before_and_after(office: Site) -> None:
-    """With its person, and what the register answered."""
-    browser = office.browser("jane")
-    assert browser.command(ACCEPT).json == {"done": True}
+    """With its sender, and what the register answered."""
+    portal = office.program("portal")
+    assert portal.command(ACCEPT).json == {"done": True}
     sent, answer = office.parts.history.entries[-2:]
-    assert (sent.who, sent.what, sent.about) == ("jane", "sends", {"command": ACCEPT})
+    assert (sent.who, sent.what, sent.about) == ("portal", "sends", {"command": ACCEPT})
     assert (answer.what, answer.about) == ("answer", {"of": sent.number, "answer": {"done": True}})
-    assert browser.command({**ACCEPT, "child": 3}).status_code == 409
+    assert portal.command({**ACCEPT, "child": 3}).status_code == 409
     assert office.parts.history.entries[-1].about["answer"]["name"] == "NotOffered"
-    page = browser.get("/activity/?child=1").text
-    assert "accept child 1 school A" in page and "jane" in page
+    page = office.browser("jane").get("/activity/?child=1").text
+    assert "accept child 1 school A" in page and "portal" in page
 
 
 def test_what_seems_to_be_no_command_is_on_record_too(
@@ -157,10 +162,10 @@ def test_what_seems_to_be_no_command_is_on_record_too(
     """The register says what is wrong with it. One that knows more than the application may take
     it: so it goes no other way than a command, also while a draw has the register closed.
     """
-    jane = office.browser("jane")
+    jane = office.program("jane")
     found = jane.command({"cmd": "no_such"})
     assert (found.status_code, (found.json or {}).get("name")) == (400, "UnknownCommand")
-    assert "no_such" in Page(jane.get("/activity/").text).text
+    assert "no_such" in Page(office.browser("bo").get("/activity/").text).text
     monkeypatch.setattr("office.commands.wrong_field", lambda _: "a field is new")
     monkeypatch.setattr(office.parts.desk, "closed", lambda: "Closed for draw 2 by hal.")
     assert jane.command(ACCEPT).status_code == 503
@@ -175,8 +180,8 @@ def test_what_seems_to_be_no_command_is_on_record_too(
 
 
 def test_what_a_colleague_recorded_meanwhile_is_named(office: Site) -> None:
-    """A stale page does not decline a place that was accepted since."""
-    jane, bo = office.browser("jane"), office.browser("bo")
+    """What is stale does not decline a place that was accepted since."""
+    jane, bo = office.program("jane"), office.program("bo")
     seen = json.dumps(row_of(jane, "child", 1))
     assert jane.command(ACCEPT, seen).json == {"done": True}
     found = bo.command(DECLINE, seen)
@@ -187,14 +192,14 @@ def test_what_a_colleague_recorded_meanwhile_is_named(office: Site) -> None:
             if it.what == "sends"] == ["accept"]
 
 
-def row_of(browser: Browser, what: str, key: int | str) -> Any:
-    """A child or a school as the register's document has it, which the page reads."""
+def row_of(program: Program, what: str, key: int | str) -> Any:
+    """A child or a school as the register's document has it, which a program reads."""
     rows = {"child": "children", "school": "schools"}[what]
-    found: list[Any] = [it for it in browser.get("/register").json[rows] if it[what] == key]
+    found: list[Any] = [it for it in program.get("/register").json[rows] if it[what] == key]
     return found[0] if found else None
 
 
-# a command of the page, what somebody else does meanwhile, and what the page says then
+# a command, what somebody else does meanwhile, and what is said then
 MEANWHILE: dict[str, tuple[dict[str, Any], dict[str, Any], str]] = {
     "data": ({**child(1, "Ada Abel", 150), "cmd": "amend"}, {**child(1, "Ada Bell", 100),
              "cmd": "amend"}, "Child 1: jane recorded a correction at "),
@@ -205,9 +210,9 @@ MEANWHILE: dict[str, tuple[dict[str, Any], dict[str, Any], str]] = {
 
 
 @pytest.mark.parametrize("what", MEANWHILE)
-def test_what_the_page_saw_is_compared(office: Site, what: str) -> None:
+def test_what_a_program_saw_is_compared(office: Site, what: str) -> None:
     """A child's data, a number of places, and that there is none of a number."""
-    jane, bo = office.browser("jane"), office.browser("bo")
+    jane, bo = office.program("jane"), office.program("bo")
     late, early, said = MEANWHILE[what]
     name = "school" if "school" in late else "child"
     seen = json.dumps(row_of(bo, name, late[name]))
@@ -223,18 +228,15 @@ def test_what_the_page_saw_is_compared(office: Site, what: str) -> None:
 @pytest.mark.parametrize("seen", ("{", "[]", "{}", '{"child":1}', "1", '"null"', ""))
 def test_what_nobody_can_have_seen_sends_nothing(office: Site, seen: str) -> None:
     """A header that is no child of a register."""
-    jane = office.browser("jane")
-    found = jane.client.post("/command", base_url=ORIGIN, json=ACCEPT,
-                             headers={"Origin": ORIGIN, "X-Seen": seen})
-    assert found.status_code in (400, 409)
+    assert office.program("portal").command(ACCEPT, seen).status_code in (400, 409)
     assert office.parts.desk.now().places[1].kind == "offered"
 
 
 def test_without_a_history_nothing_is_sent(office: Site) -> None:
     """A full disk stops the application, and not the record."""
-    browser = office.browser("jane")
+    portal = office.program("portal")
     office.parts.history.fd, kept = -1, office.parts.history.fd
-    found = browser.command(ACCEPT)
+    found = portal.command(ACCEPT)
     assert found.status_code == 503
     assert "Nothing was recorded: the history cannot" in found.json["reason"]
     office.parts.history.fd = kept
@@ -259,9 +261,9 @@ def test_an_entry_is_on_the_disk_before_its_command_leaves(
     monkeypatch.setattr(os, "fsync", sync)
     monkeypatch.setattr(office.parts.desk.sender, "send", send)
     file = os.stat(office.parts.history.path).st_ino
-    jane = office.browser("jane")
+    portal = office.program("portal")
     done.clear()
-    assert jane.command(ACCEPT).json == {"done": True}
+    assert portal.command(ACCEPT).json == {"done": True}
     assert done == [file, "sent", file]
 
 
@@ -314,7 +316,7 @@ def test_people_are_added_and_kept_out(office: Site) -> None:
     ann = Browser(office.app)
     assert ann.sign_in("ann", drawn).status_code == 303
     assert ann.get("/").location == "/password"
-    assert ann.client.get("/register", base_url=ORIGIN).location == "/password"
+    assert ann.get("/lists/").location == "/password"
     ann.get("/password")
     given = {"present": drawn, "new": "a sea of grey boats", "again": "a sea of grey boats"}
     assert ann.post("/password", given).status_code == 303
@@ -543,15 +545,15 @@ def test_a_person_with_a_pile_is_not_removed(office: Site) -> None:
 def test_a_register_that_is_away_is_said(tmp_path: pathlib.Path) -> None:
     """In words, for a page and for a program; and so is a code that is no code."""
     with site(tmp_path, "http://127.0.0.1:9") as office:
-        jane = office.browser("jane")
+        portal = office.program("portal")
         for path in ("/child/1", "/draw/1", "/pairs", "/pairs/A", "/school/A/waiting", "/register"):
-            found = jane.client.get(path, base_url=ORIGIN)
+            found = portal.get(path)
             said = found.json or {}
             assert (found.status_code, said["unanswered"]) == (502, True), path
             assert "the register does not answer now" in said["reason"], path
         for code in ("%20", "A%0d%0aX", "%C3%A9", "A%3Fx"):
             for path in (f"/pairs/{code}", f"/school/{code}/waiting"):
-                assert jane.client.get(path, base_url=ORIGIN).status_code == 404, path
+                assert portal.get(path).status_code == 404, path
 
 
 def test_a_page_that_is_none_has_the_menu(tmp_path: pathlib.Path) -> None:
@@ -931,9 +933,7 @@ def test_a_request_without_an_answer_is_looked_up(tmp_path: pathlib.Path) -> Non
         office.parts.history.add("jane", "sends", {"command": ACCEPT})
         office.parts.desk.sender.send(json.dumps(ACCEPT).encode())
         office.parts.history.add("jane", "sends", {"command": {**ACCEPT, "child": 2}})
-        browser = office.browser("bo")
-        assert browser.command({"cmd": "leave_list", "child": 3, "school": "A"}).json == {
-            "done": True}
+        office.record("bo", {"cmd": "leave_list", "child": 3, "school": "A"})
         settled = [it.about for it in office.parts.history.entries if it.what == "settled"]
         assert [it["done"] for it in settled] == [True, False]
         places = office.parts.desk.now().places

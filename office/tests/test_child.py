@@ -351,10 +351,10 @@ def test_a_correction_keeps_what_a_colleague_corrected(office: Site, is_wrong: b
     """A form that was opened before it has the data from before it, also one that came back with an
     error: only what this person changed is new, and who recorded the other is said.
     """
-    jane, bo, path = office.browser("jane"), office.browser("bo"), "/children/1/correct"
+    jane, path = office.browser("jane"), "/children/1/correct"
     page = Page(jane.get(path).text)
     moved = {**child(1, "Ada Abel", 900), "cmd": "amend", "present": "", "siblings": ["B"]}
-    assert bo.command(moved).json == {"done": True}
+    office.record("bo", moved)
     if is_wrong:
         found = press(jane, path, page, "Compare with the register", name="Ada Abell", present="-")
         assert found.status_code == 400
@@ -364,7 +364,7 @@ def test_a_correction_keeps_what_a_colleague_corrected(office: Site, is_wrong: b
     assert asked.status_code == 409 and "Child 1: bo recorded a correction at" in question.said()
     assert question.tables["changes"][1:] == [
         ["Name", "Ada Abel", "Ada Abell"], ["Present school", "none", "PRIM7"]]
-    assert bo.command({**moved, "looked_after": True}).json == {"done": True}
+    office.record("bo", {**moved, "looked_after": True})
     late = press(jane, path, question, "Correct the data of Ada Abel")
     assert late.status_code == 409
     done = press(jane, path, Page(late.text), "Correct the data of Ada Abel")
@@ -421,7 +421,7 @@ def test_the_point_of_a_home_is_not_put_together_from_two(office: Site) -> None:
     jane, path = office.browser("jane"), "/children/1/correct"
     page = Page(jane.get(path).text)
     moved = {**child(1, "Ada Abel", 900), "cmd": "amend", "present": "", "east": 800}
-    assert office.browser("bo").command(moved).json == {"done": True}
+    office.record("bo", moved)
     question = Page(press(jane, path, page, "Compare with the register", north="110").text)
     assert question.tables["changes"][1:] == [
         ["East, in metres", "800", "0"], ["North, in metres", "900", "110"]]
@@ -501,7 +501,7 @@ def test_an_import_is_the_first_entry_of_a_child(office: Site) -> None:
     assert Page(rita.get("/children/1").text).tables["history"][1][1] == ""
     # (what a first correction changes of the row is said, and nothing else)
     moved = {**child(12, "Abel, Fay", 2), "cmd": "amend", "east": 7, "present": ""}
-    assert office.browser("jane").command(moved).json == {"done": True}
+    office.record("jane", moved)
     table = Page(rita.get("/children/12").text).tables["history"]
     assert table[1][2] == "data corrected: East, in metres 1 → 7"
 

@@ -216,18 +216,18 @@ def test_what_may_change_any_child_is_followed_by_a_read(
     assert desk.send(JANE, command, seen).outcome == outcome and reads.count == 1
 
 
-def test_the_page_reads_nothing_to_say_what_it_saw(
+def test_a_program_has_nothing_read_to_say_what_it_saw(
     office: Site, monkeypatch: pytest.MonkeyPatch
 ) -> None:
     """What it saw is in its request: the register is read for the comparison alone."""
-    reads, jane = Reads(office, monkeypatch), office.browser("jane")
-    rows = jane.get("/register").json["children"]
+    reads, portal = Reads(office, monkeypatch), office.program("portal")
+    rows = portal.get("/register").json["children"]
     reads.paths.clear()
     for at in (1, 2, 3):
-        found = jane.command(about("accept", at), json.dumps(rows[at - 1]))
+        found = portal.command(about("accept", at), json.dumps(rows[at - 1]))
         assert found.json == {"done": True}
     assert reads.count == 0
-    assert jane.command(about("decline", 3), json.dumps(rows[2])).status_code == 409
+    assert portal.command(about("decline", 3), json.dumps(rows[2])).status_code == 409
 
 
 def test_a_register_that_is_shown_as_before_is_made_out_once(office: Site) -> None:

@@ -9,7 +9,7 @@ from typing import Any, cast
 
 import flask
 import pytest
-from applications import ORIGIN, Browser, Site, site
+from applications import Browser, Site, site
 from draw_site import (
     HAL, MISTYPED, RAISED, SUP, Command, Fields, Machine, Person, after_round, at_lots, begun,
     brought, given_up, lot_of, machine_over, sealed, small_register, typed, version, waiting,
@@ -519,20 +519,18 @@ def test_what_moved_a_class_or_a_limit_is_named(small: Machine) -> None:
     """
     with small.office() as office:
         hal, jane = office_of_two(office)
-        people = {"jane": jane.browser, "pat": office.browser("pat", "officer")}
-        assert jane.browser.command({"cmd": "raise_pan", "school": "OAK", "pan": 2}).json == DONE
+        office.record("jane", {"cmd": "raise_pan", "school": "OAK", "pan": 2})
         rows = "child,name,east,north,looked_after,flags,siblings,day,preferences\n6,Fay,0,450,no"
-        imported: Any = jane.browser.client.post(
-            "/import", base_url=ORIGIN, headers={"Origin": ORIGIN}, content_type="text/csv",
-            data=f"{rows},,,2024-10-31,OAK\n")
-        assert imported.status_code == 200, imported.text
+        imported = office.parts.desk.send_import(
+            people.Person("jane", "officer"), f"{rows},,,2024-10-31,OAK\n".encode())
+        assert imported.is_done, imported
         moved: Command = {
             "cmd": "amend", "child": 6, "name": "Fay", "east": 0, "north": 50,
             "looked_after": False, "flags": [], "siblings": ["OAK"]}
         for who, command in (*CHANGES, ("jane", moved)):
-            assert people[who].command(command).json == DONE, command
+            office.record(who, command)
         renamed: Command = {**moved, "name": "Fay Fox"}
-        assert jane.browser.command(renamed).json == DONE
+        office.record("jane", renamed)
         number = begun(office)
         wanted = [
             ["", "", "admission number of ELM raised to 10", "jane"],

@@ -421,18 +421,16 @@ def test_nobody_else_records_while_it_is_closed(small: Machine) -> None:
     when.
     """
     with small.office() as office:
-        number, jane = begun(office), office.browser("jane")
+        number, jane, portal = begun(office), office.browser("jane"), office.program("portal")
         command = {"cmd": "raise_pan", "school": "ELM", "pan": 10}
         for state in ("closed", "copied", "lots", "sealed", "rehearsed", "confirmed", "sending",
                       "audited"):
             brought(office, number, state)
             waiting(office, number)
-            found = jane.command(command)
+            found = portal.command(command)
             assert found.status_code == 503
             assert re.fullmatch(r"Closed for draw 1 by hal since \d\d:\d\d\.", found.json["reason"])
-            rows: Any = jane.client.post(
-                "/import", base_url=ORIGIN, headers={"Origin": ORIGIN}, data="child\n",
-                content_type="text/csv")
+            rows = portal.post("/import", "child\n", "text/csv")
             assert rows.status_code == 503 and "Closed for draw 1" in rows.json["reason"]
         for screen in ("/", "/schools/", "/applications/", "/applications/commit/", "/find",
                        "/children/1", "/answers/", "/draws/", "/lists/", "/flags/", "/activity/"):
@@ -443,17 +441,18 @@ def test_nobody_else_records_while_it_is_closed(small: Machine) -> None:
         assert "Closed for" not in office.browser("sup", "supervisor").get("/lots/").text
         assert office.parts.desk.now().schools["ELM"].pan == 9
         brought(office, number, "opened")
-        assert jane.command(command).json == {"done": True}
+        assert portal.command(command).json == {"done": True}
 
 
 def test_a_round_cannot_be_sent_as_a_command(small: Machine) -> None:
     """Neither by who may record nor by who may hold draws."""
     with small.office() as office:
-        for name, role in (("jane", "officer"), ("hal", "head")):
+        for role in ("officer", "head"):
+            portal = office.program(f"of.{role}", role)
             for command in ({"cmd": "round", "draw": 1, "day": OFFER_DAY, "lots": list(range(10))},
                             {"cmd": "fill", "draw": 1, "day": OFFER_DAY, "school": "OAK",
                              "lots": [1]}):
-                found = office.browser(name, role).command(command)
+                found = portal.command(command)
                 assert found.status_code == 503 and "a second person" in found.json["reason"]
         assert office.parts.desk.now().draws == []
 

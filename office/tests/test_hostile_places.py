@@ -309,13 +309,14 @@ def test_an_address_with_anything_in_it_is_answered_in_words(world: World) -> No
 @pytest.mark.parametrize("path", ["/command", "/import", "/what-if"])
 def test_a_body_of_anything_is_answered_in_words(world: World, path: str) -> None:
     """What a program sends."""
+    program = world.office.program(f"of-{path[1:]}")
     kind = "text/csv" if path == "/import" else "application/json"
     bodies = [it.encode() for it in HOSTILE.values()] + [
         b"\xff\xfe\xed\xa0\x80", b"[" * 200_000, b'{"cmd":' * 50_000, b"", b"null", b"1e400",
         b'{"cmd":"amend","child":' + b"9" * 5000 + b"}", b'{"cmd":"\xff"}', b'{"cmd":"\\ud800"}',
         *hostile_files.wrong().values()]
     for body in bodies:
-        answer = raw(world.sender.browser, path, body, kind)
+        answer = program.post(path, body, kind, Accept="text/html")
         assert answer.status_code < 500, (body[:60], answer.text)
     world.right()
 
@@ -365,11 +366,8 @@ def test_after_all_of_it_each_page_has_only_texts(world: World) -> None:
 
 
 # what the head of a school can ask for, and what a reader can send
-OF_SCHOOL = (
-    "/", "/schools/OAK", "/schools/OAK/workbook", "/school/OAK/waiting", "/help", "/password",
-    "/signed-in",
-)
-OF_READER = ("lists.save", "lists.remove", "register.question")
+OF_SCHOOL = ("/", "/schools/OAK", "/schools/OAK/workbook", "/help", "/password", "/signed-in")
+OF_READER = ("lists.save", "lists.remove")
 ODD = {"code": ["OAK"], "name": ["children"], "owner": ["jane"], "key": ["key"]}
 
 

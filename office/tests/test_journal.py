@@ -216,7 +216,6 @@ def test_the_application_tells_the_journal(
     with office_over(tmp_path, [*town(), ROUND]) as office:
         told = Journal(NAME, machine.mark, journal.sender(str(machine.path)))
         office.parts.tell(told)
-        found: dict[str, Any] = {"json": {"cmd": "accept", "child": 1, "school": "A"}}
-        jane = office.browser("jane")
-        jane.client.post("/command", headers={"Origin": "https://admissions.example"}, **found)
+        office.browser("jane")
+        office.record("jane", {"cmd": "accept", "child": 1, "school": "A"})
         assert machine.numbers() == [it.number for it in office.parts.history.entries]

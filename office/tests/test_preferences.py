@@ -5,7 +5,6 @@ import datetime
 import pathlib
 import re
 from collections.abc import Iterator
-from typing import Any
 
 import pytest
 from applications import ROUND, Browser, Site, child, office_over, town
@@ -125,9 +124,9 @@ def test_what_is_wrong_is_said_at_its_field(
 
 def test_a_colleague_who_corrects_the_child_meanwhile_is_named(before: Site) -> None:
     """The priorities of the child may be others by then."""
-    jane, kim = before.browser("jane"), before.browser("kim")
+    jane = before.browser("jane")
     page = typed(jane, **{"preference-1": "A"})
-    assert kim.command({**EVE, "cmd": "amend", "north": 60}).status_code == 200
+    before.record("kim", {**EVE, "cmd": "amend", "north": 60})
     found = press(jane, PATH, page, BUTTON)
     assert found.status_code == 409 and applied(before, 5) is None
     page = Page(found.text)
@@ -146,7 +145,7 @@ def test_an_application_that_is_stored_is_not_changed_and_the_ways_are_said(
     assert "keeps it as it was stored" in page.by_id["why-not"]
     assert "restore" in page.text and "after the closing day" in page.text
     assert page.buttons() == []
-    answer: Any = jane.command(
+    answer = before.program("portal").command(
         {"cmd": "apply", "child": 3, "day": "2024-10-31", "preferences": ["B"]})
     assert "AlreadyApplied" in answer.text
     assert applied(before, 3) == ("2024-10-31", ["A", "B"])
@@ -166,7 +165,7 @@ def test_after_a_round_lists_can_be_left_and_no_restore_is_named(after: Site) ->
 def test_a_child_with_a_plan_has_no_form(before: Site) -> None:
     """Its place is by the plan alone."""
     jane = before.browser("jane")
-    assert jane.command({"cmd": "name_plan", "child": 5, "school": "A"}).status_code == 200
+    before.record("jane", {"cmd": "name_plan", "child": 5, "school": "A"})
     page = Page(jane.get(PATH).text)
     assert "place by a plan" in page.by_id["why-not"] and page.buttons() == []
 

@@ -12,7 +12,7 @@ from collections.abc import Iterator, Mapping
 from typing import Any
 
 import pytest
-from applications import ORIGIN, ROUND, Browser, Site, office_over, town
+from applications import ORIGIN, ROUND, Answer, Browser, Program, Site, office_over, town
 from draw_site import (
     HAL, MISTYPED, SUP, begun, brought, machine_over, small_register, typed,
 )
@@ -37,7 +37,7 @@ SCREENS: dict[str, tuple[set[str], set[str]]] = {
     "lists": (READS, READS), "lots": ({SUPERVISOR}, {SUPERVISOR}),
     "new_schools": (RECORDS, RECORDS), "notices": (READS, RECORDS),
     "people": ({HEAD, ADMINISTRATOR}, {HEAD, ADMINISTRATOR}),
-    "register": (READS, RECORDS), "schools": (READS, RECORDS), "season": (ALL, set()),
+    "register": (set(), set()), "schools": (READS, RECORDS), "season": (ALL, set()),
     "signing": (ALL, ALL), "why": (READS, set()), "notes": (RECORDS, RECORDS),
     "trials": (READS, RECORDS), "season_end": (RECORDS, {HEAD}), "restores": (READS, {HEAD}),
     "preferences": (RECORDS, RECORDS), "letter_sender": (READS, {HEAD}),
@@ -49,12 +49,11 @@ OTHERS: dict[tuple[str, str], set[str]] = {
     ("letters.file", "GET"): RECORDS, ("letters.again", "GET"): RECORDS,
     ("letters.audit", "POST"): {HEAD}, ("letters.text", "GET"): RECORDS,
     ("letter_templates.previewed", "GET"): {HEAD}, ("notices.choose", "GET"): RECORDS,
-    ("notices.ask", "GET"): RECORDS,
-    ("draws.second", "POST"): {HEAD, OFFICER}, ("register.question", "POST"): READS,
+    ("notices.ask", "GET"): RECORDS, ("draws.second", "POST"): {HEAD, OFFICER},
     **{(f"season_end.{it}", "POST"): {HEAD, OFFICER} for it in ("confirm", "go_on", "take_back")},
     ("restores.second", "POST"): {HEAD, OFFICER},
-    ("register.waiting", "GET"): READS | {SCHOOL}, ("schools.one", "GET"): READS | {SCHOOL},
-    ("schools.workbook", "GET"): READS | {SCHOOL}, ("schools.raise_number", "GET"): RECORDS,
+    ("schools.one", "GET"): READS | {SCHOOL}, ("schools.workbook", "GET"): READS | {SCHOOL},
+    ("schools.raise_number", "GET"): RECORDS,
 }
 VALUES = {"number": 1, "name": "accept", "code": "A", "kind": "csv", "draw": 1, "reader": "family",
           "note": 1, "file": 1, "owner": "nobody", "version": 1, "form": "json", "key": "none"}
@@ -151,41 +150,64 @@ def test_each_role_sees_what_is_its_own(office: Site) -> None:
                 assert asked(browser, method, path) in (200, 204, 302, 303, 404, 409), (role, path)
 
 
-# what a program with a token may ask for
-OF_PROGRAMS = {"register.register", "register.draw", "register.read", "register.pairs",
-               "register.waiting", "register.command", "register.rows", "register.question",
-               "signing.signed_in"}
+# what is for programs with a token, by their roles
+OF_PROGRAMS = {
+    **dict.fromkeys(("register.register", "register.draw", "register.read", "register.pairs",
+                     "register.question"), READS),
+    "register.waiting": READS | {SCHOOL}, "register.command": RECORDS, "register.rows": RECORDS,
+}
 # what nobody needs a sign-in for
 OPEN = {"signing.sign_in", "signing.go_out", "signing.come_back", "health.health", "health.counts"}
 
 
 def test_a_program_gets_the_answers_of_the_register_alone(office: Site) -> None:
     """Whatever its role: no page, and nothing of the application's own."""
-    token = office.token("portal", HEAD)
-    client, before, tried = office.app.test_client(), kept(office), 0
+    portal, before, tried = office.program("portal", HEAD), kept(office), 0
     for endpoint, method, path in addresses(office):
-        if endpoint in OF_PROGRAMS | OPEN:
+        if endpoint in {*OF_PROGRAMS, *OPEN, "signing.signed_in"}:
             continue
-        found = client.open(path, method=method, base_url=ORIGIN, data=b"{}",
-                            headers={**token, "Origin": ORIGIN}, content_type="application/json")
-        assert found.status_code == 403, (method, path)
+        assert sent(portal, method, path).status_code == 403, (method, path)
         tried += 1
     assert tried > 60 and kept(office) == before
     for path in ("/register", "/draw/1", "/pairs", "/child/1", "/round/1", "/school/A/waiting"):
-        assert client.get(path, base_url=ORIGIN, headers=token).status_code == 200, path
+        assert portal.get(path).status_code == 200, path
+    assert portal.get("/signed-in").status_code == 204
+
+
+def sent(program: Program, method: str, path: str) -> Answer:
+    """The answer to a request of a program."""
+    return program.get(path) if method == "GET" else program.post(path, b"{}")
+
+
+def test_what_is_for_programs_takes_a_token_of_its_role_and_no_session(office: Site) -> None:
+    """Whoever is signed in is told what to use."""
+    theirs = [it for it in addresses(office) if it[0] in OF_PROGRAMS]
+    assert {it[0] for it in theirs} == set(OF_PROGRAMS) == guard.OF_PROGRAMS
+    for role in ROLES:
+        browser = office.browser(role.lower(), role)
+        program = office.program(f"of.{role.lower()}", role)
+        for endpoint, method, path in theirs:
+            found = browser.client.open(path, method=method, base_url=ORIGIN,
+                                        headers={"Origin": ORIGIN}, json={})
+            assert (found.status_code, found.json) == (
+                403, {"reason": guard.FOR_PROGRAMS, "status": 403}), (role, path)
+            is_refused = sent(program, method, path).status_code == 403
+            assert is_refused == (role not in OF_PROGRAMS[endpoint]), (role, path)
 
 
 def test_files_of_several_children_are_on_record(office: Site) -> None:
     """Each with who took it; one that is taken again and again does not fill the disk."""
     jane, alpha = office.browser("jane", OFFICER), office.browser("alpha", SCHOOL)
-    for path in ("/register", "/lists/children/workbook", "/lists/children/csv"):
+    portal = office.program("portal")
+    for get, path in ((portal.get, "/register"), (jane.get, "/lists/children/workbook"),
+                      (jane.get, "/lists/children/csv")):
         for _ in range(2):
-            assert jane.get(path).status_code == 200, path
+            assert get(path).status_code == 200, path
     assert alpha.get("/schools/A/workbook").status_code == 200
     assert jane.get("/lists/children").status_code == 200
     found = [(it.who, it.about["of"]) for it in office.parts.history.entries
              if it.what == "took a file"]
-    assert found == [("jane", "/register"), ("jane", "/lists/children/workbook"),
+    assert found == [("portal", "/register"), ("jane", "/lists/children/workbook"),
                      ("jane", "/lists/children/csv"), ("alpha", "/schools/A/workbook")]
 
 
@@ -204,9 +226,11 @@ def test_heads_of_schools_see_a_round_from_its_day_on_and_audited(
             """The day of the test."""
             return cls.fromisoformat(today[0])
 
+    programs = {alpha: office.program("of.alpha", SCHOOL), jane: office.program("of.jane")}
+
     def statuses(browser: Browser) -> set[int]:
-        return {asked(browser, "GET", it) for it in (
-            "/schools/A", "/schools/A/workbook", "/school/A/waiting")}
+        return {*(asked(browser, "GET", it) for it in ("/schools/A", "/schools/A/workbook")),
+                programs[browser].get("/school/A/waiting").status_code}
 
     with monkeypatch.context() as patch:
         patch.setattr(guard, "datetime", types.SimpleNamespace(date=Day))
@@ -227,13 +251,14 @@ def test_heads_of_schools_see_a_round_from_its_day_on_and_audited(
 
 
 def test_the_head_of_a_school_sees_no_other(office: Site) -> None:
-    """Neither its page, nor its workbook, nor its list."""
-    browser = office.browser("alpha", SCHOOL)
-    for path in ("/schools/{}", "/schools/{}/workbook", "/school/{}/waiting"):
-        assert asked(browser, "GET", path.format("A")) == 200
+    """Neither its page, nor its workbook, nor, as a program, its list."""
+    browser, program = office.browser("alpha", SCHOOL), office.program("of.alpha", SCHOOL)
+    for get, path in ((browser.get, "/schools/{}"), (browser.get, "/schools/{}/workbook"),
+                      (program.get, "/school/{}/waiting")):
+        assert get(path.format("A")).status_code == 200
         for other in ("B", "ZZ", "A%20", "a"):
-            assert asked(browser, "GET", path.format(other)) in (403, 404), (path, other)
-        assert asked(browser, "GET", path.format("B")) == 403
+            assert get(path.format(other)).status_code in (403, 404), (path, other)
+        assert get(path.format("B")).status_code == 403
 
 
 def words_in(data: bytes) -> str:

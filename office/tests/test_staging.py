@@ -603,7 +603,7 @@ def test_rows_that_the_register_has(office: Site, screens: Screens) -> None:
 
 def test_a_child_without_an_application_differs(office: Site, screens: Screens) -> None:
     """An import would refuse it: it was added by a command."""
-    office.browser("bo").command(child(9, name="No Form", east=77))
+    office.record("bo", child(9, name="No Form", east=77))
     screens.add(("a.csv", csv_of("9,No Form,77,0,no,,,2024-10-20,OAK,")))
     row = screens.see().row("row 2 of a.csv")
     assert screens.see().wrong() == {(row, "day"), (row, "preferences")}
@@ -698,7 +698,7 @@ def test_what_has_changed_is_not_stored(office: Site, screens: Screens) -> None:
     """A row, one that was withdrawn, one more, a child in the register; and a reload after it."""
     screens.add(("a.csv", lines(GOOD[:3])))
     rows = screens.see().rows()
-    bo = office.browser("bo")
+    bo = office.program("bo")
     changes: list[Callable[[], Any]] = [
         lambda: screens.save(rows[0], name="Ada Abbott"),
         lambda: screens.withdraw(rows[1]),
@@ -721,12 +721,11 @@ def test_what_has_changed_is_not_stored(office: Site, screens: Screens) -> None:
 
 def test_an_answer_to_an_offer_changes_nothing_of_it(office: Site, screens: Screens) -> None:
     """Late applications are stored while answers are recorded."""
-    bo = office.browser("bo")
     first = {"cmd": "round", "draw": 1, "day": "2025-03-03", "lots": [1]}
     assert office.parts.desk.send(Person("bo", "officer"), first, None, True).is_done
     screens.add(("a.csv", lines(GOOD[:1])))
     digest = screens.digest()
-    assert bo.command({"cmd": "accept", "child": 7, "school": "ELM"}).json == {"done": True}
+    office.record("bo", {"cmd": "accept", "child": 7, "school": "ELM"})
     assert screens.store(digest).status_code == 303
 
 
@@ -1120,7 +1119,7 @@ def test_one_row_is_checked_where_one_was_changed(
     screens.see()
     assert read == [rows[3]]
     read.clear()
-    office.browser("bo").command(school("ASH"))
+    office.record("bo", school("ASH"))
     screens.see()
     assert sorted(read) == sorted(rows)
 

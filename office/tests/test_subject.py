@@ -19,6 +19,7 @@ from conftest import make
 from pages import Page, press
 
 from office.web import history, subject
+from office.web.people import Person
 from office.web.store import Store
 
 NAMES_OF_OTHERS = ("Ben Bell", "Cole", "Dare", "OTHERS")
@@ -39,13 +40,14 @@ def office_fixture(tmp_path_factory: pytest.TempPathFactory) -> Iterator[Site]:
         found.add("rita", "reader")
         jane = found.browser("jane")
         for number, mark, name in ROWS:
-            by_screens(jane, number, mark, name)
+            by_screens(jane, number, mark)
+            by_commands(found, number, mark, name)
             by_the_history(found, number, mark)
         in_the_store(found.parts.store)
         yield found
 
 
-def by_screens(jane: Browser, number: int, mark: str, name: str) -> None:
+def by_screens(jane: Browser, number: int, mark: str) -> None:
     """What an officer types of a child on its screens."""
     path = f"/children/{number}/notes"
     page = Page(jane.get(path).text)
@@ -55,11 +57,15 @@ def by_screens(jane: Browser, number: int, mark: str, name: str) -> None:
     given = {"file": (io.BytesIO(FILE), f"{mark}-doctor.pdf")}
     page = Page(jane.get(path).text)
     assert press(jane, path, page, f"Add the file to child {number}", **given).status_code == 303
+
+
+def by_commands(office: Site, number: int, mark: str, name: str) -> None:
+    """What is sent of a child, and what is refused."""
     command = {"cmd": "amend", "child": number, "name": f"{name} {mark}-name", "east": 7,
                "north": 100 * number, "looked_after": False, "flags": [], "siblings": []}
-    assert jane.command(command).status_code == 200
+    office.record("jane", command)
     refused = {"cmd": "remind", "child": number, "school": "B", "day": "2025-03-04"}
-    jane.command(refused)
+    office.parts.desk.send(Person("jane", "officer"), refused)
 
 
 def by_the_history(office: Site, number: int, mark: str) -> None:

@@ -26,7 +26,7 @@ from .watch import Watch
 COOKIE = "__Host-admissions"
 # where a site is tried without TLS, a browser takes no such cookie
 PLAIN_COOKIE = "admissions"
-# what no form can send
+# what a program sends, and no form can
 TYPES = ("application/json", "text/csv")
 PUBLIC = "public"
 SIGNED_IN = "signed in"
@@ -44,9 +44,13 @@ HEADERS = {
 }
 # a person who tries what is not theirs is on record once in so many seconds for each address
 REFUSED_SECONDS = 60
-# what a program with a token may ask for, and no page: the register's own answers
-OF_PROGRAMS = {"signing.signed_in", *(f"register.{it}" for it in (
-    "register", "draw", "read", "pairs", "waiting", "command", "rows", "question"))}
+# what is for programs with a token, and for nobody else: the register's own answers
+OF_PROGRAMS = {f"register.{it}" for it in (
+    "register", "draw", "read", "pairs", "waiting", "command", "rows", "question")}
+FOR_PROGRAMS = ("this is for other programs, which send a token: the head of the office adds a"
+                " program on the screen People")
+# what a program may ask for beside it: that it is known, before the site reads what it sends
+OF_BOTH = "signing.signed_in"
 # files that have more than one child, which are on record: each by a person once an hour
 EXPORTS = ("register.register", "lists.csv", "lists.workbook", "schools.workbook",
            "trials.workbook", "trials.pdf")
@@ -131,18 +135,19 @@ def sign_in_failed(kind: str) -> None:
 
 def is_foreign() -> bool:
     """Whether a request that changes something may come from a page of another site. A form has the
-    secret of a session of the same person, of an earlier one where the page was left open; other
-    bodies are of kinds that no form can send.
+    secret of a session of the same person, of an earlier one where the page was left open; what a
+    program sends is of kinds that no form can send.
     """
     request = flask.request
     if request.headers.get("Origin") != parts().config.origin:
         return True
-    # (of two kinds some versions of the library name the first, and others both)
-    if re.split("[;,]", request.headers.get("Content-Type", ""))[0].strip().lower() in TYPES:
-        return False
+    found: Person | None = flask.g.get("person")
+    if found is not None and found.is_program:
+        # (of two kinds some versions of the library name the first, and others both)
+        kind = re.split("[;,]", request.headers.get("Content-Type", ""))[0]
+        return kind.strip().lower() not in TYPES
     if request.endpoint == "signing.sign_in":
         return False
-    found: Person | None = flask.g.get("person")
     return found is None or not parts().people.is_form_of(found, request.form.get("form", ""))
 
 
@@ -221,6 +226,9 @@ def see() -> AnyResponse | None:
         if request.method == "GET" and "text/html" in request.headers.get("Accept", ""):
             return flask.redirect(flask.url_for("signing.sign_in", to=target()))
         return again(401, ENDED) or flask.abort(401)
+    is_of_programs = request.endpoint in OF_PROGRAMS
+    if is_of_programs and found is not None and not found.is_program:
+        refused(found, FOR_PROGRAMS)
     if request.method not in ("GET", "HEAD") and is_foreign():
         kept = again(403, EARLIER) if found else None
         return kept or flask.abort(403, "a request must come from a page of this site")
@@ -229,8 +237,8 @@ def see() -> AnyResponse | None:
     parts().hear()
     if found.must_change and request.endpoint not in BEFORE_CHANGE:
         return flask.redirect(flask.url_for("signing.password"))
-    is_page = found.is_program and request.endpoint not in OF_PROGRAMS
-    if is_page or right != SIGNED_IN and not found.may(right):
+    is_screen = found.is_program and not is_of_programs and request.endpoint != OF_BOTH
+    if is_screen or right != SIGNED_IN and not found.may(right):
         refused(found)
     return None
 
@@ -245,7 +253,7 @@ def target() -> str:
     return flask.request.full_path.rstrip("?")
 
 
-def refused(found: Person) -> None:
+def refused(found: Person, reason: str = "") -> None:
     """Refuses a person what is not theirs, and records it."""
     request = flask.request
     path = f"{request.method} {request.path[:80]}"
@@ -256,7 +264,7 @@ def refused(found: Person) -> None:
         except Refused:
             pass
     who = "a program" if found.is_program else f"the role {found.role}"
-    flask.abort(403, f"{who} may not do this")
+    flask.abort(403, reason or f"{who} may not do this")
 
 
 def record_export(response: flask.Response) -> flask.Response:
