@@ -35,7 +35,7 @@ def test_the_last_that_was_done_is_first_with_what_came_of_it(office: Site) -> N
     rita = office.browser("rita", "officer")
     shown = [it for it in rows(rita) if it[1].startswith(("accept", "named"))]
     assert [it[:2] for it in shown] == [
-        ["bo", "named flags words 2 <b>medical</b> need before"],
+        ["bo", "named flags words 2 <b>medical</b> need before none"],
         ["bo", "accept child 3 school B"], ["bo", "accept child 3 school B"],
         ["jane", "accept child 1 school A"]]
     assert [it[2].partition(":")[0] for it in shown] == ["", "refused", "done", "done"]
@@ -53,6 +53,18 @@ def test_it_is_found_by_person_child_and_day(office: Site) -> None:
     today = datetime.date.today()
     assert rows(rita, f"?day={today}") == rows(rita)
     assert rows(rita, f"?day={today - datetime.timedelta(1)}") == []
+
+
+def test_what_is_empty_is_said_so() -> None:
+    """Not two names of fields one after the other."""
+    amend = {"cmd": "amend", "child": 5, "name": "Eve", "looked_after": False, "flags": [],
+             "siblings": ["A", "B"], "present": "", "home": None}
+    for what, about, said in (
+            (SENDS, {"command": amend}, "amend child 5 name Eve looked_after no flags none siblings"
+             " A, B present none home none"),
+            ("signed in", {}, "signed in"),
+            ("named flags", {"before": {}}, "named flags before none")):
+        assert activity.in_words(Entry(1, "", "jane", what, about)).strip() == said
 
 
 def test_an_import_and_changes_of_a_row_are_found_by_the_child() -> None:

@@ -14,7 +14,7 @@ from ..records import ends_of, first_by, row_in
 from ..tables import Column
 
 screen = flask.Blueprint("activity", __name__, url_prefix="/activity")
-SHOWN = 200
+SHOWN, NONE = 200, "none"
 # an entry, and in words what it is and what came of it
 Row = tuple[Entry, str, str]
 COLUMNS: dict[str, Column[Row]] = {
@@ -83,8 +83,11 @@ def request_in_words(it: Entry) -> str:
 def text_of(value: Any) -> str:
     """A value of an entry, with what is in it."""
     if isinstance(value, dict):
-        return " ".join(f"{name} {text_of(it)}" for name, it in value.items())
-    return ", ".join(map(text_of, value)) if isinstance(value, list) else str(value)
+        return " ".join(f"{name} {text_of(it) or NONE}" for name, it in value.items())
+    if isinstance(value, bool):
+        return "yes" if value else "no"
+    return ", ".join(map(text_of, value)) if isinstance(value, list) else (
+        "" if value is None else str(value))
 
 
 def outcome(came: Entry | None) -> str:
