@@ -543,6 +543,13 @@ def test_a_table_is_put_in_order_by_links(held: Site) -> None:
                          ("criteria", names), (".down", names)):
         page = Page(jane.get(f"/schools/?order={order}").text)
         assert [it[1] for it in next(iter(page.tables.values()))[1:]] == found, order
+    # (no name in an address means anything to what makes the links)
+    asked = "_anchor=x&_scheme=javascript&_external=1&endpoint=y&code=z"
+    found_page = jane.get(f"/schools/?{asked}&order=name")
+    links = re.findall('href="([^"]*order=[^"]*)"', found_page.text)
+    assert found_page.status_code == 200 and links
+    assert all(it.startswith(f"/schools/?{asked.replace('&', '&amp;')}&amp;order=")
+               for it in links)
 
 
 def test_a_head_sees_the_own_school_alone(held: Site) -> None:

@@ -4,6 +4,7 @@ has several, the name of the table is before it: `?order=TABLE.COLUMN`.
 import dataclasses
 import math
 import re
+import urllib.parse
 from collections.abc import Callable, Iterable, Mapping, Sequence
 from typing import Any, Generic, TypeVar
 
@@ -81,12 +82,12 @@ def head(before: str, column: str, it: Column[Any], sort: tuple[str, str]) -> di
     # (a page that answers a form has no address)
     if it.by and flask.request.method == "GET":
         way = ".down" if sort == (column, UP) else ""
-        others = {key: value for key, value in flask.request.args.items()
-                  if key not in ("order", "page")}
-        values = {**(flask.request.view_args or {}), **others}
-        made["href"] = flask.url_for(flask.request.endpoint or "", **values,
-                                     order=f"{before}{column}{way}",
-                                     _anchor=before.rstrip(".") or None)
+        # (what is in the address is text: no name of it means anything to what makes addresses)
+        asked = [it for it in flask.request.args.items(multi=True)
+                 if it[0] not in ("order", "page")]
+        query = urllib.parse.urlencode([*asked, ("order", f"{before}{column}{way}")])
+        anchor = f"#{before.rstrip('.')}" if before else ""
+        made["href"] = f"{flask.request.path}?{query}{anchor}"
     return made
 
 
