@@ -253,6 +253,11 @@ def test_the_machines_own_part_needs_no_site() -> None:
     ]
 
 
+def test_a_connection_has_as_many_requests_as_nginx_says() -> None:
+    """More of them on one of HTTP/2, begun and reset at once, are what its advice warns of."""
+    assert "keepalive_requests" not in MODEL + MORE
+
+
 def test_each_answer_has_the_headers_of_the_list() -> None:
     """Also that to a request for another host, which is not of a site. Retry-After has no value but
     for what may be repeated, and what a site itself answers is JSON or a page.

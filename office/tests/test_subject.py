@@ -218,10 +218,14 @@ def test_a_child_is_known_by_its_whole_number_and_not_by_its_name(
                         changes="[]", who="jane", added=AT)
                 add(db, "staged_row", file=9, number=number, cells=json.dumps(row), others="{}",
                     notes="[]", state="open", who="jane", added=AT, changed_by="jane", changed=AT)
+        office.parts.history.add("jane", "recorded letters as sent", {
+            "for": "Offers", "set": 7, "day": "2025-03-03", "children": [12], "again": []})
         for number in named:
             found = jane.get(f"/children/{number}/held.json")
             abouts = [it["about"].get("child", number) for it in found.json["history"]]
             assert len(abouts) > 1 and {str(it) for it in abouts} == {str(number)}
+            sent = [it for it in found.json["history"] if it["what"] == "recorded letters as sent"]
+            assert len(sent) == (number == 12)
             text = found.text
             for kind in ("note", "file", "unread", "form"):
                 got = set(re.findall(rf"\b{kind}-(\d+)\.", text))
