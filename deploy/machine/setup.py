@@ -51,12 +51,15 @@ exit status: 0 done; 1 not or not wholly done, and the line says why: correct
 that and type it again; 2 wrong arguments.
 """
 import argparse
+import http.client
 import importlib.util
+import json
 import os
 import pathlib
 import sys
 import time
 import typing
+import urllib.request
 
 from office import model
 from office.libraries import PACKAGES
@@ -84,6 +87,8 @@ WAIT = 60
 # where systemd finds what is changed of a unit, and what lets an application out into the network
 UNITS = pathlib.Path("/etc/systemd/system")
 OUTSIDE = "# Made by admissions-setup --accounts\n[Service]\nPrivateNetwork=no\n"
+# for so long a provider is waited for, and so much of its answer is read
+PROVIDER_SECONDS, MOST_ANSWER = 10, 1_000_000
 CHECKS = {"site": answers.host, "user": people.checked_name, "role": people.checked_role,
           "authority": answers.authority}
 
@@ -572,7 +577,24 @@ def set_accounts(register: Register, name: str) -> int:
             call(control, "try-restart", f"admissions-office@{register.name}.service")
     print(f"{register.name}: people sign in by the accounts of the authority" if text
           else f"{register.name}: people sign in with their passwords alone")
+    if text and (said := provider_fault(json.loads(text)["issuer"])):
+        print(f"WARNING: {said}. Nobody signs in by these accounts until the provider answers;"
+              " passwords go on")
     return 0
+
+
+def provider_fault(issuer: str) -> str:
+    """Why the provider of an issuer signs nobody in now, by what it says of itself; or ""."""
+    address = f"{issuer.rstrip('/')}/.well-known/openid-configuration"
+    try:
+        with urllib.request.urlopen(address, timeout=PROVIDER_SECONDS) as answer:
+            found = json.loads(answer.read(MOST_ANSWER))
+    except (OSError, http.client.HTTPException, ValueError) as error:
+        return f"{address} cannot be read: {error}"
+    named = found.get("issuer") if isinstance(found, dict) else None
+    if not isinstance(named, str) or named.rstrip("/") != issuer.rstrip("/"):
+        return f"{address} is not of {issuer}"
+    return ""
 
 
 def outside_of(register: Register) -> pathlib.Path:

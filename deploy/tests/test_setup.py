@@ -4,6 +4,7 @@ import argparse
 import contextlib
 import dataclasses
 import datetime
+import http.server
 import importlib.util
 import io
 import json
@@ -15,6 +16,7 @@ import sqlite3
 import subprocess
 import sys
 import tempfile
+import threading
 import typing
 
 import pytest
@@ -406,6 +408,7 @@ def test_accounts_of_the_authority_let_the_application_out_and_their_end_keeps_i
     monkeypatch.setattr(setup, "UNITS", machine)
     monkeypatch.setattr(files, "LOCK", machine / "lock")
     monkeypatch.setattr(setup, "is_booted", lambda: False)
+    monkeypatch.setattr(setup, "provider_fault", lambda _: "")
     given = machine / "accounts.json"
     given.write_text(json.dumps(ACCOUNTS), encoding="utf-8")
     unit = machine / "admissions-office@secondary-2025.service.d/accounts.conf"
@@ -447,6 +450,42 @@ def test_accounts_that_cannot_be_used_are_refused_and_nothing_changes(
     with people.opened(users) as (_, kept):
         assert authority.provider_of(kept) is None
     assert (told(users), list(machine.glob("*.d"))) == (before, [])
+
+
+@pytest.mark.parametrize("body, said", [
+    ('{"issuer": "%s/"}', ""), ('{"issuer": "https://id.example"}', "is not of http://"),
+    ("[]", "is not of http://"), ("<html>", "cannot be read"), ("", "cannot be read")])
+def test_a_provider_is_tried_when_its_accounts_are_set(
+    body: str, said: str, users: registers.Register, monkeypatch: pytest.MonkeyPatch,
+    machine: pathlib.Path, capsys: pytest.CaptureFixture[str],
+) -> None:
+    """One that does not answer, or is another one, is named at once, and the accounts are set."""
+    monkeypatch.setattr(setup, "UNITS", machine)
+    monkeypatch.setattr(files, "LOCK", machine / "lock")
+    monkeypatch.setattr(setup, "is_booted", lambda: False)
+
+    class Answer(http.server.BaseHTTPRequestHandler):
+        """A provider, or what is none: without a body it does not answer as HTTP does."""
+
+        def do_GET(self) -> None:  # pylint: disable=invalid-name
+            """What it says of itself."""
+            if body and self.path == "/.well-known/openid-configuration":
+                self.send_response(200)
+                self.end_headers()
+                self.wfile.write(body.replace("%s", issuer).encode())
+
+        def log_message(self, *_: object) -> None:
+            """Prints nothing."""
+
+    with http.server.ThreadingHTTPServer(("127.0.0.1", 0), Answer) as server:
+        issuer = f"http://127.0.0.1:{server.server_address[1]}"
+        threading.Thread(target=server.serve_forever, daemon=True).start()
+        given = machine / "accounts.json"
+        given.write_text(json.dumps(ACCOUNTS | {"issuer": issuer}), encoding="utf-8")
+        assert setup.set_accounts(users, str(given)) == 0
+        server.shutdown()
+    printed = capsys.readouterr().out
+    assert said in printed and ("WARNING" in printed) == bool(said)
 
 
 def add_to(path: pathlib.Path, turns: int) -> None:

@@ -3,6 +3,7 @@ import contextlib
 import json
 import os
 import pathlib
+import re
 import sqlite3
 import subprocess
 import sys
@@ -313,6 +314,8 @@ def test_people_are_added_and_kept_out(office: Site) -> None:
     hal.get("/people/")
     found = hal.post("/people/", {"what": "add", "name": "ann", "role": "officer"})
     drawn = found.text.split('<code id="secret">')[1].split("<")[0]
+    # (groups of letters, none of which looks like another one: it may be read out)
+    assert re.fullmatch("([a-hjkmnp-z]{4}-){4}[a-hjkmnp-z]{4}", drawn)
     ann = Browser(office.app)
     assert ann.sign_in("ann", drawn).status_code == 303
     assert ann.get("/").location == "/password"

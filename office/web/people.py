@@ -65,6 +65,8 @@ FORGOTTEN_AFTER = 3600
 # for a name from all addresses many are free, and they are forgotten after a day
 EVERYWHERE, FREE_EVERYWHERE, FORGOTTEN_EVERYWHERE = "everywhere ", 100, 24 * 3600
 WRONG = "The name or the password is wrong."
+# a drawn password is read out and typed once: letters that look like no other, in groups
+LETTERS, GROUPS, IN_GROUP = "abcdefghjkmnpqrstuvwxyz", 5, 4
 
 
 def network(address: str) -> str:
@@ -108,6 +110,14 @@ class Person:
 def digest(secret: str) -> str:
     """The digest of a drawn secret, which needs no slow hash."""
     return hashlib.sha256(secret.encode()).hexdigest()
+
+
+def drawn(kind: str) -> str:
+    """A drawn password, of 90 bits; or the token of a program."""
+    if kind == PROGRAM:
+        return secrets.token_urlsafe(18)
+    return "-".join("".join(secrets.choice(LETTERS) for _ in range(IN_GROUP))
+                    for _ in range(GROUPS))
 
 
 def form_of(mark: str, hashed: str) -> str:
@@ -271,7 +281,7 @@ class People:
         """Adds a person or a program, and returns the drawn password or token, which is shown
         once.
         """
-        secret = secrets.token_urlsafe(18)
+        secret = drawn(kind)
         with self.store.writing() as db:
             self.see_new(name, role)
             db.execute("INSERT INTO person (name, kind, role, hash, must_change, added)"
@@ -303,8 +313,8 @@ class People:
         """Draws another password or token, and returns it."""
         row, secret = self.store.row("SELECT kind FROM person WHERE name=?", name), ""
         if row:
-            secret = secrets.token_urlsafe(18)
             kind = row["kind"]
+            secret = drawn(kind)
             # (and another account of the authority's provider may be the person's from now on)
             self.changed(name, "hash=?, must_change=?, account=''", self.hash_of(secret, kind),
                          kind == PERSON)
