@@ -1,6 +1,7 @@
 """The activity: all that was done, found by person, child and day, with what came of it."""
 import datetime
 from collections.abc import Iterator
+from typing import Any
 
 import pytest
 from applications import ROUND, Browser, Site, office_over, town
@@ -59,11 +60,12 @@ def test_what_is_empty_is_said_so() -> None:
     """Not two names of fields one after the other."""
     amend = {"cmd": "amend", "child": 5, "name": "Eve", "looked_after": False, "flags": [],
              "siblings": ["A", "B"], "present": "", "home": None}
-    for what, about, said in (
-            (SENDS, {"command": amend}, "amend child 5 name Eve looked_after no flags none siblings"
-             " A, B present none home none"),
-            ("signed in", {}, "signed in"),
-            ("named flags", {"before": {}}, "named flags before none")):
+    cases: list[tuple[str, dict[str, Any], str]] = [
+        (SENDS, {"command": amend}, "amend child 5 name Eve looked_after no flags none siblings"
+         " A, B present none home none"),
+        ("signed in", {}, "signed in"),
+        ("named flags", {"before": {}}, "named flags before none")]
+    for what, about, said in cases:
         assert activity.in_words(Entry(1, "", "jane", what, about)).strip() == said
 
 
