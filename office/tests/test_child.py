@@ -4,6 +4,7 @@ history.
 import datetime
 import pathlib
 from collections.abc import Callable, Iterator
+from types import SimpleNamespace
 from typing import Any
 
 import pytest
@@ -13,8 +14,9 @@ from pages import Page, press
 from register_files import Refused
 from werkzeug.datastructures import MultiDict
 
+from office.model import CLASS, DISTANCE, LOT, NOBODY, Cutoff, Draw, Drawn, School
 from office.senders import Ended
-from office.web import children, corrections, effects, flags, wording
+from office.web import children, corrections, effects, flags, reasons, wording
 from office.web.asked import MOST_CHARACTERS, MOST_KEPT, Asked
 from office.web.desk import LOST
 from office.web.people import Person
@@ -56,14 +58,40 @@ def test_a_child_is_shown_with_its_place_its_list_and_its_data(office: Site) -> 
         "The child was offered a place at Beta on 3 March 2025. There is no answer yet.")
     assert page.by_id["deadline"] == "A reminder is due from 18 March 2025 on."
     assert page.tables["list"][1:] == [
-        ["1", "A Alpha", "waits, position 1 of 2", "ranked by distance alone", "300"],
-        ["2", "B Beta", "offered", "ranked by distance alone", "300"]]
+        ["1", "A Alpha", "waits, position 1 of 2", "ranked by distance alone", "300",
+         "ranked by distance alone 200 metres", "The last child admitted lives 100 metres nearer."],
+        ["2", "B Beta", "offered", "ranked by distance alone", "300",
+         "ranked by distance alone 300 metres", ""]]
+    assert page.tables["map-table"][1:] == [["A", "300"], ["B", "300"]]
     assert page.buttons() == []
     assert not [it for it in page.stops if it.startswith("/children/3/") and "/w" not in it]
     page = Page(rita.get("/children/5").text)
     assert "medical need; flag 5" in page.text and "The child has no application." in page.text
     assert "&lt;i&gt;Eden" in page.text and "<i>Eden" not in page.text
     assert rita.get("/children/6").status_code == 404
+
+
+def test_a_reason_has_few_words_and_tells_no_distance_that_no_family_is_told() -> None:
+    """For each reason of a draw. Of a child that is looked after there are no metres."""
+    last = Cutoff(2, 400, 7)
+    for by, wanted in (
+            (CLASS, "All who were admitted met a criterion that comes before this child’s."),
+            (DISTANCE, "The last child admitted lives 150 metres nearer."),
+            (LOT, "As near as the last child admitted; the lot decided."),
+            (NOBODY, "Nobody was newly admitted."),
+            (None, "Data changed since the draw: see the explanation.")):
+        found = reasons.why(by, last, 150)
+        assert found == wanted and len(found.split()) <= 12
+    assert reasons.why(DISTANCE, last, None) == "The last child admitted lives nearer."
+    school = School("A", "Alpha", 1, 0, 0, ("flag:2", "sibling"))
+    register: Any = SimpleNamespace(
+        schools={"A": school}, outcomes={1: {3: None}}, applications={
+            3: SimpleNamespace(preferences=("A",), rank=lambda code: (3, 900))},
+        draws=[Draw(1, 1, None, datetime.date(2025, 3, 3))])
+    for number, metres in ((0, None), (1, None), (2, 400)):
+        drawn = Drawn({}, {"A": Cutoff(number, 400, 7)}, {("A", 3): CLASS})
+        register.drawn = lambda _, it=drawn: it
+        assert reasons.reasons(register, 3, {})["A"].metres == metres
 
 
 def test_children_and_schools_are_found(office: Site) -> None:

@@ -251,7 +251,7 @@ SENT = {
     "round": "Held a round", "fill": "Held fills",
 }
 # entries that are no work, and how many are looked at and shown
-NO_WORK = (ANSWER, SETTLED, "signed in", "signed out", "refused")
+NO_WORK = (ANSWER, SETTLED, "signed in", "signed out", "refused", "records a pile")
 LOOKED_AT, SHOWN = 500, 5
 
 

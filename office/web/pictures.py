@@ -211,3 +211,50 @@ def season(
         parts += [line(x, 20, x, high, "today"),
                   f'<circle class="today" cx="{x:.1f}" cy="20" r="4.5"/>']
     return svg(name, width, high, title, text, parts, "season")
+
+
+class Way(NamedTuple):
+    """A school of a child's list on its map: its code, its point, what came of it ("place", "waits"
+    or "below"), and how far from it the last child lives that was admitted by distance, or None.
+    """
+
+    code: str
+    east: int
+    north: int
+    state: str
+    metres: int | None = None
+
+
+def child_map(
+    name: str, title: str, text: str, home: tuple[int, int], ways: Sequence[Way],
+) -> Markup:
+    """A home and the schools of its list, each with a line of what came of it, and with a circle as
+    far as its last place went. For the office alone.
+    """
+    easts, norths = [home[0], *(it.east for it in ways)], [home[1], *(it.north for it in ways)]
+    middle, low, high = (min(easts) + max(easts)) / 2, min(norths), max(norths)
+    reach = max(max(easts) - min(easts), (high - low) * 1.25, 2000) * 0.68
+    ground = Ground(middle - reach, (low + high) / 2 - reach * 0.8,
+                    middle + reach, (low + high) / 2 + reach * 0.8, 480)
+    x, y = ground.at(*home)
+    parts = [ground.grid()]
+    for it in ways:
+        if it.metres is not None:
+            at = ground.at(it.east, it.north)
+            parts.append(f'<circle class="last" cx="{at[0]:.1f}" cy="{at[1]:.1f}"'
+                         f' r="{it.metres * ground.scale:.1f}"/>')
+    for it in ways:
+        parts.append(line(x, y, *ground.at(it.east, it.north), f"way {it.state}"))
+    for it in ways:
+        parts.append(school(ground, it, it.north < home[1]))
+    parts.append(f'<path class="dwelling" d="M{x - 8:.1f} {y + 7:.1f}v-8l8-8 8 8v8z"/>')
+    parts.append(ground.scale_bar())
+    return svg(name, ground.width, ground.height, title, text, parts, "map")
+
+
+def school(ground: Ground, it: Way, is_below: bool) -> str:
+    """A school of a map with its code, which is below it or above it."""
+    x, y = ground.at(it.east, it.north)
+    is_below = is_below and y < ground.height - 40 or y < 40
+    name = label(x, y + (27 if is_below else -13), it.code, f"halo name {it.state}", "middle")
+    return f'<path class="school {it.state}" d="M{x:.1f} {y - 7:.1f}l7 11.9h-14z"/>{name}'

@@ -7,10 +7,12 @@ import flask
 from register_files import Refused
 from werkzeug.wrappers import Response
 
-from office import criteria
-from office.model import Register
+from office import criteria, texts
+from office.model import WAITS, Register
 
-from .. import children, corrections, explanations, flags, records, staging_points, wording
+from .. import (
+    children, corrections, explanations, flags, pictures, reasons, records, staging_points, wording,
+)
 from ..asked import Typed
 from ..children import ACTIONS, FIELDS, Question
 from ..desk import Seen, seen_of
@@ -58,7 +60,7 @@ def listed(register: Register, number: int) -> list[Listed]:
             state = records.ended_by(parts().history, number, code) or state
         found.append(Listed(at, code, school.name, state,
                             criteria.in_words(school, it.number, words), it.metres,
-                            it.state == "waits"))
+                            it.state == WAITS))
     return found
 
 
@@ -98,10 +100,38 @@ def child_page(number: int, said: str = "", status: int = 200) -> Answer:
     actions = [(name, code, ACTIONS[name].title, register.schools[code].name if code else "")
                for name, code in children.possible(register, number)]
     return flask.render_template(
-        "child.html", **shown(register, number), said=said, is_bad=status != 200,
+        "child.html", **shown(register, number), **drawn(register, number), said=said,
+        is_bad=status != 200,
         point=records.point_of(history, number), actions=actions,
         records=records.of_child(history, register, number),
         rounds=explanations.taken(parts(), register, number), **noted(number)), status
+
+
+def drawn(register: Register, number: int) -> dict[str, Any]:
+    """Why the child has no place at schools of its list, and the map of its home and these."""
+    child, place = register.children[number], register.places.get(number)
+    application = register.applications.get(number)
+    try:
+        found = reasons.reasons(register, number, flags.present())
+    except Refused:
+        # (a draw that is not shown now is no reason to show nothing)
+        found = {}
+    ways = []
+    for code, it in application.listed.items() if application else ():
+        school, reason = register.schools[code], found.get(code)
+        is_own = place is not None and place.school == code
+        state = "place" if is_own else "waits" if it.state == WAITS else "below"
+        ways.append(pictures.Way(code, school.east, school.north, state,
+                                 reason.metres if reason and reason.why else None))
+    if not ways:
+        return {"reasons": found, "map": "", "map_says": ""}
+    nearest = min(application.listed.items(), key=lambda it: it[1].metres) if application else None
+    says = f"The home and the {texts.count(len(ways), 'school')} of its list."
+    if nearest:
+        says += f" The nearest, {nearest[0]}, is {nearest[1].metres:,} metres away."
+    picture = pictures.child_map("child-drawn", "Home and schools", says, (child.east, child.north),
+                                 ways)
+    return {"reasons": found, "map": picture, "map_says": says}
 
 
 def noted(number: int) -> dict[str, Any]:
