@@ -27,9 +27,7 @@ class Page(Generic[Row]):
     others: str
 
 
-def page_of(
-    rows: Sequence[Row], number: int, ticked: Callable[[Row], int | None] = lambda _: None,
-) -> Page[Row]:
+def page_of(rows: Sequence[Row], number: int, ticked: Callable[[Row], int | None]) -> Page[Row]:
     """A page of a list. `ticked` says which child a row has, if its box is ticked."""
     last = max(1, -(-len(rows) // PAGE))
     number = min(max(number, 1), last)

@@ -11,9 +11,7 @@ from werkzeug.wrappers import Response
 from office import inputs, persons, texts
 from office.check import ERROR
 
-from .. import (
-    choices, staging_files, staging_page, staging_points, staging_sent, staging_tools, tables,
-)
+from .. import staging_files, staging_page, staging_points, staging_sent, staging_tools, tables
 from ..guard import needs, person
 from ..people import RECORD
 from ..staging import Meanwhile
@@ -207,7 +205,7 @@ def withdrawn() -> Answer:
     lines = [staging_page.line_of(it, None, {}) for it in rows]
     return flask.render_template(
         "applications_withdrawn.html", columns=staging_page.columns(), many=len(lines),
-        page=choices.page_of(lines, number_in(flask.request.args, "page", 1)),
+        page=tables.paged(lines, flask.request.args.get("page", "")),
         address=tables.pages("applications.withdrawn"))
 
 

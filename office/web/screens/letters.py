@@ -240,8 +240,7 @@ def set_page(
         rests=letters_back.rests(sets(), found) if found.sent else "",
         has_example=sets().has_example(found), many=len(letters.rows),
         may_show=may_show, table=letters, pages=tables.pages("letters.one", number=number),
-        page=choices.page_of(letters.rows, numbers.read(flask.request.args.get("page", ""), 1))
-    ), status
+        page=tables.paged(letters.rows, flask.request.args.get("page", ""))), status
 
 
 def template_of(found: Set) -> str:

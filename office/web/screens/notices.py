@@ -284,7 +284,7 @@ def one(number: int) -> Answer:
     return flask.render_template(
         "notices_row.html", row=row, title=TITLES[row.kind], what=WHAT[row.kind], names=names,
         table=table, pages=tables.pages("notices.one", number=number),
-        page=choices.page_of(table.rows, numbers.read(flask.request.args.get("page", ""), 1)),
+        page=tables.paged(table.rows, flask.request.args.get("page", "")),
         done=row.count(DONE), is_running=is_running,
         it=made, recording=letters.recording(made) if made else {},
         template=letters.template_of(made) if made else "",
