@@ -94,7 +94,7 @@ def typed(browser: Browser, **more: str) -> None:
 
 def hidden(page: Answer, name: str) -> str:
     """The value of a field of a page."""
-    found = re.search(rf'name="{name}" value="([^"]*)"', page.text)
+    found = re.search(rf'name="{name}"(?: type="text")? value="([^"]*)"', page.text)
     assert found, page.text
     return html.unescape(found[1])
 

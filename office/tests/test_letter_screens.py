@@ -19,7 +19,7 @@ from letter_site import (
     HAS, NAMES, ROUND, SENT_ON, after_round, asked, audited, beside, commands, count, hidden,
     letter_pages, made, pages, waited,
 )
-from pages import tasks
+from pages import Page, tasks
 from register_files import Refused
 from served import do_over, served
 
