@@ -23,6 +23,7 @@ from ..list_choice import Choice
 from ..letters_whom import CHILDREN
 from ..list_views import Views
 from ..people import READ, RECORD
+from ..piles import DONE
 from ..wording import sentence
 from .answers import all_piles
 from .schools import attachment, title_of
@@ -226,10 +227,13 @@ def ticked(name: str) -> Answer:
         flask.abort(403)
     meant = [it for child, _, school in chosen
              for it in answers.unanswered(found.register, int(child), school)]
+    piles, who = all_piles(), person().name
+    there_now = {(it.meant.child, it.meant.school) for it in piles.of(who) if it.state != DONE}
     try:
         if not meant:
             raise Refused("none of those ticked has an offer or waits for a place")
-        all_piles().add(person().name, found.register, meant)
+        piles.add(who, found.register,
+                  [it for it in meant if (it.child, it.school) not in there_now])
     except Refused as error:
         return page(found, number, f"Nothing was put into your batch: {error}.", 409, ticked=given)
     return flask.redirect(flask.url_for("answers.show"), 303)
