@@ -24,7 +24,7 @@ SHOWN_AFTER = 1.0
 MOST_COLUMNS = 80
 # the commands that read a sheet, whose limits are in their help
 SHEET = [
-    f"admissions-{it}" for it in ("check", "figures", "letters", "lots", "send", "trial", "why")
+    f"admissions-{it}" for it in ("check", "figures", "letters", "lots", "trial", "why")
 ]
 
 

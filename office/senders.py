@@ -1,17 +1,12 @@
-"""How lines reach the register, one at a time: by `admissions do`, or over HTTP; and what is read
-from a server.
-"""
+"""How lines reach a register that is served, one at a time, and what is read from it."""
 import base64
 import getpass
 import http.client
 import ipaddress
-import os
 import re
 import signal
 import socket
 import ssl
-import subprocess
-import tempfile
 import urllib.parse
 import warnings
 from collections.abc import Callable
@@ -52,49 +47,6 @@ class Ended(Exception):
     def __init__(self, text: str, is_open: bool = True) -> None:
         super().__init__(text)
         self.is_open = is_open
-
-
-class Do:
-    """`admissions do`, which is handed a line only after the answer to the line before it. It is
-    not ended by the signals of this command's terminal.
-    """
-
-    def __init__(self, program: str, path: str) -> None:
-        self.rest = b""
-        self.errors = tempfile.TemporaryFile()  # pylint: disable=consider-using-with
-        self.run = subprocess.Popen(  # pylint: disable=consider-using-with
-            [program, "do", path], stdin=subprocess.PIPE, stdout=subprocess.PIPE,
-            stderr=self.errors, start_new_session=True)
-        assert self.run.stdin and self.run.stdout
-        self.input, self.output = self.run.stdin, self.run.stdout
-
-    def send(self, line: bytes) -> bytes:
-        """The answer to a line, as bytes without its end."""
-        try:
-            self.input.write(line + b"\n")
-            self.input.flush()
-        except OSError:
-            pass
-        answer = self.output.readline()
-        if not answer.endswith(b"\n"):
-            raise Ended(self.close() or "the program ended without an answer")
-        return answer[:-1]
-
-    def close(self) -> str:
-        """Ends it, and waits for that. What it printed where it failed."""
-        if self.input.closed:
-            return ""
-        try:
-            self.input.close()
-        except OSError:
-            pass
-        self.rest = self.output.read()
-        status = self.run.wait()
-        self.errors.seek(0)
-        if status not in (1, 2) and status >= 0:
-            return ""
-        lines = os.fsdecode(self.errors.read()).split("\n")
-        return ", ".join(filter(None, lines)) or ending(status)
 
 
 def is_address(name: str) -> bool:
@@ -158,7 +110,6 @@ class Http:
     names another.
     """
 
-    rest = b""
     # how errors name it where it is no address that their reader knows
     called = ""
 
@@ -242,10 +193,6 @@ class Http:
             reason, _ = refusal(status, said if isinstance(said, dict) else {})
             raise Refused(f"{self.named(path)} cannot be read: {reason}")
         return body
-
-    def close(self) -> str:
-        """Nothing is open between two lines."""
-        return ""
 
 
 class UnixConnection(http.client.HTTPConnection):

@@ -1,5 +1,5 @@
 """The record of who sent what, and what it is for: whatever was sent, the commands that it has give
-the same register again. And sending over the site."""
+the same register again."""
 
 import datetime
 import gzip
@@ -11,31 +11,14 @@ from typing import NamedTuple
 import pytest
 
 from checks.raw import raw, status_of
-from checks.world import NAME, Answer, Ran, World, until
+from checks.world import Answer, Ran, World, until
 
-# Sends lines by the installed admissions-send's own sender, to the site's name at this room's port:
-# the package's folder, port, name, password, lines
-SEND = """
-import socket, sys
-sys.path.insert(0, sys.argv[1])
-from office import senders
-plain = socket.create_connection
-socket.create_connection = lambda address, *more, **others: plain(
-    ("127.0.0.1", int(sys.argv[2])), *more, **others)
-sender = senders.Http(sys.argv[3], "robot", lambda: sys.argv[4])
-for line in sys.argv[5:]:
-    try:
-        print(sender.send(line.encode()).decode())
-    except senders.Ended as error:
-        print(error, error.is_open)
-"""
 PART = '"east":0,"north":300,"looked_after":false,"flags":[],"siblings":[]}'
 # A command within a command, and one of many lines
 HIDDEN = ('{"name":\n{"cmd":"decline","child":2,"school":"B"}\n,"cmd":"amend","child":6,'
           '"name":"Fay of many lines",' + PART)
 SPREAD = ('{"cmd":"amend",\n "child":5,\r\n\t"name":"Eve \\"\u2028 Eden",' + PART).replace(
     ",", ",\n")
-LINES = ('{"cmd":"add_child","child":31,"name":"Sent over",' + PART,) * 2
 ROWS = ("child,name,east,north,looked_after,flags,siblings,day,preferences\n"
         "41,Row,0,700,no,,,2025-06-02,B\n")
 
@@ -95,31 +78,6 @@ def test_a_command_within_a_command_and_one_of_many_lines_are_done(attacks: list
 def test_a_command_within_a_command_is_not_done_itself(world: World, before: Before) -> None:
     assert world.letter(2) == before.letter
     assert "Fay of many lines" in world.letter(6)
-
-
-# The sender of admissions-send at the site
-
-
-def send(world: World, url: str, token: str) -> list[str]:
-    """What it prints of the two lines."""
-    return world.run("env", f"SSL_CERT_FILE={world.certificate}", "/usr/bin/python3", "-B", "-c",
-                     SEND, world.prefix / "share/admissions", world.site_port, url, token,
-                     *LINES).stdout.splitlines()
-
-
-def test_a_line_that_is_sent_over_the_site_is_done(world: World) -> None:
-    assert send(world, f"https://{NAME}", world.passwords["robot"]) == [
-        '{"done":true}', '{"name":"ChildKnown","refused":4}']
-
-
-def test_a_wrong_token_is_named_as_such(world: World) -> None:
-    assert send(world, f"https://{NAME}", "wrong")[0] == (
-        "the server answered with status 401: sign in first False")
-
-
-def test_another_origin_is_named_as_such(world: World) -> None:
-    assert send(world, f"https://{NAME}:8443", world.passwords["robot"])[0] == (
-        "the server answered with status 403: a request must come from a page of this site False")
 
 
 # The commands since, done on the copy: row for row the same register

@@ -88,20 +88,10 @@ def test_a_register_for_whose_copy_there_is_no_room(tools: Path, reg: Path) -> N
 
 
 def test_limits_of_other_files(office: Office, tmp_path: Path) -> None:
-    """A file of commands with too many lines or bytes, pairs, a template, and the standard input;
-    just within the limit a file is read.
-    """
-    (tmp_path / "lines.jsonl").write_text("\n" * 100_001)
+    """Pairs, and the standard input."""
     (tmp_path / "bytes.jsonl").write_text("{}" + " " * 8_000_000)
-    (tmp_path / "most.jsonl").write_text("\n" * 100_000)
     (tmp_path / "sheet.csv").write_text("OAK,1,1\n")
     for words, said in (
-        (
-            ("send", "lines.jsonl"),
-            "nothing was sent: lines.jsonl has over 100,000 lines: send it in parts",
-        ),
-        (("send", "bytes.jsonl"), "bytes.jsonl is too large: a file has at most 8 MB here"),
-        (("send", "most.jsonl"), "nothing was sent: there is no command in most.jsonl"),
         (
             ("lots", "bytes.jsonl", "sheet.csv", "--number", "1", "--day", "2025-03-03"),
             "bytes.jsonl is too large",
@@ -146,12 +136,6 @@ COMMANDS = (
     "query ODD season",
     "query ODD --workbook out.xlsx",
     "query reg.db moved --round 1 --before ODD",
-    "send ODD.csv",
-    "send ODD.xlsx",
-    "send ODD.jsonl",
-    "send good.jsonl --register ODD",
-    "send good.jsonl --register reg.db --names ODD",
-    "send made.csv --register reg.db",
     "trial ODD reg.db --pan A=9",
     "trial reg.db ODD --pan A=9",
     "trial reg.db --pan A=9 --flags ODD",
@@ -172,12 +156,10 @@ def test_what_is_no_file(office: Office, season: Path, tmp_path: Path, kind: str
         ("good.csv", APPLICATIONS),
         ("pairs", "OAK 1\n"),
         ("lots.csv", "OAK,1,1\n"),
-        ("good.jsonl", "{}\n"),
-        ("made.csv", "accept,1,OAK\n"),
     ):
         (tmp_path / name).write_text(text, "utf-8")
     with socket.socket(socket.AF_UNIX) as one:
-        for name in ("ODD", "ODD.csv", "ODD.xlsx", "ODD.jsonl", "made.jsonl"):
+        for name in ("ODD", "ODD.csv", "ODD.xlsx", "ODD.jsonl"):
             if kind == "fifo":
                 os.mkfifo(tmp_path / name)
             elif kind == "device":
@@ -189,10 +171,9 @@ def test_what_is_no_file(office: Office, season: Path, tmp_path: Path, kind: str
                 os.link(tmp_path / "ODD", tmp_path / name)
         for words in COMMANDS if kind == "fifo" else COMMANDS[::4]:
             ran = office(*words.split(" "), stdin="")
-            name = "made.jsonl" if "made" in words else "ODD"
             assert (
                 ran.returncode == 1
-                and name in ran.stderr
+                and "ODD" in ran.stderr
                 and ("no file" in ran.stderr or "no regular file" in ran.stderr)
             ), (words, ran)
             assert "Traceback" not in ran.stderr and "error in this command" not in ran.stderr, (
@@ -200,34 +181,6 @@ def test_what_is_no_file(office: Office, season: Path, tmp_path: Path, kind: str
                 ran,
             )
         assert not list(tmp_path.glob("out*")) and not list(tmp_path.glob("*.part-*"))
-
-
-def test_a_command_that_reads_a_file_of_no_command(office: Office, tmp_path: Path) -> None:
-    """An empty file, as of an export that failed, is refused and no success; and so is one that is
-    not there.
-    """
-    for name, data in (
-        ("empty.jsonl", b""),
-        ("blank.jsonl", b"\n \t\n"),
-        ("mark.jsonl", b"\xef\xbb\xbf\n"),
-    ):
-        (tmp_path / name).write_bytes(data)
-        ran = office("send", name)
-        assert (
-            ran.returncode == 1
-            and ran.stdout == ""
-            and ran.stderr == f"admissions-send: nothing was sent: there is no command in {name}\n"
-        ), ran
-    ran = office("send", "none.jsonl")
-    assert (
-        ran.returncode == 1
-        and ran.stderr == "admissions-send: none.jsonl cannot be read: No such file or directory\n"
-    ), ran
-    assert sorted(it.name for it in tmp_path.iterdir()) == [
-        "blank.jsonl",
-        "empty.jsonl",
-        "mark.jsonl",
-    ]
 
 
 # each command with each register that it takes; URL is the address of one
@@ -239,8 +192,6 @@ ADDRESSED = (
     "figures reg.db out.html --copy before.db --before reg.db --before-copy URL",
     "lots pairs lots.csv --number 1 --day 2025-03-03 --register URL",
     "lots pairs --sheet out.csv --register URL",
-    "send good.jsonl --register URL",
-    "send good.jsonl --url URL",
     "trial URL reg.db --pan BIRS=99",
     "trial before.db URL --pan BIRS=99",
     "why URL --child 1",
@@ -291,7 +242,6 @@ def test_an_address_where_no_register_is_served(
         ("good.csv", APPLICATIONS),
         ("pairs", "OAK 1\n"),
         ("lots.csv", "OAK,1,1\n"),
-        ("good.jsonl", "{}\n"),
     ):
         (tmp_path / name).write_text(text, "utf-8")
     had = sorted(os.listdir(tmp_path))

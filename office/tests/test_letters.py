@@ -10,12 +10,13 @@ import re
 import secrets
 import shutil
 import signal
+import sqlite3
 import subprocess
 import tempfile
 import time
 from collections.abc import Callable, Mapping, Sequence
 from pathlib import Path
-from typing import Any
+from typing import Any, TypeVar
 
 import model_season
 import pikepdf
@@ -23,11 +24,11 @@ import pytest
 from conftest import PROGRAM, ROOT, Command, Office, Ran, apply, child, do, make, school
 from programs import NO_RIGHT, RUN_FOR_EACH, SERVED, noted, noting, way_in, words_before
 from served import do_over, served, site
-from test_send import count, wait_for
 
 from office import letter_fields, model
 
 Record = Callable[[str, object], None]
+Found = TypeVar("Found")
 # a picture of one point
 RED_PNG = (
     "iVBORw0KGgoAAAANSUhEUgAAAAEAAAABCAIAAACQd1PeAAAADElEQVR4nGP4z8AAAAMBAQDJ/pLvAAAAAElFTkSuQmCC"
@@ -37,6 +38,20 @@ NAMES = {
     5: "=SUM(A1)", 6: "שרה כהן", 7: "Bo & Bell, jr.",
 }
 OAK, ELM = 'Oak "Tŷ" <b>', "مدرسة الزيتون"
+
+
+def count(path: Path) -> int:
+    """The children of a register."""
+    with contextlib.closing(sqlite3.connect(path)) as conn:
+        return int(conn.execute("SELECT count(*) FROM child").fetchone()[0])
+
+
+def wait_for(task: Callable[[], Found], is_good: Callable[[Found], object]) -> Found:
+    """The result of a task, repeated until it is good; at most five minutes."""
+    deadline = time.monotonic() + 300
+    while not is_good(found := task()) and time.monotonic() < deadline:
+        time.sleep(0.05)
+    return found
 
 
 def answer(name: str, number: int, code: str, **more: object) -> Command:

@@ -12,8 +12,7 @@ from office.sheet import Row
 
 from .answers import MOST_TYPED, Meant, Names, with_school, words_of
 
-# the words of each answer: every other one is marked. Some are none of a sheet that is sent by a
-# command, which has the words of `replies` alone
+# the words of each answer: every other one is marked
 READ = {
     "accept": ("accept", "accepts", "accepted", "yes"),
     "decline": ("decline", "declines", "declined", "no"),
@@ -93,9 +92,8 @@ class Reader:
         """What rows mean. Those without an answer are accepts only where no row has an answer."""
         if not rows:
             raise Refused("there is nothing in it")
-        if other := kinds.of_columns(rows[0].cells, None):
-            # (what is to be done with it is said for a terminal)
-            raise Refused(f"it is {other.partition(':')[0]}")
+        if other := kinds.of_columns(rows[0].cells):
+            raise Refused(f"it is {other}")
         titles = titles_of(rows[0].cells)
         below = rows[1:] if titles else rows
         if not below:

@@ -8,7 +8,7 @@ from typing import Any
 
 from register_files import Refused
 
-from office import days, model, risks, rules, texts
+from office import days, model, risks, rules
 from office.model import Child, Place, Register
 
 from . import wording
@@ -148,14 +148,8 @@ def day_warnings(
     register: Register, command: Command, day: datetime.date, today: datetime.date,
 ) -> list[str]:
     """What looks wrong in a day."""
-    found = []
-    line = risks.Line(1, b"", command)
-    if said := risks.season_risk(line, day, register, False):
-        found.append(f"The day is {said}.")
-    if day > today or (today - day).days > risks.FAR_FROM_TODAY:
-        count = texts.count(abs((day - today).days), "day")
-        found.append(f"The day is {count} {'after' if day > today else 'before'} today.")
-    return found
+    found = (risks.season_risk(command["cmd"], day, register), risks.today_risk(day, today))
+    return [f"The day is {it}." for it in found if it]
 
 
 def last_day_warning(place: Place, day: datetime.date) -> list[str]:

@@ -4,15 +4,12 @@ looks wrong in it.
 import dataclasses
 import datetime
 import hashlib
-import re
 from collections.abc import Iterable
 
 from office import days, model, risks, texts
 from office.model import Register
 
 from .draws_terms import Terms
-
-DAY = re.compile(r"[0-9]{4}-[0-9]{2}-[0-9]{2}")
 
 
 @dataclasses.dataclass(frozen=True)
@@ -29,24 +26,19 @@ def whole_day(day: datetime.date) -> str:
     return f"{day:%A} {days.in_words(day)}"
 
 
-def with_days_in_words(text: str) -> str:
-    """A sentence whose days are in words."""
-    return DAY.sub(lambda it: days.in_words(datetime.date.fromisoformat(it[0])), text)
-
-
 def day_risks(register: Register, terms: Terms, today: datetime.date) -> list[str]:
-    """What looks wrong with the day: all that is asked before a round or a fill is sent by a file,
-    and whether it is a day on which no office works.
+    """What looks wrong with the day: in the season, beside today, and whether it is a day on which
+    no office works.
     """
-    line = risks.Line(1, b"", terms.command(0, []))
-    start = f"{terms.kind} with the day {terms.day}, which is "
-    found = [f"it is {text.removeprefix(start)}"
-             for _, text in risks.day_risks([line], register, today)]
+    is_first = terms.kind == "round" and not register.draws
+    said = (risks.season_risk(terms.kind, terms.day, register, is_first),
+            risks.today_risk(terms.day, today))
+    found = [f"it is {it}" for it in said if it]
     if terms.day.weekday() >= 5:
         found.append(f"it is a {terms.day:%A}")
     if terms.day in register.holidays:
         found.append("it is a holiday of this season")
-    return list(map(with_days_in_words, found))
+    return found
 
 
 def school_checks(register: Register, terms: Terms) -> list[Check]:

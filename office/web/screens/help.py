@@ -18,7 +18,7 @@ screen = flask.Blueprint("help", __name__)
 HERE = pathlib.Path(__file__).resolve()
 PLACES = (HERE.parents[2] / "HANDBOOK.md", HERE.parents[3] / "docs" / "HANDBOOK.md")
 # its part about the application ends before this heading
-ENDS = "\n## By commands\n"
+ENDS = "\n## The register as a file\n"
 TABLE, HEADING = re.compile("<table>"), re.compile("<h[23][^>]*>(.*?)</h[23]>")
 PICTURE = re.compile(r"^!\[.*\]\(.*\)$\n*", re.MULTILINE)
 # a link to another page, which the application does not serve; the refusals are below

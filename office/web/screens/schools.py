@@ -113,10 +113,8 @@ def number_of(text: str, school: School) -> tuple[int, str]:
 
 def warning(school: School, pan: int) -> str:
     """What looks wrong in a raise, or ""."""
-    line = risks.Line(1, b"", {"cmd": "raise_pan", "school": school.code, "pan": pan})
-    is_far = any(risks.pan_risks([line], parts().desk.register()))
     return (f"This is {texts.count(pan - school.pan, 'place')} more, which is much: is a digit"
-            " wrong?") if is_far else ""
+            " wrong?") if risks.is_far_rise(school.pan, pan) else ""
 
 
 @screen.get("/<code>/raise")
