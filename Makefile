@@ -128,7 +128,7 @@ install:
 	install -D -m 755 $(PROGRAM) $(DESTDIR)$(PREFIX)/bin/admissions
 	install -D -m 755 tools/backup $(DESTDIR)$(PREFIX)/bin/admissions-backup
 	install -D -m 755 tools/restore $(DESTDIR)$(PREFIX)/bin/admissions-restore
-	for tool in audit check figures letters lots query trial why; do install -D -m 755 office/command $(DESTDIR)$(PREFIX)/bin/admissions-$$tool || exit 1; done
+	install -D -m 755 office/command $(DESTDIR)$(PREFIX)/bin/admissions-audit
 	install -d $(DESTDIR)$(PREFIX)/share/admissions/office
 	install -m 644 office/*.py office/*.json $(DESTDIR)$(PREFIX)/share/admissions/office
 	# (a part of it is the help of the application)

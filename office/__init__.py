@@ -1,6 +1,6 @@
-"""The commands of an office that are beside the program: admissions-check, lots, query, send, why,
-.., and what they share.
+"""What an office does beside the program: what its application shares, whose screens are in `web`,
+and the audit.
 
-`command` starts each of them by the name under which it is called, and those of an administrator.
-They need Debian's Python 3.11, and python3-openpyxl where a workbook is read or written.
+`command` starts the audit and the commands of an administrator. They need Debian's Python 3.11, and
+python3-openpyxl where a workbook is read or written.
 """

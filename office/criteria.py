@@ -2,14 +2,6 @@
 from collections.abc import Mapping
 from typing import Protocol
 
-from register_files import Refused
-
-from . import sheet, texts
-from .rules import LIMITS
-
-# the option by which commands take the office's words for flags
-FLAGS_HELP = "the office's words for flags: lines as 7,social or medical need"
-
 
 class School(Protocol):
     """What is looked at of a school: its criteria in their order.
@@ -29,31 +21,6 @@ def is_private(school: School, number: int) -> bool:
     if number == 0:
         return True
     return number <= len(school.criteria) and school.criteria[number - 1].startswith("flag:")
-
-
-def flags_of(name: str | None) -> dict[int, str]:
-    """The office's words for flags, from a file with lines as `7,social or medical need`; none
-    where no file is named.
-    """
-    found: dict[int, str] = {}
-    for row in sheet.read(name).rows if name else []:
-        number, *words = (it.strip() for it in row.cells)
-        text, where = ", ".join(filter(None, words)), f"{name}, row {row.number}"
-        if not is_flag(number):
-            raise Refused(f"{where}: {texts.shown(number)} is no flag from {LIMITS['flag'].least}"
-                          f" to {LIMITS['flag'].most}; a line is as 7,social or medical need")
-        if int(number) in found:
-            raise Refused(f"{where}: flag {number} is there twice")
-        if not text or texts.CONTROL.search(text):
-            raise Refused(f"{where}: flag {number} has no words that can be printed")
-        found[int(number)] = text
-    return found
-
-
-def is_flag(text: str) -> bool:
-    """Whether a text is the number of a flag, in no more digits than the greatest has."""
-    is_number = text.isascii() and text.isdigit() and len(text) <= len(str(LIMITS["flag"].most))
-    return is_number and LIMITS["flag"].has(int(text))
 
 
 def in_words(school: School, number: int, flags: Mapping[int, str] | None = None) -> str:

@@ -8,12 +8,8 @@ import math
 from collections.abc import Iterable, Iterator
 from typing import NamedTuple
 
-from register_files import Refused
-
-from . import model, texts
 from .model import LOT, Draw, Drawn, Pair, Register
 from .register_lists import Cell, Rows
-from .run import Progress
 
 # of a child whose application a plan has ended since
 ENDED = "ended"
@@ -40,13 +36,9 @@ def came_of(school: str | None, is_fresh: bool) -> str:
 
 
 def with_drawn(register: Register) -> Iterator[tuple[Draw, Drawn]]:
-    """The draws with their lots and what explains them, with progress while these are read."""
-    progress = Progress("draws", len(register.draws))
+    """The draws with their lots and what explains them."""
     all_drawn = register.drawn_of([it.number for it in register.draws])
-    for draw, drawn in zip(register.draws, all_drawn, strict=True):
-        yield draw, drawn
-        progress.at(draw.number)
-    progress.end()
+    yield from zip(register.draws, all_drawn, strict=True)
 
 
 def draws(register: Register) -> Rows:
@@ -63,14 +55,9 @@ def draws(register: Register) -> Rows:
     return [header, *rows]
 
 
-def of_round(register: Register, number: int) -> Draw:
-    """The draw of a round."""
-    return next(it for it in register.draws if it.round == number)
-
-
 def round_report(register: Register, number: int) -> Rows:
     """The result of a round for each child that took part."""
-    draw = of_round(register, number).number
+    draw = next(it.number for it in register.draws if it.round == number)
     fresh = register.fresh[draw]
     rows: Rows = [[child, register.children[child].name, school, came_of(school, fresh[child])]
                   for child, school in register.outcomes[draw].items()]
@@ -198,29 +185,16 @@ def refused_by_lot(register: Register, draw: Draw, drawn: Drawn) -> Iterator[tup
             yield code, Entry(child, lot, rank, UNKNOWN if rank is None else REFUSED)
 
 
-def moved(register: Register, number: int | None, draw: int | None, before: str | None) -> Rows:
-    """Whom a round or a fill moved from one school to another: from where, how the place was held,
-    and to where.
+def moved(register: Register, number: int) -> Rows:
+    """Whom a draw moved from one school to another: from where, how the place was held, and to
+    where.
     """
-    found = of_round(register, number) if number else register.draws[(draw or 0) - 1]
-    if before:
-        held = held_in(model.read(before, tool="query"), found)
-    else:
-        held = held_before(register, found)
-    fresh = register.fresh[found.number]
+    found = register.draws[number - 1]
+    held, fresh = held_before(register, found), register.fresh[number]
     rows: Rows = [[child, register.children[child].name, *held[child], school]
-                  for child, school in register.outcomes[found.number].items()
+                  for child, school in register.outcomes[number].items()
                   if fresh[child] and school is not None and child in held]
     return [["child", "name", "from", "held", "to"], *rows]
-
-
-def held_in(copy: Register, draw: Draw) -> Held:
-    """The places by a copy from right before a draw, with how they were held."""
-    if len(copy.draws) != draw.number - 1:
-        has = texts.count(len(copy.draws), "draw")
-        raise Refused(f"{copy.name} is no copy from before draw {draw.number}: it has {has}, not"
-                      f" {draw.number - 1}")
-    return {child: (it.school, it.kind) for child, it in copy.places.items()}
 
 
 def held_before(register: Register, draw: Draw) -> Held:

@@ -18,8 +18,7 @@ OMITTED = {name: texts.cell_of(it.omitted) for name, it in rules.COLUMNS.items()
 MOST_DIGITS = 40
 INVISIBLE = "\u200b\u2060\ufeff"
 TRUTH = {"yes": "yes", "y": "yes", "true": "yes", "no": "no", "n": "no", "false": "no"}
-# how admissions-check is given one reading for all days
-UK_DAYS = "if all days of the file are day/month/year, say --uk-days"
+UK_DAYS = "if all days of the file are day/month/year, say so in the list of files"
 # what may stand between the items of a list: none of them can be part of a code or a number
 BETWEEN = re.compile(r"[;,/|\r\n]")
 
@@ -209,6 +208,11 @@ def present(text: str, _: object) -> Field:
     if not found or rules.is_code(found):
         return Field(found)
     return Field("", f"the code of the present school ({rules.CODE_IN_WORDS}), or nothing")
+
+
+def has_two_readings(text: str) -> bool:
+    """Whether a text is a day by day/month/year, and another one by month/day/year."""
+    return len(days.readings(trimmed(text))) > 1
 
 
 def day(text: str, context: Context) -> Field:

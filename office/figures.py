@@ -1,45 +1,17 @@
-"""Writes the page that an authority publishes after a round: figures without
-personal data, in one file that any browser shows.
+"""The page that an authority publishes after a round: figures without personal data, in one file
+that any browser shows.
 
-  admissions-figures AFTER OUT.html [--copy COPY]
-                     [--before LAST_YEAR [--before-copy COPY]] [--round N]
-                     [--flags FILE] [--user NAME]
-
-AFTER is the register from right after the round, or the address at which it is
-served: classes and distances are those of the data in it. Later, name the copy
-from right before the round by --copy: the program then holds the round again on
-it, by the same lots, and so has the schools and children that the round saw.
-Without it a register is refused that had a draw, an answer or another change
-after the round. The page has, for the last round, for round N or for that of
-the copy: how many children have their first, second, .. preference; for each
-school its admission number, applications by preference, offers by criterion,
-and the criterion and the distance of the last child that was offered a place; a
-map of schools, with homes counted in squares; and charts. With --before it is
-compared with the same round of last year's register; --before-copy is for that
-register what --copy is for AFTER.
-
-Counts from 1 to 4 are withheld, and so are others from which they could be
-worked out; so are squares of the map with fewer than 5 homes, and the distance
-where the last place went to a child that is or was looked after, or by a flag.
---flags gives flags the office's words, by lines as `7,medical need`. The page
-has no name and no child's number. OUT.html must be new.
-
-example:
-  admissions-figures reg.db figures-1.html --copy copies/before-draw-1.db \\
-      --before ../2024/copies/after-draw-1.db
-
-exit status: 0 written; 1 refused or failed, and nothing was written; 2 wrong
-arguments.
+Classes and distances are those of the data that the register has; later the program holds the round
+again on the copy from right before it. Counts from 1 to 4 are withheld, and so are others from
+which they could be worked out; squares of the map with fewer than 5 homes; and the distance where
+the last place went to a child that is or was looked after, or by a flag.
 """
-import argparse
-import os
 from typing import Any
 
 from register_files import Refused
 
-from . import charts, criteria, days, figure_counts, model, pages, rounds, sheet, texts
+from . import charts, criteria, days, figure_counts, model, pages, rounds, texts
 from .figure_counts import LOWER, NONE, Figures, School, What
-from .run import Progress
 from .withheld import LEAST, MEANING, WITHHELD
 
 MOST_BARS = 40
@@ -181,15 +153,11 @@ def points_of(found: Figures) -> list[tuple[str, int, int]]:
 
 def page(found: Figures, last: Figures | None, flags: dict[int, str]) -> str:
     """The page, from the figures of this year and of last year."""
-    progress, made = Progress("charts", 3), tables(found, last, flags)
+    made = tables(found, last, flags)
     met_chart = chart_of_preferences(found, last, keys_of(found, last))
-    progress.at(1)
     schools_title, schools_chart = chart_of_schools(found)
-    progress.at(2)
     map_chart, side = charts.school_map("map", "Schools and homes", MAP_TEXT, points_of(found),
                                         found.homes, LEAST)
-    progress.at(3)
-    progress.end()
     return pages.render("figures.html", {
         **made, "found": found, "last": last, "day": days.in_words(found.day),
         "least": LEAST, "meaning": MEANING, "side": f"{side:,}",
@@ -215,47 +183,8 @@ def figures_of(after: model.Register, before: model.Register | None, number: int
     return found
 
 
-def arguments(reader: argparse.ArgumentParser) -> None:
-    """The arguments of the command."""
-    reader.add_argument("after", metavar="AFTER", help="the register, or a copy, from right after"
-                        " the round" + model.ADDRESS_HELP)
-    reader.add_argument("out", metavar="OUT.html", help="the page, which must be new")
-    reader.add_argument("--copy", metavar="COPY", help="the copy from right before the round, if"
-                        " anything was changed since")
-    reader.add_argument("--flags", metavar="FILE", help=criteria.FLAGS_HELP)
-    reader.add_argument("--before", metavar="LAST_YEAR",
-                        help="last year's register, to be compared")
-    reader.add_argument("--before-copy", metavar="COPY", help="last year's copy from right before"
-                        " the same round, if anything was changed since")
-    reader.add_argument("--round", metavar="N", type=int,
-                        help="the number of the round, the last one by default")
-    reader.add_argument("--user", metavar="NAME", help=model.USER_HELP)
-
-
 def see_comparable(found: Figures, last: Figures, name: str) -> None:
     """Refuses figures that are not of an earlier year of the same phase."""
     if last.phase != found.phase or last.year >= found.year:
         raise Refused(f"{name} is of {last.phase} entry in {last.year}, and cannot be compared with"
                       f" {found.phase} entry in {found.year}")
-
-
-def main(given: argparse.Namespace) -> int:
-    """Writes the page."""
-    if given.before_copy and not given.before:
-        raise Refused("--before-copy needs --before", 2)
-    if os.path.lexists(given.out):
-        raise Refused(f"{given.out} is there already: nothing was written; choose another name")
-    flags, last = criteria.flags_of(given.flags), None
-    read = model.reader(given.user, given.after, given.copy, given.before, given.before_copy)
-
-    def figures(name: str, copy: str | None, number: int | None, option: str) -> Figures:
-        return figures_of(read(name), read(copy) if copy else None, number, option)
-
-    found = figures(given.after, given.copy, given.round, "--copy")
-    if given.before:
-        last = figures(given.before, given.before_copy, found.round, "--before-copy")
-        see_comparable(found, last, given.before)
-    sheet.write_new(given.out, page(found, last, flags).encode())
-    print(f"the figures of round {found.round}, {days.in_words(found.day)}, are in {given.out};"
-          f" {len(found.hidden)} counts are withheld")
-    return 0

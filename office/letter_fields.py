@@ -5,6 +5,7 @@ import dataclasses
 import datetime
 import functools
 import json
+from collections.abc import Iterable, Mapping, Sequence
 from typing import Any
 
 from register_files import Refused
@@ -340,3 +341,15 @@ def of_text(text: str) -> Letter:
 def day_or_row(found: dict[str, Any]) -> Any:
     """A day of such a text, or a row as it is."""
     return datetime.date.fromisoformat(found[DAY]) if set(found) == {DAY} else found
+
+
+def merge_rows(
+    letters: Iterable[Letter], columns: list[str], addresses: Mapping[int, list[str]],
+) -> list[Sequence[Cell]]:
+    """The rows of a mail merge, of which the first is the header. The columns of the addresses are
+    last.
+    """
+    lines: list[Sequence[Cell]] = [[*header(), *columns]]
+    for it in letters:
+        lines.append([*row_of(it), *addresses.get(it.child, [""] * len(columns))])
+    return lines

@@ -1,52 +1,28 @@
-"""Letters as PDF, by a template that the office edits: one file for each child, and one of all of
-them for the printer.
-
-Embedding the fonts of one letter takes longer than laying it out. So letters are laid out in
-batches that share their fonts, by a process for each processor, and the pages of each child are
-then taken from its batch, with what they need and nothing else: no file has the text or a picture
-of another child's letter.
+"""Letters as PDF, by a template that the office edits: what a template may have and do, and how
+letters are laid out. `letters_apart` calls it in a process of its own.
 """
 from __future__ import annotations
 
 import contextlib
 import datetime
-import importlib.util
-import io
 import logging
-import multiprocessing
-import multiprocessing.connection
 import os
 import re
-import sys
-import tempfile
-import time
 import urllib.parse
 from collections.abc import Callable, Iterator, Mapping, Sequence
-from multiprocessing.context import ForkProcess
 from types import MappingProxyType
-from typing import TYPE_CHECKING, Any, NamedTuple
+from typing import TYPE_CHECKING, Any
 
 from register_files import Refused
 
 from . import days, inputs, letter_faults, rules, sheet, texts
 from .letter_fields import Letter
-from .served_copy import ends_with
 
 if TYPE_CHECKING:
     from jinja2 import Template
     from jinja2.sandbox import SandboxedEnvironment
     from pikepdf import Pdf
 
-
-class Batch(NamedTuple):
-    """Letters that are laid out together: its number, their children, and the letters as HTML."""
-
-    number: int
-    children: list[int]
-    pages: list[str]
-
-
-BATCH, STEP = 50, 100
 SECONDS_OF_LETTER, MOST_LETTER, MOST_PAGES = 5, 1_000_000, 100
 # the largest operands of a power, and the bits of a number that is multiplied
 MOST_POWER, MOST_BITS = 1000, 10_000
@@ -73,15 +49,8 @@ SVG = re.compile(
     re.DOTALL,
 )
 TEMPLATE = os.path.join(os.path.dirname(os.path.realpath(__file__)), "templates", "letter.html")
-PRINTER = "printer.pdf"
 # in points
 A4 = (595.28, 841.89)
-
-
-def copy_template(name: str) -> None:
-    """Writes the template that comes with the program to a new file, to be edited."""
-    with open(TEMPLATE, "rb") as file:
-        sheet.write_new(name, file.read())
 
 
 def environment() -> SandboxedEnvironment:
@@ -196,15 +165,10 @@ def html_of(
     return "".join(pieces)
 
 
-def addresses_of(name: str) -> tuple[list[str], dict[int, list[str]]]:
-    """The columns of a sheet of addresses but `child`, and their cells by child."""
-    return addresses_in(name, sheet.read(name).rows)
-
-
 def addresses_in(
     name: str, rows: Sequence[sheet.Row]
 ) -> tuple[list[str], dict[int, list[str]]]:
-    """The same of the rows of a sheet."""
+    """The columns of a sheet of addresses but `child`, and their cells by child."""
     columns: list[str] = []
     found: dict[int, list[str]] = {}
     for row, number, cells in by_child_in(name, rows):
@@ -224,16 +188,11 @@ def lines_of(cells: Sequence[str]) -> list[str]:
     return [it for it in cells if it]
 
 
-def by_child(name: str) -> Iterator[tuple[int, int | None, list[str]]]:
-    """The rows of a sheet that has a column `child`: the number of the row, the child (None in the
-    header), and the other cells in their order."""
-    return by_child_in(name, sheet.read(name).rows)
-
-
 def by_child_in(
     name: str, rows: Sequence[sheet.Row]
 ) -> Iterator[tuple[int, int | None, list[str]]]:
-    """The same of the rows of a sheet."""
+    """The rows of a sheet that has a column `child`: the number of the row, the child (None in the
+    header), and the other cells in their order."""
     header = [it.strip().lower() for it in rows[0].cells] if rows else []
     if "child" not in header:
         raise Refused(f"{name} has no column `child`")
@@ -281,7 +240,8 @@ def fetcher(folder: str, refused: list[str]) -> Callable[..., dict[str, object]]
             return read
         is_beside = parts.scheme == "file" and os.path.commonpath((path, folder)) == folder
         if is_beside and os.path.isfile(path):
-            data = inputs.bytes_of(path)
+            with open(path, "rb") as file:
+                data = inputs.taken(name, file)
             if kind := type_of(path, data):
                 return {"string": data, "mime_type": kind, "redirected_url": url}
             refused.append(f"the template names {name}, which is no picture, font or style sheet")
@@ -360,25 +320,6 @@ def write(pdf: Pdf, path: str) -> None:
         pdf.save(file, min_version="1.7")
 
 
-def write_batch(batch: Batch, folder: str, room: str, is_double: bool) -> None:
-    """Writes the files of some letters, and of all of them the file that the printer gets: there a
-    letter begins on the front of a sheet where it is printed on both sides."""
-    from pikepdf import Pdf
-
-    data, counts = laid_out(batch.pages, folder)
-    with Pdf.open(io.BytesIO(data)) as source, new_file("Letters") as printed:
-        start = 0
-        for child, count in zip(batch.children, counts):
-            with new_file(f"Letter of child {child}") as pdf:
-                pdf.pages.extend(source.pages[start : start + count])
-                write(pdf, os.path.join(room, f"letter-{child:07}.pdf"))
-            start += count
-        add_letters(printed, source, counts, is_double)
-        path = batch_file(room, batch.number)
-        write(printed, path + ".new")
-        os.rename(path + ".new", path)
-
-
 def add_letters(printed: Pdf, source: Pdf, counts: Sequence[int], is_double: bool) -> None:
     """Adds letters of so many pages each to the file that the printer gets."""
     start = 0
@@ -387,106 +328,6 @@ def add_letters(printed: Pdf, source: Pdf, counts: Sequence[int], is_double: boo
         start += count
         if is_double and count % 2:
             printed.add_blank_page(page_size=A4)
-
-
-def batch_file(room: str, number: int) -> str:
-    """Where a batch is kept until all of them are there."""
-    return os.path.join(room, f"batch-{number:05}")
-
-
-def work(
-    batches: Sequence[Batch], folder: str, room: str, scratch: str, is_double: bool, parent: int
-) -> None:
-    """What a process does: writes its batches. What goes wrong is written to a file too. The files
-    that a library makes for itself are in the scratch folder: a process that is ended leaves them.
-    """
-    ends_with(parent)()
-    tempfile.tempdir = scratch
-    try:
-        for it in batches:
-            write_batch(it, folder, room, is_double)
-    except Exception as error:
-        text = f"a letter is not laid out: {type(error).__name__}: {error}"
-        if isinstance(error, (Refused, OSError)):
-            text = str(error)
-        try:
-            with open(os.path.join(room, f"error-{os.getpid()}"), "x", encoding="utf-8") as file:
-                file.write(text)
-        finally:
-            os._exit(1)
-
-
-def done_by(processes: Sequence[ForkProcess], room: str, count: int) -> None:
-    """Waits for the processes, with progress by the letters that are there. Refuses what one of
-    them could not do."""
-    start, shown = time.monotonic(), 0
-    try:
-        while alive := [it.sentinel for it in processes if it.is_alive()]:
-            multiprocessing.connection.wait(alive, timeout=0.3)
-            made = sum(it.endswith(".pdf") for it in os.listdir(room))
-            if made // STEP > shown // STEP or made == count > shown:
-                shown = made
-                line = f"{made} of {count} PDF letters, {time.monotonic() - start:.1f} seconds"
-                print(line, file=sys.stderr, flush=True)
-            if any(it.exitcode for it in processes):
-                break
-    finally:
-        for it in processes:
-            it.terminate()
-            it.join()
-    for name in sorted(os.listdir(room)):
-        if name.startswith("error-"):
-            with open(os.path.join(room, name), encoding="utf-8") as file:
-                raise Refused(file.read())
-    if any(it.exitcode for it in processes):
-        raise Refused("a process that writes the letters was ended")
-
-
-def write_batches(batches: list[Batch], folder: str, room: str, is_double: bool) -> None:
-    """Writes the files of batches, by a process for each processor."""
-    context = multiprocessing.get_context("fork")
-    count = max(1, min(len(os.sched_getaffinity(0)), len(batches)))
-    with tempfile.TemporaryDirectory(dir=room, ignore_cleanup_errors=True) as scratch:
-        given = (folder, room, scratch, is_double, os.getpid())
-        processes = [
-            context.Process(target=work, args=(batches[at::count], *given), daemon=True)
-            for at in range(count)
-        ]
-        for process in processes:
-            process.start()
-        done_by(processes, room, sum(len(it.children) for it in batches))
-
-
-def write_letters(
-    letters: list[Letter],
-    template_name: str,
-    addresses: Mapping[int, list[str]],
-    day: datetime.date,
-    room: str,
-    is_double: bool,
-) -> None:
-    """Writes the files of all letters into a folder, and the one for the printer."""
-    for package in ("weasyprint", "pikepdf"):
-        if importlib.util.find_spec(package) is None:
-            raise ImportError(f"{package} is not there", name=package)
-    template = template_of(template_name, inputs.bytes_of(template_name))
-    folder = os.path.realpath(os.path.dirname(template_name) or ".")
-    batches: list[Batch] = []
-    for at in range(0, len(letters), BATCH):
-        some, pages = letters[at : at + BATCH], []
-        for it in some:
-            address = lines_of(addresses.get(it.child, []))
-            pages.append(html_of(template, template_name, it, address, day))
-        batches.append(Batch(at, [it.child for it in some], pages))
-    write_batches(batches, folder, room, is_double)
-    write_whole([batch_file(room, it.number) for it in batches], os.path.join(room, PRINTER))
-
-
-def write_whole(parts: Sequence[str], path: str) -> None:
-    """Writes the file for the printer, of the files of its batches, which are removed."""
-    join(parts, path, "Letters")
-    for part in parts:
-        os.unlink(part)
 
 
 def join(parts: Sequence[str], path: str, title: str) -> None:

@@ -30,11 +30,11 @@ from register_files import Refused
 from . import apart, book, inputs, letter_fields, letter_pdf, libraries, turns
 from .book import Page
 from .letter_fields import Cell, Letter
-from .served_copy import PR_SET_PDEATHSIG
 
 if TYPE_CHECKING:
     from pikepdf import Pdf
 
+PR_SET_PDEATHSIG = 1
 # seconds of CPU time for one batch of letters, and of wall-clock time on a busy machine
 SECONDS, MOST_SECONDS = 120, 900
 MOST_MEMORY, MOST_FILE = 1_500 * inputs.MB, 200 * inputs.MB

@@ -1,23 +1,17 @@
-"""Sheets of lots: the pairs, the sheet that a supervisor fills, and the lots of a filled one."""
+"""Sheets of lots: the pairs, the sheet that a supervisor fills, and the rows of a filled one."""
 import csv
 import io
-import os
 import re
-import sys
-from collections.abc import Collection, Mapping, Sequence
+from collections.abc import Collection, Iterable, Sequence
 
-import register_files as files
 from register_files import Refused
 
-from . import book, inputs, kinds, rules, sheet, texts
-from .model import Child, Pair
+from . import book, kinds, rules, sheet, texts
+from .model import Pair
 from .rules import LIMITS
 
 MOST_LOT = LIMITS["number"].most
-MOST_SHOWN = 100
-# where so small a part of at least so many rows or pairs is in the other file, the sheet is of
-# other pairs
-MANY, FEW_PART = 10, 10
+SHOWN = 5
 NOT_TEXT = "is no text in UTF-8: save it as CSV in UTF-8"
 # the columns of a header, by the names that are understood
 COLUMNS = {
@@ -31,37 +25,26 @@ DRAW = "draw"
 Numbered = tuple[int, list[str]]
 
 
-def named(name: str) -> str:
-    """How messages name a file."""
-    return "the standard input" if name == "-" else name
-
-
-def bytes_of(name: str) -> bytes:
-    """The bytes of a file."""
-    if name != "-":
-        return inputs.bytes_of(name)
-    try:
-        return inputs.taken(named(name), sys.stdin.buffer)
-    except OSError as error:
-        raise Refused(f"{named(name)} cannot be read: {error.strerror}") from error
+def in_words(pairs: Iterable[Pair]) -> str:
+    """Some pairs as a sentence has them."""
+    pairs = sorted(pairs)
+    shown = [f"{code} {number}" for code, number in pairs[:SHOWN]]
+    if len(pairs) <= SHOWN:
+        return str(texts.listed(shown))
+    return f"{', '.join(shown)} and {len(pairs) - SHOWN:,} more"
 
 
 def decoded(name: str, data: bytes) -> str:
     """A text in UTF-8, without the byte order mark that spreadsheets write before it."""
     if (said := kinds.of_bytes(data)) and said != kinds.NO_TEXT:
-        raise Refused(f"{named(name)} is {said}: save it as CSV in UTF-8")
+        raise Refused(f"{name} is {said}: save it as CSV in UTF-8")
     try:
         text = data.decode("utf-8-sig")
     except UnicodeDecodeError as error:
-        raise Refused(f"{named(name)} {NOT_TEXT}") from error
+        raise Refused(f"{name} {NOT_TEXT}") from error
     if "\0" in text:
-        raise Refused(f"{named(name)} {NOT_TEXT}")
+        raise Refused(f"{name} {NOT_TEXT}")
     return text
-
-
-def pairs_of(name: str, school: str | None) -> list[Pair]:
-    """The pairs of a file in their order."""
-    return pairs_in(name, decoded(name, bytes_of(name)), school)
 
 
 def pairs_in(name: str, text: str, school: str | None) -> list[Pair]:
@@ -70,7 +53,7 @@ def pairs_in(name: str, text: str, school: str | None) -> list[Pair]:
     """
     found: list[Pair] = []
     for at, line in enumerate(text.splitlines(), 1):
-        where = f"line {at} of {named(name)}"
+        where = f"line {at} of {name}"
         code, _, digits = line.partition(" ")
         number = rules.number_in(digits, LIMITS["child"])
         if number is None or not rules.is_code(code):
@@ -82,7 +65,7 @@ def pairs_in(name: str, text: str, school: str | None) -> list[Pair]:
             raise Refused(f"{where} is of {code}, not of {school}")
         found.append(pair)
     if not found:
-        raise Refused(f"{named(name)} has no pair")
+        raise Refused(f"{name} has no pair")
     return found
 
 
@@ -116,13 +99,13 @@ def csv_rows(name: str, text: str) -> list[Numbered]:
     by_name = next((it for it in ",;\t" if is_named(split_by(header, it))), None)
     if by_name is None and len(marks) > 1:
         several = " and ".join(map(repr, marks))
-        raise Refused(f"{named(name)} has {several} in it: save it with one separator")
+        raise Refused(f"{name} has {several} in it: save it with one separator")
     mark = by_name or (marks or [","])[0]
     rows = csv.reader(io.StringIO(text, newline=""), delimiter=mark, skipinitialspace=True)
     try:
-        return list(sheet.within_limits(named(name), enumerate(rows, 1)))
+        return list(sheet.within_limits(name, enumerate(rows, 1)))
     except csv.Error as error:
-        raise Refused(f"{named(name)} is no CSV: {error}") from error
+        raise Refused(f"{name} is no CSV: {error}") from error
 
 
 def split_by(line: str, mark: str) -> list[str]:
@@ -131,11 +114,6 @@ def split_by(line: str, mark: str) -> list[str]:
         return next(csv.reader([line], delimiter=mark), [])
     except csv.Error:
         return []
-
-
-def rows_of(name: str) -> list[Numbered]:
-    """The rows of a sheet that is a file."""
-    return rows_in(name, bytes_of(name))
 
 
 def draws_in(name: str, data: bytes) -> list[str]:
@@ -151,7 +129,7 @@ def draws_in(name: str, data: bytes) -> list[str]:
 
 def raw_rows(name: str, data: bytes) -> list[Numbered]:
     """The rows of a sheet as they are, each with its number. Empty rows are omitted."""
-    if data.startswith(b"PK\x03\x04") and name != "-":
+    if data.startswith(b"PK\x03\x04"):
         found = sheet.of_bytes(name, data, None, "leave the one of the lots")
         rows = [(it.number, it.cells) for it in found.rows]
     else:
@@ -199,8 +177,8 @@ def wrong_lot(lot: str) -> str:
 class Filled:
     """The lots of a filled sheet as its rows are read: the row of each pair, and of each lot."""
 
-    def __init__(self, name: str, pairs: Collection[Pair]) -> None:
-        self.name, self.known = named(name), set(pairs)
+    def __init__(self, pairs: Collection[Pair]) -> None:
+        self.known = set(pairs)
         self.lots: dict[Pair, int] = {}
         self.rows: dict[Pair, int] = {}
         # by schools and lots
@@ -230,52 +208,15 @@ class Filled:
         return ""
 
 
-def lots_of(name: str, pairs: Sequence[Pair]) -> dict[Pair, int]:
-    """The lot of each pair. All that is wrong is reported at once."""
-    filled, rows = Filled(name, pairs), rows_of(name)
-    wrong = [f"row {at} of {filled.name} {said}"
-             for at, fields in rows if (said := filled.add(at, fields))]
-    see_pairs(filled, len(rows), len(pairs))
-    wrong += [f"{filled.name} has no row for line {at} of the pairs: {code} {number}"
-              for at, (code, number) in enumerate(pairs, 1) if (code, number) not in filled.rows]
-    if len(wrong) == 1:
-        raise Refused(wrong[0])
-    for it in wrong[:MOST_SHOWN]:
-        files.say(2, f"admissions-lots: {it}")
-    if wrong:
-        more = f", of which the first {MOST_SHOWN} are above" if len(wrong) > MOST_SHOWN else ""
-        raise Refused(f"correct {texts.count(len(wrong), 'error')} in {filled.name} first{more}")
-    return filled.lots
-
-
-def see_pairs(filled: Filled, rows: int, pairs: int) -> None:
-    """Refuses a sheet of other pairs, by how many rows and pairs there are."""
-    near, most = len(filled.rows), max(rows, pairs)
-    if rows and most >= MANY and near * FEW_PART < most:
-        count = f"{near or 'none'} of its {texts.count(rows, 'row')} {'are' if near > 1 else 'is'}"
-        raise Refused(f"{filled.name} is a sheet of other pairs: {count} of the"
-                      f" {texts.count(pairs, 'pair')}. Give the file of pairs of which the sheet"
-                      " was made")
-
-
-def write(
-    name: str, pairs: Sequence[Pair], children: Mapping[int, Child] | None = None,
-    draw: int | None = None,
-) -> None:
-    """Writes the sheet for the supervisor: a workbook, or by another ending a CSV. Where children
-    are given, with their names; where a draw is, with its number in each row.
+def data(is_workbook: bool, pairs: Sequence[Pair], draw: int | None = None) -> bytes:
+    """The sheet for the supervisor: a workbook or a CSV. Where there are several draws, with the
+    number of this one in each row.
     """
-    header = [*([DRAW] if draw else []), "school", "child", *(["name"] if children else []), "lot"]
+    header = [*([DRAW] if draw else []), "school", "child", "lot"]
     rows: list[list[book.Value]] = [
-        [*([draw] if draw else []), code, number,
-         *([children[number].name] if children else []), None]
-        for code, number in pairs
-    ]
-    if os.path.splitext(name)[1].lower() == ".xlsx":
-        purpose = "a lot for each row: a whole number, no two equal at one school"
-        page = book.Page("lots", purpose, [header, *rows], {len(header): MOST_LOT})
-        sheet.write_new(name, book.data([page], "Lots"))
-    else:
-        plain = [[texts.for_spreadsheet(it) if isinstance(it, str) else it for it in row]
-                 for row in rows]
-        sheet.write_new(name, b"\xef\xbb\xbf" + sheet.csv_bytes([header, *plain]))
+        [*([draw] if draw else []), code, number, None] for code, number in pairs]
+    if not is_workbook:
+        return b"\xef\xbb\xbf" + sheet.csv_bytes([header, *rows])
+    purpose = "a lot for each row: a whole number, no two equal at one school"
+    page = book.Page("lots", purpose, [header, *rows], {len(header): MOST_LOT})
+    return book.data([page], "Lots")

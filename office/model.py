@@ -5,7 +5,6 @@ took in and why others were refused are the program's: it works them out, and no
 register is read from a file, of which the program opens a copy, or
 from a server, by the address at which it is served.
 """
-import contextlib
 import copy
 import dataclasses
 import datetime
@@ -13,17 +12,15 @@ import functools
 import json
 import operator
 import os
-import re
 import subprocess
 import tempfile
-from collections.abc import Callable, Iterable, Iterator, Sequence
+from collections.abc import Iterable, Iterator, Sequence
 from typing import Any, NamedTuple, Protocol
 
 import register_files as files
-from register_files import InUse, Refused
+from register_files import Refused
 
-from . import inputs, senders, served_copy
-from .served_copy import Request
+from . import senders
 
 PRIMARY, SECONDARY = "primary", "secondary"
 OFFERED, ACCEPTED, PLAN = "offered", "accepted", "plan"
@@ -36,10 +33,6 @@ REASONS = (CLASS, DISTANCE, LOT, NOBODY, None)
 NO_DATA = ("application", "left", "place")
 # the members of a preference that each has
 RANKED = operator.itemgetter("school", "class", "metres", "state")
-# for the name of a register among the arguments of a command
-ADDRESS_HELP = ", or the address at which it is served"
-USER_HELP = "sign in with this name where a register is served; the password is asked for"
-USER_NEEDS = "--user needs the address at which a register is served"
 Pair = tuple[str, int]
 Lots = dict[Pair, int]
 
@@ -290,17 +283,14 @@ class File:
     nobody refers to it any more, or this process ends.
     """
 
-    def __init__(
-        self, name: str, fd: int, program: str | None = None, called: str | None = None,
-    ) -> None:
-        self.name, self.program = called or name, program or files.program()
+    def __init__(self, fd: int, program: str, called: str) -> None:
+        self.name, self.program = called, program
         try:
             self.room = tempfile.TemporaryDirectory(prefix="admissions-")
             self.copy = os.path.join(self.room.name, "copy.db")
             files.copy_to(fd, self.copy)
         except OSError as error:
-            where = "" if called else f" to {tempfile.tempdir or '/tmp'}"
-            raise Refused(f"{self.name} cannot be copied{where}, where the program opens it:"
+            raise Refused(f"{self.name} cannot be copied, where the program opens it:"
                           f" {error.strerror}") from error
 
     def shown(self) -> bytes:
@@ -308,21 +298,9 @@ class File:
         return self.document()
 
     def drawn(self, draws: Sequence[int]) -> Iterator[Drawn]:
-        """The lots of draws, and what explains them, in this order."""
-        return (drawn_in(self.name, it) for it in self.documents(draws))
-
-    def documents(self, numbers: Sequence[int]) -> Iterator[bytes]:
-        """The documents of draws, in this order. One is shown by a run of the program; several are
-        read from one that serves a copy, or shown by a run each where it cannot serve one so.
+        """The lots of draws, and what explains them, in this order: by a run of the program each.
         """
-        wanted = [Request(f"/draw/{it}", f"draw {it} of {self.name} is not shown")
-                  for it in numbers]
-        if len(wanted) > 1:
-            with contextlib.suppress(served_copy.NoNetwork), self.another() as path:
-                yield from served_copy.of_copy(self.program, path, wanted)
-                return
-        for it in numbers:
-            yield self.document("--draw", str(it))
+        return (drawn_in(self.name, self.document("--draw", str(it))) for it in draws)
 
     def document(self, *words: str) -> bytes:
         """What the program shows of the copy."""
@@ -336,29 +314,6 @@ class File:
         """Writes the register to a new file."""
         with open(self.copy, "rb") as file:
             files.copy_to(file.fileno(), path)
-
-    @contextlib.contextmanager
-    def another(self) -> Iterator[str]:
-        """A second copy, which is removed at the end."""
-        with tempfile.TemporaryDirectory(dir=self.room.name) as room:
-            path = os.path.join(room, "copy.db")
-            self.copy_to(path)
-            yield path
-
-    def imports(self, rows: bytes) -> dict[str, Any]:
-        """The answer of the program to an import of rows, or the error of its form with the row of
-        it. It imports them into a copy of its own, of which nothing remains.
-        """
-        with self.another() as path:
-            given = path + ".csv"
-            with open(given, "xb") as file:
-                file.write(rows)
-            ran = self.ran("import", path, given)
-        if error := re.fullmatch(rb"fault: row ([1-9][0-9]*): ([A-Za-z]+)\n", ran.stderr):
-            return {"fault": True, "name": error[2].decode(), "row": int(error[1])}
-        if ran.returncode not in (0, 3):
-            raise Refused(f"the rows cannot be tried on a copy of {self.name}: {printed(ran)}")
-        return parsed(self.name, ran.stdout)
 
     def ran(self, *words: str) -> subprocess.CompletedProcess[bytes]:
         """A run of the program."""
@@ -406,95 +361,19 @@ class Server:
         raise Refused(f"{self.name} is served: this needs the file of a register, or a copy of it")
 
 
-def read(name: str, user: str | None = None, tool: str | None = None) -> Register:
-    """The register of a file, or the one that is served at an address.
-
-    No program opens the file while it is copied. Where a tool is named, it warns of a file that
-    others can read.
-    """
-    if senders.is_address(name):
-        return of_server(senders.Http(name, user, senders.password))
-    if user:
-        raise Refused(USER_NEEDS, 2)
-    path = os.path.realpath(name)
-    try:
-        with held(name, path) as fd:
-            see_closed(name, path, fd)
-            if tool:
-                files.warn(tool, name, os.fstat(fd))
-            source = File(name, fd)
-    except OSError as error:
-        raise Refused(f"{name} cannot be read: {error.strerror}") from error
-    return of_source(source)
-
-
-@contextlib.contextmanager
-def held(name: str, path: str) -> Iterator[int]:
-    """A descriptor of a register's file, which no program opens until this block ends. Where one
-    has it open, the refusal says what to do.
-    """
-    with contextlib.ExitStack() as stack:
-        try:
-            fd = stack.enter_context(files.held(name, path))
-        except InUse as error:
-            advice = (f"name the address at which it is served, or end the program that has it"
-                      f" open, and then admissions do {name} < /dev/null")
-            raise InUse(f"{name} is in use: {advice}") from error
-        yield fd
-
-
-Reader = Callable[[str], Register]
-
-
-def reader(user: str | None, *names: str | None) -> Reader:
-    """What reads each of these registers. A name to sign in with is for those that are served, and
-    refused where none is.
-    """
-    if user and not any(it and senders.is_address(it) for it in names):
-        raise Refused(USER_NEEDS, 2)
-    return lambda name: read(name, user if senders.is_address(name) else None)
-
-
-def of_server(sender: senders.Http) -> Register:
-    """The register that is served where a sender sends to."""
-    return of_source(Server(sender))
-
-
-def read_held(name: str) -> Register:
-    """The register of a file that a program has open which this command started: nobody else can
-    change it, and that program waits for a line.
-    """
-    path = os.path.realpath(name)
-    if files.has_content(path + "-wal"):
-        raise Refused(f"{name} has changed since it was compared: see what was changed, and send"
-                      " the line again")
-    return read_stored(name)
-
-
-def read_stored(name: str, program: str | None = None, called: str | None = None) -> Register:
+def read_stored(name: str, program: str, called: str) -> Register:
     """The register of a file as it is, without its log, whoever has it open: as it was when it was
-    closed last. Errors name it as it is called, where their reader knows no path.
+    closed last. Errors name it as it is called, as their reader knows no path.
     """
     path = os.path.realpath(name)
     try:
         fd = os.open(path, os.O_RDONLY | os.O_NOFOLLOW | os.O_NONBLOCK | os.O_CLOEXEC)
     except OSError as error:
-        raise Refused(f"{called or name} cannot be read: {error.strerror}") from error
+        raise Refused(f"{called} cannot be read: {error.strerror}") from error
     try:
-        return of_source(File(name, fd, program, called))
+        return of_source(File(fd, program, called))
     finally:
         os.close(fd)
-
-
-def see_closed(name: str, path: str, fd: int) -> None:
-    """Refuses an open file that is no register, has a log with changes, or is too large."""
-    if files.has_content(path + "-wal") or files.has_content(path + "-journal"):
-        raise Refused(f"{name} has a log with changes that are not in the file yet: merge it"
-                      f" first, by admissions do {name} < /dev/null")
-    if os.pread(fd, 16, 0) != b"SQLite format 3\0":
-        raise Refused(f"{name} is no register")
-    if os.fstat(fd).st_size > inputs.MOST_REGISTER_BYTES:
-        raise Refused(f"{name} is larger than any register")
 
 
 class checked:  # pylint: disable=invalid-name
@@ -508,8 +387,8 @@ class checked:  # pylint: disable=invalid-name
 
     def __exit__(self, kind: object, error: BaseException | None, trace: object) -> None:
         if isinstance(error, (AttributeError, KeyError, TypeError, ValueError)):
-            raise Refused(f"{self.name}: the program shows another document than this command"
-                          f" reads ({error!r}): both must be of one release") from error
+            raise Refused(f"{self.name}: the program shows another document than is read here"
+                          f" ({error!r}): both must be of one release") from error
 
 
 def parsed(name: str, text: bytes) -> dict[str, Any]:

@@ -4,13 +4,12 @@ The first row is the header.
 """
 import collections
 import datetime
-import json
 from collections.abc import Mapping
 from typing import TypeVar
 
 from register_files import Refused
 
-from . import days, persons, texts
+from . import days, texts
 from .model import (
     ACCEPTED, BEFORE, BELOW, HELD, LEFT, OFFERED, PLAN, WAITS, Application, Place, Register,
 )
@@ -101,12 +100,6 @@ def of_text(names: Mapping[Key, str], text: str, may_differ: bool = False) -> li
 def is_near(word: str, others: list[str]) -> bool:
     """Whether a word is one of others, or differs from one in a letter."""
     return any(word == it or texts.is_one_slip(word, it) for it in others)
-
-
-def amend(register: Register, number: int) -> str:
-    """The line that amends a child with the data that the register has, to be edited."""
-    line = persons.command_of("amend", register.children[number])
-    return json.dumps(line, ensure_ascii=False, separators=(",", ":")) + "\n"
 
 
 def unplaced(register: Register) -> Rows:

@@ -1,14 +1,12 @@
-"""How a command begins and ends: its arguments, its exit status 0, 1 or 2, its errors in one line,
-its progress. The commands of the office and of an administrator begin here (office/command), and
-the tools of two names (tools/backup, tools/restore)."""
+"""How a command begins and ends: its arguments, its exit status 0, 1 or 2, its errors in one line.
+The audit and the commands of an administrator begin here (office/command), and the tools of two
+names (tools/backup, tools/restore)."""
 import argparse
 import contextlib
 import os
 import shutil
 import signal
 import sys
-import textwrap
-import time
 from collections.abc import Callable
 from types import FrameType
 from typing import Protocol
@@ -16,16 +14,9 @@ from typing import Protocol
 from register_files import FULL, SIGNALS, VERSION, Refused, say
 
 from . import libraries
-from .inputs import SHEET_HELP
 
-__all__ = ["Command", "Progress", "Refused", "Stop", "put", "run", "run_of_two_names"]
-# what takes longer than this is shown on a terminal
-SHOWN_AFTER = 1.0
+__all__ = ["Command", "Refused", "run", "run_of_two_names"]
 MOST_COLUMNS = 80
-# the commands that read a sheet, whose limits are in their help
-SHEET = [
-    f"admissions-{it}" for it in ("check", "figures", "letters", "lots", "trial", "why")
-]
 
 
 class Command(Protocol):
@@ -55,30 +46,12 @@ def parser_of(name: str, text: str | None) -> argparse.ArgumentParser:
     reader.add_argument(
         "--version", action="version", version=f"admissions {VERSION}", help=argparse.SUPPRESS
     )
-    if name in SHEET:
-        reader.epilog = textwrap.fill(SHEET_HELP, MOST_COLUMNS - 1)
     return reader
 
 
 def stopped(number: int, _: FrameType | None) -> None:
     """Ends a command by a signal."""
     raise Refused(f"ended by the signal {signal.Signals(number).name}")
-
-
-class Stop:
-    """From now on the first signal is noted, so that what is in flight is ended in order, and the
-    second ends at once."""
-
-    def __init__(self) -> None:
-        self.name = ""
-        for it in SIGNALS:
-            signal.signal(it, self.take)
-
-    def take(self, number: int, frame: FrameType | None) -> None:
-        """Takes a signal."""
-        if self.name:
-            stopped(number, frame)
-        self.name = signal.Signals(number).name
 
 
 def run(name: str, command: Command) -> int:
@@ -177,38 +150,3 @@ def failed(name: str, text: str, status: int = 1) -> int:
         sys.stdout.flush()
     say(2, f"{name}: " + " ".join(text.split("\n")))
     return status
-
-
-def put(text: str) -> None:
-    """Prints a text to the standard output, wholly or with an error that says so."""
-    try:
-        sys.stdout.flush()
-        # (past the buffer of sys.stdout, which would be written once more at the end)
-        with open(1, "w", encoding="utf-8", closefd=False) as out:
-            out.write(text)
-    except BrokenPipeError:
-        raise
-    except OSError as error:
-        raise Refused(f"the output cannot be written: {error.strerror}") from error
-
-
-class Progress:
-    """A line on a terminal that says how much is done, from one second on."""
-
-    def __init__(self, what: str, total: int) -> None:
-        self.what, self.total, self.start, self.shown = what, total, time.monotonic(), 0.0
-        self.is_terminal = sys.stderr.isatty()
-
-    def at(self, count: int) -> None:
-        """So many are done."""
-        now = time.monotonic()
-        is_due = now - self.shown > 0.2 or count == self.total
-        if self.is_terminal and now - self.start > SHOWN_AFTER and is_due:
-            self.shown = now
-            line = f"\r{count} of {self.total} {self.what}, {now - self.start:.0f} s"
-            print(line, end="", file=sys.stderr, flush=True)
-
-    def end(self) -> None:
-        """Ends the line."""
-        if self.shown:
-            print(file=sys.stderr)

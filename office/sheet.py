@@ -5,8 +5,6 @@ import dataclasses
 import datetime
 import importlib
 import io
-import os
-import tempfile
 import warnings
 import zipfile
 from collections.abc import Iterable, Iterator
@@ -14,7 +12,6 @@ from types import ModuleType
 from typing import IO, Any
 from xml.parsers import expat
 
-import register_files as files
 from register_files import Refused
 
 from . import inputs, kinds
@@ -50,12 +47,6 @@ class Sheet:
     problems: list[Problem] = dataclasses.field(default_factory=list)
 
 
-def read(name: str, sheet: str | None = None, advice: str = "leave one that is not empty") -> Sheet:
-    """The sheet of a file, whatever its kind. `advice` is what is said of a workbook with
-    several."""
-    return of_bytes(name, inputs.bytes_of(name), sheet, advice)
-
-
 def of_bytes(name: str, data: bytes, sheet: str | None, advice: str) -> Sheet:
     """The sheet of a file that was read."""
     if data.startswith(b"PK\x03\x04"):
@@ -67,7 +58,7 @@ def of_bytes(name: str, data: bytes, sheet: str | None, advice: str) -> Sheet:
     if not data.startswith((b"\xff\xfe", b"\xfe\xff")) and (said := kinds.of_bytes(data)):
         raise Refused(f"{name} is {said}: a CSV or an .xlsx is needed")
     if sheet is not None:
-        raise Refused(f"{name} is no workbook, so --sheet has no meaning", 2)
+        raise Refused(f"{name} is no workbook: leave the field Sheet empty")
     return text_sheet(name, data)
 
 
@@ -333,32 +324,6 @@ def problems_of_merge(ref: str, widths: dict[int, int], width: int) -> Iterator[
     first, row, last, _ = range_boundaries(ref)
     for place in range(first - 1, min(last, width)) if row in widths else ():
         yield row, place, f"a value in each cell ({ref} are merged: unmerge them)", True
-
-
-def write_new(name: str, data: bytes) -> None:
-    """Writes a new file for the owner alone, whole or not at all. A file that is there is never
-    replaced."""
-    path = files.path_of(name, f"the folder of {name} is not there")
-    folder, base = os.path.split(path)
-    try:
-        fd, part = tempfile.mkstemp(prefix=f"{base}.part-", dir=folder)
-    except OSError as error:
-        raise Refused(f"{name} cannot be written: {error.strerror}") from error
-    try:
-        try:
-            files.write_all(fd, data, 0)
-            os.fsync(fd)
-        finally:
-            os.close(fd)
-        files.name_new(part, path)
-    except FileExistsError as error:
-        said = "is there already: nothing was written; choose another name"
-        raise Refused(f"{name} {said}") from error
-    except OSError as error:
-        raise Refused(f"{name} cannot be written: {error.strerror}") from error
-    finally:
-        if os.path.exists(part):
-            os.unlink(part)
 
 
 def csv_bytes(rows: Iterable[Iterable[object]]) -> bytes:

@@ -112,7 +112,7 @@ def make_later(program: Program, path: str, before: Register, schools: dict[str,
 
 
 def drawn(pairs: Iterable[Pair]) -> dict[Pair, int]:
-    """Lots by the published rule, from a seed that this command always takes."""
+    """Lots by the published rule, from a seed that is always the same."""
     found: dict[Pair, int] = {}
     by_school: dict[str, list[tuple[bytes, int]]] = {}
     for code, child in pairs:
@@ -140,4 +140,4 @@ def held_round(
                       " part, or their schools, differ")
     sent(program, path, [{"cmd": "round", "draw": len(before.draws) + 1, "day": draw.isoformat(),
                           "lots": [lots[it] for it in pairs]}])
-    return model.read(path), lots
+    return model.read_stored(path, program.path, before.name), lots

@@ -1,47 +1,17 @@
-"""Says in sentences why a child got what a round or a fill gave it, and no place
-at each school that its family wanted more.
+"""Says in sentences why a child got what a round or a fill gave it, and no place at each school
+that its family wanted more. For a family small numbers are withheld; no other child is named.
 
-  admissions-why REGISTER --child N [--draw D] [--copy COPY] [--office]
-                 [--flags FILE] [--user NAME]
-
-REGISTER is the register, or the address at which it is served, or a copy from
-after the draw. Without --draw it is the last round. For each school above the
-child's place it prints how many places there were, how many wanted one and were
-admitted, how the last child admitted ranks and how this one does, and whether
-the criterion, the distance or the lot decided. All of that is what the program
-says of the draw. No other child is named.
-
-A register has the data of now. If a home, a flag or an admission number was
-changed after the draw, name a copy from right before the draw by --copy: the
-program then holds the draw again on it, by the same lots, and so explains it by
-what it saw.
-
-What is printed is for the family: it says 'some' where a number is withheld by
-the rules of admissions-figures, and withholds the distance of a last child that
-is or was looked after, or has a flag. Of the one child that a fill offered the
-place it has no distance and no lot. With --office it prints all, and how many
-were admitted by each criterion, for the office alone.
---flags gives flags the office's words, by lines as `7,medical need`.
-
-It explains one child in a draw. admissions-audit checks whether a whole draw is
-right.
-
-examples:
-  admissions-why reg.db --child 23
-  admissions-why reg.db --child 23 --copy copies/before-draw-1.db --office
-
-exit status: 0 explained; 1 there is no such child or draw, or the data that
-the register has give no reason any more; 2 wrong arguments.
+A register has the data of now. Where a home, a flag or an admission number was changed after the
+draw, the program holds it again on the copy from right before it, by the same lots, and so explains
+it by what it saw.
 """
-import argparse
 import collections
 import dataclasses
-import sys
 from collections.abc import Iterator
 
 from register_files import Refused
 
-from . import criteria, days, model, rounds, texts, withheld
+from . import criteria, days, model, texts, withheld
 from .model import CLASS, DISTANCE, LOT, NOBODY, PLAN, Application, Cutoff, Draw, Register
 from .rounds import Held
 
@@ -131,16 +101,6 @@ class Why:
     def is_whole(self) -> bool:
         """Whether each refusal has a reason."""
         return all(it.because or it.decided for it in self.schools) or bool(self.held.draw.school)
-
-
-def held_in(register: Register, number: int | None) -> Held:
-    """A draw of a register, the last round where no number is given."""
-    if number is None:
-        return rounds.of_register(register)
-    draw = next((it for it in register.draws if it.number == number), None)
-    if draw is None:
-        raise Refused(f"{register.name} has no draw {number}")
-    return Held(register, draw)
 
 
 def explain(held: Held, number: int, before: Register | None = None) -> Why:
@@ -446,17 +406,6 @@ def sections_of(found: Why, is_office: bool = False,
         yield Section([MEANING])
 
 
-def lines_of(found: Why, is_office: bool = False,
-             flags: dict[int, str] | None = None) -> Iterator[str]:
-    """The same as lines of a terminal."""
-    for at, it in enumerate(sections_of(found, is_office, flags)):
-        if at:
-            yield ""
-        yield from it.sentences
-        if it.missing:
-            yield f"THERE IS NO REASON: {it.missing}. Name a copy from before the draw by --copy."
-
-
 def explain_again(held: Held, before: Register, after: Register, number: int) -> Why:
     """The explanation by what a draw saw that was held again on a copy from before it."""
     if number not in before.children:
@@ -464,38 +413,3 @@ def explain_again(held: Held, before: Register, after: Register, number: int) ->
     found = explain(held, number, before)
     is_amended = before.children[number] != after.children.get(number)
     return dataclasses.replace(found, is_amended=is_amended)
-
-
-def arguments(reader: argparse.ArgumentParser) -> None:
-    """The arguments of the command."""
-    reader.add_argument("register", metavar="REGISTER", help="the register, or a copy, from after"
-                        " the draw" + model.ADDRESS_HELP)
-    reader.add_argument("--child", metavar="N", type=int, required=True,
-                        help="the number of the child")
-    reader.add_argument("--draw", metavar="D", type=int,
-                        help="the number of the draw, by default that of the last round")
-    reader.add_argument("--copy", metavar="COPY", help="the copy from right before the draw, if"
-                        " anything was changed since")
-    reader.add_argument("--office", action="store_true",
-                        help="print all numbers, for the office alone")
-    reader.add_argument("--flags", metavar="FILE", help=criteria.FLAGS_HELP)
-    reader.add_argument("--user", metavar="NAME", help=model.USER_HELP)
-
-
-def main(given: argparse.Namespace) -> int:
-    """Explains."""
-    flags = criteria.flags_of(given.flags)
-    read = model.reader(given.user, given.register, given.copy)
-    after = read(given.register)
-    if given.copy:
-        before = read(given.copy)
-        if given.draw not in (None, len(before.draws) + 1):
-            raise Refused(f"{before.name} is not from right before draw {given.draw}")
-        found = explain_again(rounds.held_again(before, after), before, after, given.child)
-    else:
-        found = explain(held_in(after, given.draw), given.child)
-        print(f"admissions-why: {OF_NOW}: name a copy from right before it by --copy",
-              file=sys.stderr)
-    for it in lines_of(found, given.office, flags):
-        print(it)
-    return 0 if found.is_whole else 1

@@ -108,7 +108,7 @@ def all_registers() -> list[Register]:
 
 def stored(file: pathlib.Path) -> model.Register:
     """What a file holds, as the program shows it: without its log, also while it is served."""
-    return model.read_stored(str(file), program("admissions"))
+    return model.read_stored(str(file), program("admissions"), str(file))
 
 
 def is_blank(file: pathlib.Path) -> bool:

@@ -3,8 +3,9 @@
 
 It makes up a town of 20 schools and 600 children, their applications and lots (from a fixed seed), and allots the places by deferred acceptance as
 Gale and Shapley described it in 1962: each child asks the schools of its list in turn, and each school keeps those that rank first. It counts positions
-on waiting lists, fills vacancies from them, and writes letters, a list and a report; it counts worklists and figures, and whom a school turned away.
-From that it writes the files of the season, and `expected`: what the program and the tools beside it must print. It shares no code with them.
+on waiting lists, fills vacancies from them, and writes letters, a list and a report; it counts whom a school turned away. From that it writes the files
+of the season, and `expected`: what the program and the tools beside it must print. It shares no code with them. The tests of the application compare
+its worklists and figures too.
 """
 import csv
 import datetime
@@ -346,9 +347,6 @@ def main():
             season.places[child].update(kind="accepted", day=None)
     do("answers.jsonl", answers, [done] * len(answers))
     show(f"letter reg.db {silent}", season.letter(silent))
-    show("admissions-query reg.db no-answer", season.no_answer())
-    for day in ("2025-03-31", "2025-04-01"):
-        show(f"admissions-query reg.db lapse-due --day {day}", season.lapse_due(day))
 
     # the silent child's offer lapses; some leave a list; two vacancies are filled
     summer, replies = [{"cmd": "lapse", "child": silent, "school": season.places[silent]["school"], "day": "2025-04-01"}], [done]
@@ -358,21 +356,11 @@ def main():
         summer.append({"cmd": "leave_list", "child": child, "school": school})
         season.left.add((child, school))
         replies.append(done)
-    fills: list = []
     for day in ["2025-04-01", "2025-04-02"]:
         school = max(sorted(season.schools), key=lambda it: (season.vacancies(it) > 0) * len(season.waiting(it)))
         lots = drawn(len(season.waiting(school)))
-        if not fills:
-            # the supervisor returns the drawn lots in another order, as a spreadsheet writes them
-            there = sorted(it[1] for it in season.waiting(school))
-            rows = [f"{school};{child};{lot}\r" for child, lot in zip(there, lots)]
-            random.Random(1).shuffle(rows)
-            write("fill.pairs", [f"{school} {child}" for child in there])
-            write("fill.csv", ["\ufeffSchool;Child;Lot\r", *rows])
-            fills.append(f"admissions-lots fill.pairs fill.csv --number {len(season.draws) + 1} --day {day} --school {school}")
         summer.append({"cmd": "fill", "draw": len(season.draws) + 1, "school": school, "day": day, "lots": lots})
         replies.append(season.fill(school, day, lots))
-    show(fills[0], [compact(summer[-2])])
     do("summer.jsonl", summer, replies)
     show("pairs reg.db", [f"{school} {child}" for school, child in season.pairs()])
     round("second_round.jsonl", SECOND)
@@ -386,19 +374,6 @@ def main():
     show(f"pairs reg.db {longest}", [f"{longest} {child}" for child in sorted(it[1] for it in season.waiting(longest))])
     show("round-report reg.db 2", season.report(2))
 
-    # worklists and figures of the office
-    show("admissions-query reg.db no-answer", season.no_answer())
-    show("admissions-query reg.db remind-due --day 2025-05-25", season.remind_due("2025-05-25"))
-    show("admissions-query reg.db unplaced", season.unplaced())
-    show("admissions-query reg.db vacancies", season.places_of_schools())
-    show("admissions-query reg.db preferences", season.shares())
-    draws = range(1, 1 + len(season.draws))
-    show("admissions-query reg.db last-offered", csv_lines(("draw", "day", "school", "offers", "child", "class", "metres", "lot"), *(it for draw in draws for it in season.last_offers(draw))))
-    decided = [it for draw in draws for it in season.lots_decided(draw)]
-    show("admissions-query reg.db equal-at-limit", csv_lines(("draw", "school", "child", "class", "metres", "lot", "came"), *decided))
-    for child in (unplaced, replies[-1]["child"], 1):
-        show(f"admissions-query reg.db child --child {child}", season.child_lines(child))
-    show("admissions-query reg.db lots --draw 2", season.lot_lines(2))
     kinds = {"offered": 1, "accepted": 2, "plan": 3}
     lines = [f"{child}|{it['school']}|{kinds[it['kind']]}|{number(it['day']) if it['day'] else ''}" for child, it in sorted(season.places.items()) if child % 10 == 1]
     lines += [f"{child}|{school}" for child, school in sorted(season.left)]

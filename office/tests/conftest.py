@@ -26,7 +26,7 @@ HEADER = "child,name,east,north,looked_after,flags,siblings,day,preferences,pres
 # what the fields of a child are that a command leaves out
 OMITTED = {it["field"]: it["omitted"] for it in json.loads(
     (ROOT / "office" / "rules.json").read_text("utf-8"))["commands"]["amend"] if it["optional"]}
-OFFICE = ("audit", "check", "figures", "letters", "lots", "query", "trial", "why")
+OFFICE = ("audit",)
 Command = dict[str, Any]
 Ran = subprocess.CompletedProcess[str]
 

@@ -1,4 +1,4 @@
-"""A page of admissions-figures, read as a screen reader does, and compared with a season of the
+"""A page of figures, read as a screen reader does, and compared with a season of the
 model. It needs no package.
 """
 import collections

@@ -12,6 +12,8 @@ from typing import Any
 
 from conftest import PROGRAM
 
+from office import model
+
 KINDS = {"offered": 1, "accepted": 2, "plan": 3}
 # a school or a child as the commands have it
 Command = Mapping[str, Any]
@@ -104,3 +106,8 @@ def row_of_child(it: Command) -> tuple[object, ...]:
     siblings = ";".join(it["siblings"])
     return (it["child"], it["name"], it["east"], it["north"], int(it["looked_after"]), flags,
             siblings)
+
+
+def register_of(path: pathlib.Path, called: str = "the register") -> model.Register:
+    """The register of a file, as the program shows it."""
+    return model.read_stored(str(path), PROGRAM, called)

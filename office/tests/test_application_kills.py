@@ -22,7 +22,7 @@ import pytest
 from applications import child, town
 from conftest import PROGRAM, ROOT, make
 
-from office import model
+from office import model, senders
 from office.web import effects, history, people
 from office.web.store import Store
 
@@ -181,7 +181,8 @@ def see(room: Room, done: list[dict[str, Any]]) -> None:
     """
     assert room.ask({"cmd": "amend", **{name: it for name, it in child(1, "Ada", 100).items()
                                         if name != "cmd"}}) == {"done": True}
-    register = model.read(f"http://127.0.0.1:{room.desk_port}")
+    register = model.of_source(
+        model.Server(senders.Http(f"http://127.0.0.1:{room.desk_port}")))
     for it in done:
         assert effects.is_done(register, it), it
     once = [it for it in room.way.arrived if b'"cmd":"add_child"' in it]

@@ -11,6 +11,7 @@ from typing import Any
 
 import pytest
 from conftest import PROGRAM, Command, apply, child, do, make, school
+from files import register_of
 
 from office import commands, model, risks, rules, senders
 
@@ -24,11 +25,6 @@ def answers_to(path: Path, lines: list[bytes]) -> list[Any]:
     found = [json.loads(it) for it in ran.stdout.splitlines()]
     assert len(found) == len(lines), ran
     return found
-
-
-def register_of(path: Path) -> model.Register:
-    """The register of a file."""
-    return model.read_stored(str(path), PROGRAM, "the register")
 
 
 def said_of(path: Path, lines: list[bytes]) -> list[str]:

@@ -23,11 +23,11 @@ from draw_site import (
     after_round, begun, brought, crashing, first_day, given_up, lot_of, machine_over, no_answer,
     sealed, small_register, steps, typed, version, waiting,
 )
+from files import register_of
 from pages import Page
 from register_files import Refused
 from served import do_over
 
-from office import model
 from office.model import Pair
 from office.web import copies, draws_checks, draws_outcome, effects, people
 from office.web.draws_terms import Terms
@@ -843,7 +843,7 @@ def test_an_audit_that_differs_after_the_draw_leads_to_a_restore(
         assert draw.state == "restored" and office.parts.desk.closed() == ""
         kept = list((small.lib / NAME).glob("reg.db.replaced-*"))
         assert len(kept) == 1
-        assert [it.number for it in model.read(str(kept[0])).draws] == [1]
+        assert [it.number for it in register_of(kept[0]).draws] == [1]
         again = begun(office)
         brought(office, again, "opened")
         assert len(office.parts.desk.now().draws) == 1

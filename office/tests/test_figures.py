@@ -1,4 +1,4 @@
-"""admissions-figures beside the model of the example season, which shares no code with it, and as a
+"""Figures beside the model of the example season, which shares no code with it, and as a
 page that a screen reader reads.
 """
 import collections
@@ -14,14 +14,13 @@ from typing import Any
 
 import model_season
 import pytest
-from conftest import Command, Office, apply, child, do, make, school
+from conftest import Command, apply, child, do, make, school
 from figures_page import Page, beside_model, table
-from files import write
-from served import do_over, served
+from files import register_of, write
+from register_files import Refused
 
-from office import charts, figure_counts, model, rounds
+from office import charts, figure_counts, rounds
 from office import figures as published
-from office.run import Refused
 from office.withheld import withheld
 
 
@@ -30,23 +29,33 @@ from office.withheld import withheld
     [("after-1.db", model_season.after_first, 1), ("reg.db", model_season.after_second, 2)],
 )
 def test_the_example_season(
-    office: Office, season: Path, tmp_path: Path, name: str, played: Callable[[], Any], at: int
+    season: Path, name: str, played: Callable[[], Any], at: int
 ) -> None:
     """Both rounds: each number of the page is that of the model, or withheld, and none from 1 to 4
     is printed.
     """
-    ran = office("figures", season / name, "out.html")
-    assert ran.returncode == 0 and f"round {at}," in ran.stdout, ran
-    text = (tmp_path / "out.html").read_text("utf-8")
+    found = figures_of(season / name)
+    assert found.round == at
+    text = published.page(found, None, {})
     assert beside_model(text, played()) > 10
-    assert (tmp_path / "out.html").stat().st_mode & 0o777 == 0o600
     for it in {one["name"] for one in played().children.values()}:
         assert it not in text
 
 
+FIELD = "the field “Copy”"
+
+
+def figures_of(
+    path: Path, copy: Path | None = None, number: int | None = None
+) -> figure_counts.Figures:
+    """The figures of a register's round, with what is withheld."""
+    before = register_of(copy, copy.name) if copy else None
+    return published.figures_of(register_of(path, path.name), before, number, FIELD)
+
+
 def counted(path: Path, number: int | None = None) -> figure_counts.Figures:
     """The counts of a register's round, by the data that it has now."""
-    return figure_counts.count(rounds.of_register(model.read(str(path)), number))
+    return figure_counts.count(rounds.of_register(register_of(path, path.name), number))
 
 
 def test_counts_are_those_of_the_model(season: Path) -> None:
@@ -75,7 +84,7 @@ def test_counts_are_those_of_the_model(season: Path) -> None:
     assert earlier.round == 1 and earlier.children == 598
 
 
-def test_the_page_is_whole_and_escaped(office: Office, season: Path, tmp_path: Path) -> None:
+def test_the_page_is_whole_and_escaped(season: Path, tmp_path: Path) -> None:
     """Nothing is loaded from elsewhere, no script runs, and names of schools are as they are:
     Welsh, right to left, with a script.
     """
@@ -89,8 +98,7 @@ def test_the_page_is_whole_and_escaped(office: Office, season: Path, tmp_path: P
         conn.execute("UPDATE school SET name = ? WHERE code = ?", (name, code))
     conn.commit()
     conn.close()
-    assert office("figures", "named.db", "out.html").returncode == 0
-    text = (tmp_path / "out.html").read_text("utf-8")
+    text = published.page(figures_of(tmp_path / "named.db"), None, {})
     page = Page(text)
     assert (
         "<script" not in text
@@ -130,13 +138,13 @@ def one_school(tmp_path: Path) -> None:
     )
 
 
-def test_later_by_the_copy(office: Office, tmp_path: Path) -> None:
+def test_later_by_the_copy(tmp_path: Path) -> None:
     """An admission number is raised, and a child amended and given a plan, after the round: with
     the copy from before it the page is as it was. Flags in words.
     """
     one_school(tmp_path)
-    (tmp_path / "flags.csv").write_text("7,social or medical need\n", "utf-8")
-    assert office("figures", "reg.db", "first.html", "--flags", "flags.csv").returncode == 0
+    flags, reg, before = {7: "social or medical need"}, tmp_path / "reg.db", tmp_path / "before.db"
+    first = published.page(figures_of(reg), None, flags)
     do(
         tmp_path / "reg.db",
         [
@@ -145,19 +153,10 @@ def test_later_by_the_copy(office: Office, tmp_path: Path) -> None:
             {"cmd": "name_plan", "child": 12, "school": "OAK"},
         ],
     )
-    ran = office("figures", "reg.db", "copy.html", "--copy", "before.db", "--flags", "flags.csv")
-    first, copied = ((tmp_path / f"{it}.html").read_text("utf-8") for it in ("first", "copy"))
-    assert (
-        ran.returncode == 0
-        and copied == first
-        and "with a verified priority: social or medical need" in first
-    ), ran
-    ran = office("figures", "reg.db", "no.html", "--copy", "before.db", "--round", "2")
-    assert (
-        ran.returncode == 1
-        and "is not from right before round 2" in ran.stderr
-        and not (tmp_path / "no.html").exists()
-    )
+    assert published.page(figures_of(reg, before), None, flags) == first
+    assert "with a verified priority: social or medical need" in first
+    with pytest.raises(Refused, match="before.db is not from right before round 2"):
+        figures_of(reg, before, 2)
 
 
 def test_a_plan_since_is_never_counted_wrongly(tmp_path: Path) -> None:
@@ -183,44 +182,9 @@ def test_a_plan_since_is_never_counted_wrongly(tmp_path: Path) -> None:
         with pytest.raises(Refused, match=said):
             counted(tmp_path / "reg.db")
         seen = rounds.held_again(
-            model.read(str(tmp_path / "before.db")), model.read(str(tmp_path / "reg.db"))
+            register_of(tmp_path / "before.db"), register_of(tmp_path / "reg.db")
         )
         assert figure_counts.count(seen) == first
-
-
-def test_by_the_address_of_a_register(office: Office, tmp_path: Path) -> None:
-    """The page of a register that is served is that of its file: of the year, of last year, and
-    beside the copy.
-    """
-    one_school(tmp_path)
-    shutil.copy(tmp_path / "reg.db", tmp_path / "last.db")
-    move(tmp_path / "last.db", -1)
-    assert office("figures", "reg.db", "first.html", "--before", "last.db").returncode == 0
-    with served(tmp_path / "reg.db") as (now, _), served(tmp_path / "last.db") as (last, _):
-        ran = office(
-            "figures", now, "served.html", "--before", last, "--user", "jane", stdin="secret\n" * 2
-        )
-        assert ran.returncode == 0, ran
-        ran = office("figures", now, "no.html", "--before", now)
-        said = "is of secondary entry in 2025, and cannot be compared with secondary entry in 2025"
-        assert ran.returncode == 1 and f"{now} {said}" in ran.stderr, ran
-        do_over(now, [DECLINE])
-        ran = office("figures", now, "no.html")
-        assert (
-            ran.returncode == 1
-            and f"{now} {SINCE}: name the copy from right before round 1 by --copy\n" in ran.stderr
-        ), ran
-        assert (
-            office("figures", now, "copy.html", "--copy", "before.db", "--before", last).returncode
-            == 0
-        )
-    assert (
-        (tmp_path / "served.html").read_bytes()
-        == (tmp_path / "copy.html").read_bytes()
-        == (tmp_path / "first.html").read_bytes()
-    )
-    assert not (tmp_path / "no.html").exists()
-    assert office("figures", "last.db", "no.html", "--user", "jane").returncode == 2
 
 
 ACCEPT, DECLINE = ({"cmd": it, "child": 2, "school": "OAK"} for it in ("accept", "decline"))
@@ -257,21 +221,21 @@ CHANGES = (
 
 @pytest.mark.parametrize("commands, said", CHANGES)
 def test_what_was_changed_since_needs_the_copy(
-    office: Office, tmp_path: Path, commands: list[Command], said: str
+    tmp_path: Path, commands: list[Command], said: str
 ) -> None:
-    """Each change alone: without the copy no page is written, neither of this year nor beside it,
-    and the line names the option; with it the page is as it was.
+    """Each change alone: without the copy there are no figures, and what is needed is named; with
+    it the page is as it was.
     """
     one_school(tmp_path)
-    assert office("figures", "reg.db", "first.html").returncode == 0
-    do(tmp_path / "reg.db", commands)
-    advice = "name the copy from right before round 1 by --copy"
-    for words in ("", "--round 1"):
-        ran = office("figures", "reg.db", "no.html", *words.split())
-        assert ran.returncode == 1 and f"reg.db {said}: {advice}\n" in ran.stderr, ran
-        assert not (tmp_path / "no.html").exists()
-    assert office("figures", "reg.db", "copy.html", "--copy", "before.db").returncode == 0
-    assert (tmp_path / "copy.html").read_bytes() == (tmp_path / "first.html").read_bytes()
+    reg = tmp_path / "reg.db"
+    first = published.page(figures_of(reg), None, {})
+    do(reg, commands)
+    for number in (None, 1):
+        with pytest.raises(Refused) as refused:
+            figures_of(reg, number=number)
+        assert str(refused.value) == (
+            f"reg.db {said}: name the copy from right before round 1 by {FIELD}")
+    assert published.page(figures_of(reg, tmp_path / "before.db"), None, {}) == first
 
 
 def move(path: Path, years: int, *changes: str) -> None:
@@ -294,43 +258,26 @@ def move(path: Path, years: int, *changes: str) -> None:
     conn.close()
 
 
-def test_last_year_needs_the_copy_too(office: Office, season: Path, tmp_path: Path) -> None:
+def test_last_year_needs_the_copy_too(season: Path, tmp_path: Path) -> None:
     """Last year's register from the end of its season: it is refused by itself, and compared with
     its copy from before the round.
     """
     shutil.copy(season / "after-1.db", tmp_path / "now.db")
     move(tmp_path / "now.db", 1)
-    ran = office("figures", "now.db", "no.html", "--before", season / "reg.db")
-    assert (
-        ran.returncode == 1
-        and "name the copy from right before round 1 by --before-copy\n" in ran.stderr
-        and not (tmp_path / "no.html").exists()
-    ), ran
-    assert (
-        office(
-            "figures",
-            "now.db",
-            "out.html",
-            "--before",
-            season / "reg.db",
-            "--before-copy",
-            season / "before-1.db",
-        ).returncode
-        == 0
-    )
-    assert (
-        office("figures", "now.db", "same.html", "--before", season / "after-1.db").returncode == 0
-    )
-    assert (tmp_path / "out.html").read_bytes() == (tmp_path / "same.html").read_bytes()
-    ran = office("figures", "now.db", "no.html", "--before-copy", season / "before-1.db")
-    assert ran.returncode == 2 and "--before-copy needs --before" in ran.stderr
+    now = figures_of(tmp_path / "now.db")
+    with pytest.raises(Refused, match="name the copy from right before round 1 by"):
+        figures_of(season / "reg.db", number=1)
+    by_copy = figures_of(season / "reg.db", season / "before-1.db", 1)
+    by_itself = figures_of(season / "after-1.db", number=1)
+    assert published.page(now, by_copy, {}) == published.page(now, by_itself, {})
 
 
-def test_the_first_page_of_a_print(office: Office, season: Path, tmp_path: Path) -> None:
+def test_the_first_page_of_a_print(season: Path, tmp_path: Path) -> None:
     """The chart of the preferences is on the first page, beside its table; on a narrow screen a
     chart keeps a width at which it can be read.
     """
-    assert office("figures", season / "after-1.db", "out.html").returncode == 0
+    page = published.page(figures_of(season / "after-1.db"), None, {})
+    (tmp_path / "out.html").write_text(page, "utf-8")
     code = "import sys, weasyprint; weasyprint.HTML(sys.argv[1]).write_pdf(sys.argv[2])"
     subprocess.run(
         [sys.executable, "-c", code, tmp_path / "out.html", tmp_path / "out.pdf"],
@@ -349,13 +296,14 @@ def test_the_first_page_of_a_print(office: Office, season: Path, tmp_path: Path)
     ).read_text("utf-8")
 
 
-def test_the_tables_fit_a_small_screen(office: Office, season: Path, tmp_path: Path) -> None:
+def test_the_tables_fit_a_small_screen(season: Path, tmp_path: Path) -> None:
     """A window of 1,100 pixels has 1,053 for tables, beside its scroll bar and the margins. With
     each word on a line of its own the widest table needs 1,010 at most, so that it fits also where
     a browser's letters are somewhat wider. (On a page of 390 pixels a table is as narrow as its
     words allow.)
     """
-    assert office("figures", season / "reg.db", "out.html").returncode == 0
+    page = published.page(figures_of(season / "reg.db"), None, {})
+    (tmp_path / "out.html").write_text(page, "utf-8")
     code = """
 import sys, weasyprint
 from weasyprint.formatting_structure.boxes import TableBox
@@ -374,58 +322,40 @@ print(*{round(it.width) for it in boxes if isinstance(it, TableBox)})
     assert len(widths) == 3 and 900 < max(widths) <= 1010, widths
 
 
-def test_last_year(office: Office, season: Path, tmp_path: Path) -> None:
+def test_last_year(season: Path, tmp_path: Path) -> None:
     """Last year is another register: earlier, of the same phase, with another number of a school
     that turned nobody away.
     """
     shutil.copy(season / "after-1.db", tmp_path / "last.db")
     move(tmp_path / "last.db", -1, "UPDATE school SET pan = 400 WHERE code = 'GLEA'")
-    ran = office("figures", season / "after-1.db", "out.html", "--before", "last.db")
-    assert ran.returncode == 0, ran
+    now, last = figures_of(season / "after-1.db"), figures_of(tmp_path / "last.db")
+    published.see_comparable(now, last, "last.db")
     rows = table(
-        Page((tmp_path / "out.html").read_text("utf-8")),
+        Page(published.page(now, last, {})),
         "Each school in round 1 of 2025 and of 2024",
     )
     assert (
         next(it[1:3] for it in rows if it[0].endswith("(GLEA)")) == ["27", "400"]
         and len(rows) == 22
     )
-    ran = office("figures", season / "after-1.db", "other.html", "--before", season / "after-1.db")
-    assert (
-        ran.returncode == 1
-        and "cannot be compared" in ran.stderr
-        and not (tmp_path / "other.html").exists()
-    )
+    with pytest.raises(Refused, match="is of secondary entry in 2025, and cannot be compared with"
+                                      " secondary entry in 2025"):
+        published.see_comparable(now, now, "it")
 
 
-def test_what_is_refused(office: Office, season: Path, tmp_path: Path) -> None:
-    """A page that is there, no round, a round that is none, so few children that nothing can be
-    published; and no traceback.
-    """
+def test_what_is_refused(season: Path, tmp_path: Path) -> None:
+    """No round, a round that is none, so few children that nothing can be published."""
     make(
         tmp_path / "few.db",
         [school("OAK"), *(it for at in range(1, 5) for it in (child(at), apply(at, ["OAK"])))],
     )
-    (tmp_path / "there.html").write_text("mine", "utf-8")
-    after = season / "after-1.db"
-    for words, text in (
-        (f"{after} there.html", "is there already"),
-        ("few.db new.html", "had no round yet"),
-        (f"{after} new.html --round 2", "no round 2"),
-    ):
-        ran = office("figures", *words.split())
-        assert ran.returncode == 1 and text in ran.stderr and ran.stderr.count("\n") == 1, ran
-    do(
-        tmp_path / "few.db",
-        [{"cmd": "round", "draw": 1, "day": "2025-03-03", "lots": [1, 2, 3, 4]}],
-    )
-    ran = office("figures", "few.db", "new.html")
-    assert ran.returncode == 1 and "fewer than 5 children are not published" in ran.stderr
-    assert (
-        (tmp_path / "there.html").read_text("utf-8") == "mine"
-        and not (tmp_path / "new.html").exists()
-        and office("figures", "few.db").returncode == 2
-    )
+    few, after = tmp_path / "few.db", season / "after-1.db"
+    for path, number, text in ((few, None, "had no round yet"), (after, 2, "no round 2")):
+        with pytest.raises(Refused, match=text):
+            figures_of(path, number=number)
+    do(few, [{"cmd": "round", "draw": 1, "day": "2025-03-03", "lots": [1, 2, 3, 4]}])
+    with pytest.raises(Refused, match="fewer than 5 children are not published"):
+        figures_of(few)
 
 
 def test_homes_are_counted_in_squares() -> None:

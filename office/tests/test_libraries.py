@@ -9,7 +9,7 @@ import pytest
 from conftest import ROOT
 from register_files import Refused
 
-from office import apart, charts, letters_apart, pdf_apart, run
+from office import apart, charts, letters_apart, libraries, pdf_apart, run
 from office.letters_apart import Form, Source
 from office.web import points
 
@@ -35,7 +35,7 @@ def test_each_module_loads_without_them() -> None:
     done = subprocess.run([sys.executable, "-B", "-c", EACH, *places], capture_output=True,
                           text=True, check=False)
     assert done.returncode == 0, done.stderr
-    assert {"office.letters", "office.web.app", "machine.setup"} <= set(done.stdout.split())
+    assert {"office.worklists", "office.web.app", "machine.setup"} <= set(done.stdout.split())
 
 
 @pytest.mark.parametrize("module, said", [
@@ -53,18 +53,18 @@ def test_a_command_names_the_package(
     def work() -> int:
         raise ImportError("no", name=module)
 
-    assert run.ended("admissions-figures", work) == 1
-    assert capfd.readouterr().err == f"admissions-figures: {said}\n"
+    assert run.ended("admissions-status", work) == 1
+    assert capfd.readouterr().err == f"admissions-status: {said}\n"
 
 
-def test_a_command_names_what_draws_charts(
-    hide: Callable[[str], None], capfd: pytest.CaptureFixture[str]
-) -> None:
-    """Where it is imported, as the import itself fails."""
+def test_charts(hide: Callable[[str], None]) -> None:
+    """What draws them is imported where they are drawn."""
     hide("matplotlib")
-    assert run.ended("admissions-trial", lambda: bool(charts.new_figure(1, 1))) == 1
-    assert capfd.readouterr().err == (
-        f"admissions-trial: charts need the Debian package python3-matplotlib, {HOW}\n")
+    with pytest.raises(ImportError) as error:
+        charts.new_figure(1, 1)
+    assert libraries.missing_for_officer(error.value.name) == (
+        "tell whoever maintains the system: charts need the Debian package python3-matplotlib,"
+        f" {HOW}")
 
 
 def test_a_page_as_pdf(monkeypatch: pytest.MonkeyPatch) -> None:

@@ -1,9 +1,9 @@
 """A register of a program with one more field of a child, and one with one more column of a table:
-no command breaks, loses or misreads it.
+nothing of an office breaks, loses or misreads it.
 
-The program is a stand-in (stand_in.py). The commands are a copy whose rules have the field, as
-docs/recipes/field.patch and tools/reference --update make them; or those as they are, which do not
-know it. These tests hold too where a recipe has added a field.
+The program is a stand-in (stand_in.py). The package is a copy whose rules have the field, as
+docs/recipes/field.patch and tools/reference --update make them; or as it is, which does not know
+it. These tests hold too where a recipe has added a field.
 """
 import contextlib
 import json
@@ -13,11 +13,10 @@ import sqlite3
 import subprocess
 from collections.abc import Iterable
 from pathlib import Path
-from typing import Protocol
+from typing import Any
 
 import pytest
-from conftest import (
-    HEADER, OFFICE, OMITTED, PROGRAM, ROOT, Command, Office, Ran, apply, child, school)
+from conftest import HEADER, OMITTED, PROGRAM, ROOT, Command, Office, apply, child, school
 from test_audit import change
 
 from office import audit, fields
@@ -49,22 +48,60 @@ ROWS: list[list[str]] = [
     ["2", "Bo Bell", "900", "0", "no", "", "", "2024-10-20", "OAK",
      *(CELLS | {"present": "PRIM7"}).values(), "no"],
 ]
-# each command on the registers from before and after a round, and what it writes
-COMMANDS = (
-    "query after.db children", "query after.db find child", "query after.db child --child 1",
-    "query after.db list", "query after.db unplaced", "query after.db season",
-    "query after.db lots --draw 1", "query after.db equal-at-limit", "query before.db interest",
-    "query after.db round-report --round 1", "query after.db moved --round 1 --before before.db",
-    "letters after.db letters --csv letters.csv --before before.db",
-    "figures after.db figures.html --copy before.db", "why after.db --copy before.db --child 4",
-    "audit before.db after.db",
-)
-
-
-class Run(Protocol):
-    """Runs a command, or the program ("")."""
-
-    def __call__(self, name: str, *given: object, stdin: str | None = None) -> Ran: ...
+SHEET = "".join(",".join(it) + "\n" for it in ROWS)
+# what a process does with a copy of the package: each begins so, and prints JSON
+BEGIN = """
+import json, sys
+folder, tools, program, *given = sys.argv[1:]
+sys.path[:0] = [folder, tools]
+from office import model
+def register(name):
+    return model.read_stored(name, program, name)
+"""
+ALL = BEGIN + """
+import datetime
+from office import figures, letter_fields, rounds, why, worklists
+from office.trial_registers import Program
+before, after = map(register, given)
+options = {"day": datetime.date(2025, 3, 20), "child": 1, "draw": 1, "round": 1, "text": "child"}
+writer = letter_fields.Writer(after, before)
+held = rounds.held_again(before, after, program=Program(program))
+found = figures.figures_of(after, before, None, "it")
+explained = why.explain_again(held, before, after, 4)
+print(json.dumps({
+    "lists": {it: worklists.rows_of(after, it, options) for it in worklists.WORKLISTS},
+    "letters": [writer.letter(it).proved() for it in after.children],
+    "merge": letter_fields.merge_rows(map(writer.letter, after.children), [], {}),
+    "figures": figures.tables(found, None, {}),
+    "why": [it.sentences for it in why.sections_of(explained, True)],
+}, default=str))
+"""
+AMEND = BEGIN + """
+from office import persons
+print(json.dumps(persons.command_of("amend", register(given[0]).children[1])))
+"""
+TRIAL = BEGIN + """
+from office import trial
+from office.trial_registers import Program
+before, after = map(register, given)
+schools, _ = trial.changed_schools(before, [("OAK", 2)])
+found = trial.Trial(before, after, schools, {}, Program(program))
+print(json.dumps(len(found.plain.outcomes[1])))
+"""
+TABLE = BEGIN + """
+from office import check, fields, sheet
+from office.web import staging_check, staging_files
+from office.web.staging_rows import OPEN, Staged
+read = staging_files.rows_of("it", sheet.of_bytes("it", open(given[0], "rb").read(), None, ""))
+rows = [Staged(at, 1, "it", False, False, it.number, it.cells, it.others, it.notes, OPEN, 1, "",
+               "", "", "", None) for at, it in enumerate(read.rows, 1)]
+table = staging_check.Checker().table(rows, register(given[1]))
+print(json.dumps({
+    "found": [[table.rows[at].staged.number, it.column, it.kind, staging_check.said(it)]
+              for at, them in table.findings.items() for it in them],
+    "rows": [list(fields.COLUMNS), *(check.values_of(it.row) for it in table.rows.values())],
+}))
+"""
 
 
 @pytest.fixture(name="stand_in")
@@ -81,195 +118,116 @@ def stand_in_fixture(tmp_path: Path) -> Path:
 
 
 @pytest.fixture(name="later")
-def later_fixture(tmp_path: Path, stand_in: Path) -> Run:
-    """The commands whose rules have the field, and the stand-in, in the folder of a test."""
+def later_fixture(stand_in: Path) -> Path:
+    """The folder of a copy of the package whose rules have the field."""
     package = stand_in.parent / "office"
     shutil.copytree(ROOT / "office", package, ignore=shutil.ignore_patterns("tests"))
-    os.symlink(ROOT / "tools", stand_in.parent / "tools")
     rules = json.loads((package / "rules.json").read_text("utf-8"))
     for listed in (rules["columns"], rules["commands"]["add_child"], rules["commands"]["amend"]):
         listed.append(FIELD)
     (package / "rules.json").write_text(json.dumps(rules), "utf-8")
-    for it in OFFICE:
-        os.symlink(package / "command", stand_in.parent / f"admissions-{it}")
-
-    def run(name: str, *given: object, stdin: str | None = None) -> Ran:
-        command = stand_in.parent / (f"admissions-{name}" if name else "admissions")
-        return subprocess.run(
-            [str(command), *map(str, given)], cwd=tmp_path, input=stdin, capture_output=True,
-            text=True, env={**os.environ, "ADMISSIONS": str(stand_in)}, timeout=300, check=False)
-
-    return run
+    return stand_in.parent
 
 
-def sheet_of(rows: Iterable[Iterable[str]]) -> str:
-    """A file of applications."""
-    return "".join(",".join(it) + "\n" for it in rows)
+def found_by(code: str, folder: Path, program: object, *given: Path) -> Any:
+    """What a process finds with the package of a folder and a program."""
+    ran = subprocess.run(
+        ["/usr/bin/python3", "-B", "-c", code, folder, ROOT / "tools", str(program), *given],
+        capture_output=True, text=True, check=False, timeout=300,
+        env={**os.environ, "ADMISSIONS": str(program)})
+    assert ran.returncode == 0, ran.stderr
+    return json.loads(ran.stdout)
 
 
-SHEET = sheet_of(ROWS)
+def run(program: object, *words: object, given: str | None = None) -> str:
+    """What a program prints."""
+    return subprocess.run([str(program), *map(str, words)], input=given, capture_output=True,
+                          text=True, check=False).stdout
 
 
-def make(later: Run, name: str, commands: Iterable[Command], chosen: Iterable[int]) -> None:
+def make(stand_in: Path, path: Path, commands: Iterable[Command], chosen: Iterable[int]) -> Path:
     """A register with these commands done, where the field of these children is true."""
-    assert later("", "init", name, "secondary", "2025").returncode == 0
+    run(stand_in, "init", path, "secondary", "2025")
     made = [it | ({NAME: True} if it["cmd"] == "add_child" and it["child"] in chosen else {})
             for it in commands]
-    ran = later("", "do", name, stdin="".join(json.dumps(it) + "\n" for it in made))
-    assert ran.stdout.count('"done":true') == len(made), ran
+    given = "".join(json.dumps(it) + "\n" for it in made)
+    assert run(stand_in, "do", path, given=given).count('"done":true') == len(made)
+    return path
 
 
-def chosen_in(later: Run, name: str) -> list[int]:
-    """Of whom the field is true in a register."""
-    shown = json.loads(later("", "show", name).stdout)
-    return [it["child"] for it in shown["children"] if it[NAME]]
+def around_a_round(stand_in: Path, folder: Path, chosen: Iterable[int]) -> tuple[Path, Path]:
+    """The registers before a round and after it, where the field of these children is true."""
+    folder.mkdir()
+    return (make(stand_in, folder / "before.db", TOWN, chosen),
+            make(stand_in, folder / "after.db", [*TOWN, ROUND], chosen))
 
 
-def made_by(run: Run, later: Run, folder: Path, chosen: Iterable[int]) -> dict[str, str]:
-    """What each command prints and writes of registers where the field of these is true."""
-    make(later, "before.db", TOWN, chosen)
-    make(later, "after.db", [*TOWN, ROUND], chosen)
-    found = {}
-    for command in COMMANDS:
-        ran = run(*command.split(" "))
-        assert ran.returncode == 0, (command, ran)
-        found[command] = ran.stdout
-    written = [*folder.glob("*.csv"), *folder.glob("*.html"), *folder.glob("letters/*")]
-    assert len(written) == 1 + 1 + len(CHILDREN)
-    found |= {it.name: it.read_text("utf-8") for it in written}
-    shutil.rmtree(folder / "letters")
-    for it in folder.glob("*.*"):
-        it.unlink()
-    return found
-
-
-def test_what_other_commands_print(
-    office: Office, later: Run, stand_in: Path, tmp_path: Path
+def test_lists_letters_figures_and_explanations(
+    later: Path, stand_in: Path, tmp_path: Path
 ) -> None:
     """All is as without the field, with rules that have it and with those that do not."""
-    wanted = made_by(office, later, tmp_path, ())
-    assert made_by(later, later, tmp_path, CHOSEN) == wanted
-
-    def unaware(name: str, *given: object, stdin: str | None = None) -> Ran:
-        return office(name, *given, stdin=stdin, program=stand_in)
-
-    assert made_by(unaware, later, tmp_path, CHOSEN) == wanted
+    without = around_a_round(stand_in, tmp_path / "without", ())
+    chosen = around_a_round(stand_in, tmp_path / "chosen", CHOSEN)
+    wanted = json.dumps(found_by(ALL, ROOT, PROGRAM, *without))
+    assert len(wanted) > 5000
+    for folder in (later, ROOT):
+        found = json.dumps(found_by(ALL, folder, stand_in, *chosen))
+        assert found.replace("chosen", "without") == wanted
 
 
 @pytest.mark.parametrize("is_known", [True, False])
-def test_an_amend_repeats_it(
-    office: Office, later: Run, stand_in: Path, tmp_path: Path, is_known: bool
-) -> None:
-    """Also where the rules do not have it. The line changes what was edited, and nothing else."""
-    make(later, "reg.db", TOWN, CHOSEN)
-    words = ("query", "reg.db", "amend", "--child", 1)
-    ran = later(*words) if is_known else office(*words, program=stand_in)
-    line = json.loads(ran.stdout)
-    assert line == {**OMITTED, **CHILDREN[1], "cmd": "amend", NAME: True}, ran
-    assert sent(later, tmp_path, {**line, "north": 7}).returncode == 0
-    shown = json.loads(later("", "show", "reg.db").stdout)["children"][0]
+def test_an_amend_repeats_it(later: Path, stand_in: Path, tmp_path: Path, is_known: bool) -> None:
+    """Also where the rules do not have it. It changes what was edited, and nothing else."""
+    path = make(stand_in, tmp_path / "reg.db", TOWN, CHOSEN)
+    line = found_by(AMEND, later if is_known else ROOT, stand_in, path)
+    assert line == {**OMITTED, **CHILDREN[1], "cmd": "amend", NAME: True}
+    assert '"done":true' in run(stand_in, "do", path, given=json.dumps({**line, "north": 7}))
+    shown = json.loads(run(stand_in, "show", path))["children"][0]
     assert (shown["north"], shown[NAME], shown["flags"]) == (7, True, [2])
-
-
-def sent(later: Run, folder: Path, command: Command) -> Ran:
-    """What is printed where a command is sent."""
-    (folder / "it.jsonl").write_text(json.dumps(command) + "\n")
-    ran = later("send", "it.jsonl", "--again", stdin="")
-    for it in folder.glob("it.*"):
-        it.unlink()
-    return ran
-
-
-def test_an_amend_without_it(later: Run, tmp_path: Path) -> None:
-    """It is asked about where it would change the child; and a value of the wrong kind is named."""
-    make(later, "reg.db", TOWN, CHOSEN)
-    amend: Command = {**CHILDREN[1], "cmd": "amend"}
-    ran = sent(later, tmp_path, amend)
-    said = f'amend of child 1 without "{NAME}": the register has true, and would have false'
-    assert ran.returncode == 1 and said in ran.stdout and "1 thing looks wrong" in ran.stderr, ran
-    ran = sent(later, tmp_path, {**amend, NAME: "yes"})
-    said = f'the field "{NAME}" is "yes", and must be true or false, without quotes (WrongKind)'
-    assert ran.returncode == 1 and said in ran.stdout, ran
-    assert chosen_in(later, "reg.db") == [1, 4, 6]
-    unchanged: Command = {**CHILDREN[2], "cmd": "amend"}
-    for command in (unchanged, amend | {NAME: False}):
-        ran = sent(later, tmp_path, command)
-        assert ran.returncode == 0 and "looks wrong" not in ran.stdout + ran.stderr, ran
-    assert chosen_in(later, "reg.db") == [4, 6]
-
-
-def test_a_file_of_applications(later: Run, tmp_path: Path) -> None:
-    """It is read by its kind, written and imported; afterwards the file is compared with it."""
-    make(later, "reg.db", SCHOOLS, ())
-    (tmp_path / "given.csv").write_text(SHEET.replace(",yes\n", ",Y\n"))
-    ran = later("check", "given.csv", "--register", "reg.db", "--fix", "out.csv")
-    said = f'row 2, column {NAME}, "Y": written as "yes"'
-    assert ran.returncode == 0 and said in ran.stdout, ran
-    assert (tmp_path / "out.csv").read_text() == SHEET
-    assert '"added":2' in later("", "import", "reg.db", "out.csv").stdout
-    assert chosen_in(later, "reg.db") == [1]
-    assert later("check", "out.csv", "--register", "reg.db").returncode == 0
-    for row, old, new in ((2, "yes", "no"), (3, "no", "yes")):
-        (tmp_path / "other.csv").write_text(SHEET.replace(f",{old}\n", f",{new}\n"))
-        ran = later("check", "other.csv", "--register", "reg.db")
-        said = f'ERROR row {row}, column {NAME}, "{new}": expected what the register has now for'
-        assert ran.returncode == 1 and said in ran.stdout and ran.stdout.count("ERROR") == 1, ran
 
 
 def without(column: str) -> str:
     """The file without a column."""
     at = COLUMNS.index(column)
-    return sheet_of(it[:at] + it[at + 1 :] for it in ROWS)
+    return "".join(",".join(it[:at] + it[at + 1:]) + "\n" for it in ROWS)
 
 
-def test_a_file_without_it(later: Run, tmp_path: Path) -> None:
-    """Each child has the value of a field that is omitted, and is compared by that."""
-    make(later, "reg.db", SCHOOLS, ())
-    (tmp_path / "given.csv").write_text(without(NAME))
-    assert later("check", "given.csv", "--register", "reg.db").returncode == 0
-    (tmp_path / "all.csv").write_text(SHEET)
-    assert '"added":2' in later("", "import", "reg.db", "all.csv").stdout
-    ran = later("check", "given.csv", "--register", "reg.db")
-    said = f'ERROR row 2, column {NAME}, "": expected what the register has now for child 1: "yes"'
-    assert ran.returncode == 1 and said in ran.stdout and ran.stdout.count("ERROR") == 1, ran
+def test_a_file_of_applications(later: Path, stand_in: Path, tmp_path: Path) -> None:
+    """It is read by its kind and imported; afterwards the file is compared with it, also one that
+    lacks it, where each child has the value of a field that is omitted.
+    """
+    path, given = make(stand_in, tmp_path / "reg.db", SCHOOLS, ()), tmp_path / "given.csv"
+    given.write_text(SHEET.replace(",yes\n", ",Y\n"))
+    table = found_by(TABLE, later, stand_in, given, path)
+    assert [2, NAME, "fixed", 'read as "yes"'] in table["found"] and table["rows"] == ROWS
+    given.write_text(SHEET)
+    assert '"added":2' in run(stand_in, "import", path, given)
+    shown = json.loads(run(stand_in, "show", path))
+    assert [it["child"] for it in shown["children"] if it[NAME]] == [1]
+    for text, row in ((SHEET, 0), (SHEET.replace(",yes\n", ",no\n"), 2),
+                      (SHEET.replace(",no\n", ",yes\n"), 3), (without(NAME), 2)):
+        given.write_text(text)
+        table = found_by(TABLE, later, stand_in, given, path)
+        wrong = [it[:2] for it in table["found"] if it[2] == "error"]
+        assert wrong == ([[row, NAME]] if row else []), table
 
 
-def test_a_file_without_a_column_before_it(later: Run, tmp_path: Path) -> None:
-    """Import takes the last column only after that of the present school, so that is added."""
-    make(later, "reg.db", SCHOOLS, ())
-    (tmp_path / "given.csv").write_text(without("present"))
-    assert later("", "import", "reg.db", "given.csv").stderr == "fault: row 0: Header\n"
-    ran = later("check", "given.csv")
-    said = (
-        'row 1, column present, "": the column is added, with "" in each row: import takes no'
-        f" {NAME} without it (by --fix)\n2 rows, 0 errors, 1 change\n"
-    )
-    assert ran.returncode == 1 and said in ran.stdout, ran
-    assert later("check", "given.csv", "--fix", "out.csv").returncode == 0
-    assert (tmp_path / "out.csv").read_text() == SHEET.replace("PRIM7", "")
-    assert '"added":2' in later("", "import", "reg.db", "out.csv").stdout
-
-
-def test_what_is_wrong_in_a_file(later: Run, tmp_path: Path) -> None:
+def test_what_is_wrong_in_a_file(later: Path, stand_in: Path, tmp_path: Path) -> None:
     """A value that is none of its kind, and a row of another width: it is the last column."""
+    path, given = make(stand_in, tmp_path / "reg.db", SCHOOLS, ()), tmp_path / "given.csv"
     head, first, second = ROWS
-    text = sheet_of([head, [*first[:-1], "maybe"], [*second, "no"]])
-    (tmp_path / "given.csv").write_text(text)
-    ran = later("check", "given.csv")
-    found = [it for it in ran.stdout.splitlines() if it.startswith("ERROR")]
-    assert ran.returncode == 1 and found == [
-        f'ERROR row 2, column {NAME}, "maybe": expected yes or no',
-        f'ERROR row 3, column {NAME}, "no": expected {len(COLUMNS)} fields, as the header has them;'
-        f" the row has {len(COLUMNS) + 1}",
-    ], ran
+    rows = [head, [*first[:-1], "maybe"], [*second, "no"]]
+    given.write_text("".join(",".join(it) + "\n" for it in rows))
+    found = found_by(TABLE, later, stand_in, given, path)["found"]
+    wrong = [it for it in found if it[2] == "error"]
+    assert wrong[0] == [2, NAME, "error", "expected yes or no"]
+    assert wrong[1][:2] == [3, NAME] and f"expected {len(COLUMNS)} fields" in wrong[1][3]
 
 
-def test_a_trial_repeats_it(later: Run, stand_in: Path) -> None:
+def test_a_trial_repeats_it(later: Path, stand_in: Path, tmp_path: Path) -> None:
     """The registers of a trial, which are made anew, have it too."""
-    make(later, "before.db", TOWN, CHOSEN)
-    make(later, "after.db", [*TOWN, ROUND], CHOSEN)
-    ran = later("trial", "before.db", "after.db", "--pan", "OAK=2")
-    assert ran.returncode == 0 and "5 children took part" in ran.stdout, ran
+    registers = around_a_round(stand_in, tmp_path / "chosen", CHOSEN)
+    assert found_by(TRIAL, later, stand_in, *registers) == 5
     imported = (stand_in.parent / "imported").read_text().splitlines()
     ends = [it.rpartition(",")[2] for it in imported]
     assert ends == 2 * [NAME, "yes", "no", "no", "yes", "no"], imported
@@ -284,7 +242,7 @@ def test_an_audit_compares_a_column(office: Office, tmp_path: Path) -> None:
         else:
             subprocess.run([PROGRAM, "init", path, "secondary", "2025"], check=True)
         given = "".join(json.dumps(it) + "\n" for it in commands)
-        assert '"refused"' not in office("", "do", path, stdin=given).stdout
+        assert '"refused"' not in run(PROGRAM, "do", path, given=given)
 
     def audited() -> tuple[int, str]:
         ran = office("audit", before, after)

@@ -21,7 +21,7 @@ from served import served
 from staged import COLUMNS, Screens, Seen, csv_of, workbook
 from werkzeug.datastructures import FileStorage
 
-from office import apart, check, fields, inputs, sheet, sheet_apart, turns
+from office import apart, fields, inputs, sheet, sheet_apart, turns
 from office.model import Register
 from office.senders import Ended
 from office.web import draws_sheet, staging_check, staging_commit, staging_form, store, uploads
@@ -165,27 +165,6 @@ def test_the_counts_are_those_of_the_rows(office: Site, screens: Screens) -> Non
     assert "11 in time and 1 late" in seen.text
     assert "to look at Day 1" in " ".join(seen.text.split())
     assert office.parts.desk.now().children.keys() == {7}
-
-
-def test_what_admissions_check_finds_is_found(office: Site, screens: Screens) -> None:
-    """Each finding of the command is at its cell, and there is no other."""
-    rows = [changed(GOOD[at], *fault) for at, fault in enumerate(FAULTS[:10])]
-    rows += [
-        changed(GOOD[10], 0, "102"), changed(GOOD[11], 4, "No"),
-        changed(changed(GOOD[0], 0, "301"), 1, "Abbot, Ada"),
-        ["302", "Far Away", "900000", "0", "no", "", "", "2024-10-20", "OAK", ""],
-        ["303", "Early Bird", "40", "0", "no", "", "", "2023-10-20", "oak", ""],
-        ["304", "Late Bloom", "80", "900", "no", "", "", "2026-01-01", "Oak School", ""]]
-    screens.add(("a.csv", lines(rows)))
-    found = check.Check(sheet.of_bytes("a.csv", lines(rows), None, ""),
-                        office.parts.desk.now(), False)
-    found.run()
-    must = {(it.row, it.column, it.kind, it.value) for it in found.findings}
-    tools = office.app.extensions["staging"]
-    table = tools.checker.table(tools.staging.rows(OPEN), office.parts.desk.now())
-    has_found = {(table.rows[at].staged.number, it.column, it.kind, it.value)
-                 for at, them in table.findings.items() for it in them}
-    assert has_found == must and len(must) == 19
 
 
 def test_equal_changes_are_summed(screens: Screens) -> None:
@@ -358,7 +337,7 @@ def test_a_workbook_is_read_in_any_thread(office: Site, screens: Screens) -> Non
 
 
 def test_a_sheet_of_several_is_named(office: Site, screens: Screens) -> None:
-    """What is said names the field of the form, and no option of a command."""
+    """What is said names the field of the form."""
     book = openpyxl.load_workbook(io.BytesIO(workbook([typed(GOOD[0])])))
     book.active.title = "Autumn"
     book.create_sheet("Spring").append(["x"])
@@ -499,7 +478,7 @@ def test_days_of_a_file_in_one_reading(screens: Screens) -> None:
     screens.add(("a.csv", lines([row])))
     at = screens.see().row("row 2 of a.csv")
     said = screens.see().said(at, "day")
-    assert "is it 4 March 2024 or 3 April 2024?" in said and "--uk-days" not in screens.see().text
+    assert "is it 4 March 2024 or 3 April 2024?" in said
     assert "say so in the list of files" in said
     assert screens.browser.post("/applications/file/1", {"what": "uk"}).status_code == 303
     assert screens.see().said(at, "day").startswith('read as "2024-04-03"')

@@ -5,17 +5,14 @@ Each text of child 1 has a word MINE-.. of its own, and each of another child ha
 import base64
 import io
 import json
-import os
 import pathlib
 import re
 import sqlite3
-import subprocess
 import zlib
 from collections.abc import Iterator
 
 import pytest
 from applications import ROUND, SCHOOLS, Browser, Site, child, office_over, town
-from conftest import make
 from pages import Page, press
 
 from office.web import history, subject
@@ -262,64 +259,3 @@ def test_each_table_of_the_application_is_known(tmp_path: pathlib.Path) -> None:
         columns = {it["name"] for it in store.rows(query_of)}
         assert ("child" in columns) == (table in (*subject.OF_CHILD, "lot"))
     store.close()
-
-
-def query(tools: pathlib.Path, *arguments: object) -> subprocess.CompletedProcess[str]:
-    """Runs the command."""
-    return subprocess.run(
-        [str(tools / "admissions-query"), *map(str, arguments)], capture_output=True, text=True,
-        check=False, env={**os.environ, "ADMISSIONS": str(tools / "admissions")})
-
-
-def test_the_command_prints_the_same(
-    office: Site, tools: pathlib.Path, tmp_path: pathlib.Path
-) -> None:
-    """From a file of the register and the folder of the application, which is only read."""
-    make(tmp_path / "reg.db", [*town(), ROUND])
-    folder = office.parts.config.folder
-    before = sorted((it.name, it.stat().st_size) for it in folder.iterdir())
-    page = tmp_path / "child.html"
-    done = query(tools, tmp_path / "reg.db", "subject", "--child", 1, "--office", folder,
-                 "--page", page)
-    assert (done.returncode, done.stderr) == (0, "")
-    assert sorted((it.name, it.stat().st_size) for it in folder.iterdir()) == before
-    assert marks(done.stdout) == MINE == marks(page.read_text())
-    see_no_other(done.stdout)
-    see_no_other(page.read_text())
-    assert page.stat().st_mode & 0o777 == 0o600
-    again = query(tools, tmp_path / "reg.db", "subject", "--child", 1, "--page", page)
-    assert again.returncode == 1 and "is there already" in again.stderr and not again.stdout
-    alone = json.loads(query(tools, tmp_path / "reg.db", "subject", "--child", 1).stdout)
-    assert alone["elsewhere"][-1] == subject.NO_OFFICE and alone["register"]["data"]["child"] == 1
-
-
-@pytest.mark.parametrize(("arguments", "status", "said"), [
-    (["subject"], 2, "subject requires --child"),
-    (["subject", "--child", "1", "--round", "1"], 2, "subject takes no --round"),
-    (["subject", "--child", "1", "--excel"], 2, "subject prints JSON, no CSV"),
-    (["season", "--office", "x"], 2, "--office and --page are for subject alone"),
-    (["subject", "--child", "77"], 1, "has no child 77"),
-    (["subject", "--child", "1", "--office", "nowhere"], 1, "history.jsonl"),
-])
-def test_what_the_command_refuses(
-    tools: pathlib.Path, tmp_path: pathlib.Path, arguments: list[str], status: int, said: str
-) -> None:
-    make(tmp_path / "reg.db", town())
-    done = query(tools, tmp_path / "reg.db", *arguments)
-    assert done.returncode == status and said in done.stderr and not done.stdout
-
-
-def test_the_file_of_another_user_is_not_opened(
-    tmp_path: pathlib.Path, monkeypatch: pytest.MonkeyPatch
-) -> None:
-    """SQLite would leave a file beside it that its user cannot open."""
-    from office import subject_query
-    from register_files import Refused
-
-    store = Store(str(tmp_path / "office.db"))
-    store.close()
-    monkeypatch.setattr(os, "geteuid", lambda: os.getuid() + 1)
-    with pytest.raises(Refused, match="who must read it"):
-        with subject_query.opened(str(tmp_path)):
-            pass
-    assert [it.name for it in tmp_path.iterdir()] == ["office.db"]

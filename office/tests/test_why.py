@@ -1,5 +1,5 @@
-"""admissions-why beside a search over the round's problem that shares no code with it
-(bench/questions), and beside admissions-audit on the example season.
+"""Explanations of draws beside a search over the round's problem that shares no code with them
+(bench/questions), and beside the audit on the example season; and their sentences, by hand.
 """
 import os
 import random
@@ -11,13 +11,47 @@ from typing import Any
 
 import pytest
 from by_path import loaded
-from conftest import ROOT, Office, apply, child, do, make, school
-from files import write
+from conftest import ROOT, apply, child, do, make, school
+from files import register_of, write
 from register_files import Refused
-from served import served
 
 from office import model, rounds, why
 from office.model import Pair, Register
+
+Draw = int | None
+
+
+def held_in(register: Register, draw: Draw) -> rounds.Held:
+    """A draw of a register, or its last round."""
+    if draw is None:
+        return rounds.of_register(register)
+    return rounds.Held(register, register.draws[draw - 1])
+
+
+def lines_of(
+    found: why.Why, is_office: bool = False, flags: dict[int, str] | None = None,
+) -> list[str]:
+    """An explanation as lines, an empty one between its sections."""
+    lines: list[str] = []
+    for at, it in enumerate(why.sections_of(found, is_office, flags)):
+        lines += [*([""] if at else []), *it.sentences]
+        lines += [f"THERE IS NO REASON: {it.missing}."] if it.missing else []
+    return lines
+
+
+def said(
+    path: Path, number: int, is_office: bool = False, draw: Draw = None, copy: Path | None = None,
+    flags: dict[int, str] | None = None,
+) -> str:
+    """The explanation of a child, by the data of now or by those of a copy."""
+    after = register_of(path, path.name)
+    if copy is None:
+        found = why.explain(held_in(after, draw), number)
+    else:
+        before = register_of(copy, copy.name)
+        found = why.explain_again(rounds.held_again(before, after), before, after, number)
+    return "".join(f"{it}\n" for it in lines_of(found, is_office, flags))
+
 
 ROUNDS = 400
 # of so many rounds one is also held again on the copy from before it
@@ -83,7 +117,7 @@ def one_round(
         town.left,
         [*earlier, ("2025-04-07", has, lot, fresh)],
     )
-    return town, lot, has, model.read(str(before)), model.read(str(after))
+    return town, lot, has, register_of(before), register_of(after)
 
 
 def test_random_rounds_beside_the_search(tmp_path: Path) -> None:
@@ -114,7 +148,7 @@ def test_random_rounds_beside_the_search(tmp_path: Path) -> None:
     )
     for seed in range(ROUNDS):
         town, lot, has, before, after = one_round(questions, seed, tmp_path)
-        held = why.held_in(after, None)
+        held = held_in(after, None)
         again = rounds.held_again(before, after) if seed % AGAIN < 2 else None
         for number in town.children:
             found = why.explain(held, number)
@@ -186,7 +220,7 @@ def beside(
     counts[decided] += 1
 
 
-def test_an_outcome_that_is_not_of_the_data(office: Office, tmp_path: Path) -> None:
+def test_an_outcome_that_is_not_of_the_data(tmp_path: Path) -> None:
     """Outcomes that were changed by hand: a child that ranks after another has its place, which
     gives no reason; or a place stays free. On the copy from before it neither is the outcome of the
     round.
@@ -210,12 +244,12 @@ def test_an_outcome_that_is_not_of_the_data(office: Office, tmp_path: Path) -> N
     write(tmp_path / "before.db", schools, children, lists)
     filled = ": each school on its list was filled by children who rank before it there."
     no_reason = "THERE IS NO REASON: the data that the register has now give no reason"
-    cases: list[tuple[dict[int, str | None], str, str, int, int]] = [
-        ({1: "A", 2: None}, filled, "the distance decided", 0, 0),
-        ({1: None, 2: "A"}, ".", no_reason, 1, 1),
-        ({1: None, 2: None}, ": each school on its list was full.", "0 were admitted.", 0, 1),
+    cases: list[tuple[dict[int, str | None], str, str, bool]] = [
+        ({1: "A", 2: None}, filled, "the distance decided", True),
+        ({1: None, 2: "A"}, ".", no_reason, False),
+        ({1: None, 2: None}, ": each school on its list was full.", "0 were admitted.", False),
     ]
-    for outcomes, nowhere, said, status, with_copy in cases:
+    for outcomes, nowhere, part, is_of_copy in cases:
         write(
             tmp_path / "after.db",
             schools,
@@ -223,15 +257,15 @@ def test_an_outcome_that_is_not_of_the_data(office: Office, tmp_path: Path) -> N
             lists,
             draws=[("2025-03-03", outcomes, lots, {it for it in outcomes if outcomes[it]})],
         )
-        words = ("why", "after.db", "--child", "2" if outcomes[1] else "1")
-        ran = office(*words)
-        assert ran.returncode == status and said in ran.stdout, ran
-        assert f"\nThe child got no place{nowhere}\n" in ran.stdout, ran
-        assert "this is by the data that the register has now" in ran.stderr
-        ran = office(*words, "--copy", "before.db")
-        assert (ran.returncode, bool(ran.stdout)) == (with_copy, not with_copy), ran
-        assert ("before.db is not from right before draw 1 of after.db: held again, the draw has"
-                " another outcome" in ran.stderr) == bool(with_copy), ran
+        number, after = 2 if outcomes[1] else 1, tmp_path / "after.db"
+        text = said(after, number)
+        assert part in text and f"\nThe child got no place{nowhere}\n" in text
+        if is_of_copy:
+            assert said(after, number, copy=tmp_path / "before.db")
+        else:
+            with pytest.raises(Refused, match="before.db is not from right before draw 1 of"
+                               " after.db: held again, the draw has another outcome"):
+                said(after, number, copy=tmp_path / "before.db")
 
 
 def test_the_sentences_of_a_family(tmp_path: Path) -> None:
@@ -280,10 +314,10 @@ def test_the_sentences_of_a_family(tmp_path: Path) -> None:
         places=now,
         draws=[("2025-03-03", has, lots, set(has))],
     )
-    before, after = model.read(str(tmp_path / "b.db")), model.read(str(tmp_path / "a.db"))
+    before, after = register_of(tmp_path / "b.db"), register_of(tmp_path / "a.db")
     held = rounds.held_again(before, after)
     found = {it: why.explain_again(held, before, after, it) for it in children}
-    lines = list(why.lines_of(found[3], is_office=True))
+    lines = lines_of(found[3], is_office=True)
     assert lines == [
         "For the office alone: it has numbers that are not published",
         "Admission 2025 secondary, round 1 of 3 March 2025",
@@ -303,14 +337,14 @@ def test_the_sentences_of_a_family(tmp_path: Path) -> None:
             " the smaller one ranks first."
         ),
     ]
-    text = "\n".join(why.lines_of(found[5], is_office=True))
+    text = "\n".join(lines_of(found[5], is_office=True))
     assert text.endswith(
         "The last child admitted: class 2 (meeting no criterion of the school), 400 metres.\n"
         "This child: class 2 (meeting no criterion of the school), 800 metres.\n"
         "Both rank equally by the criteria, and the distance decided: the other child lives nearer"
         " to the school."
     )
-    lines = list(why.lines_of(found[3]))
+    lines = lines_of(found[3])
     assert lines[0] == "For the family of the child: small numbers are withheld" and lines[
         -1
     ].startswith("Where this says 'some', the number is withheld")
@@ -326,12 +360,12 @@ def test_the_sentences_of_a_family(tmp_path: Path) -> None:
         assert it in lines, (it, lines)
     assert not any(it.startswith("- ") for it in lines), lines
     # (a family does not know the numbers of the classes)
-    assert not any("class" in it for number in found for it in why.lines_of(found[number]))
-    assert "by its EHC plan" in "\n".join(why.lines_of(found[1]))
-    assert list(why.lines_of(found[2]))[-1] == "No school was preferred to it."
+    assert not any("class" in it for number in found for it in lines_of(found[number]))
+    assert "by its EHC plan" in "\n".join(lines_of(found[1]))
+    assert lines_of(found[2])[-1] == "No school was preferred to it."
 
 
-def test_what_a_family_does_not_read(office: Office, tmp_path: Path) -> None:
+def test_what_a_family_does_not_read(tmp_path: Path) -> None:
     """By hand. Oak has 8 places: 7 by flag 7, the farthest of them 700 metres away, and 1 looked
     after. Of 9 that want it child 20 gets none. Family and office.
     """
@@ -352,11 +386,9 @@ def test_what_a_family_does_not_read(office: Office, tmp_path: Path) -> None:
         tmp_path / "reg.db",
         [{"cmd": "round", "draw": 1, "day": "2025-03-03", "lots": list(range(10))}],
     )
-    (tmp_path / "flags.csv").write_text("7,social or medical need\n", "utf-8")
-    family = office("why", "reg.db", "--child", "20", "--flags", "flags.csv")
-    assert family.returncode == 0 and family.stdout.startswith(
-        "For the family of the child: small numbers are withheld\n"
-    ), family
+    reg = tmp_path / "reg.db"
+    family = said(reg, 20, flags={7: "social or medical need"})
+    assert family.startswith("For the family of the child: small numbers are withheld\n")
     for it in (
         (
             "The last child admitted: with a verified priority: social or medical need;"
@@ -365,15 +397,15 @@ def test_what_a_family_does_not_read(office: Office, tmp_path: Path) -> None:
         "8 were admitted.",
         "The criterion decided",
     ):
-        assert it in family.stdout, (it, family.stdout)
-    assert "700 metres" not in family.stdout and "\n- 1 " not in family.stdout
-    near = office("why", "reg.db", "--child", "21").stdout
+        assert it in family, (it, family)
+    assert "700 metres" not in family and "\n- 1 " not in family
+    near = said(reg, 21)
     assert (
         "700 metres" not in near
         and "the distance, or between equal distances the lot, decided" in near
         and "as flag 7" in near
     )
-    whole = office("why", "reg.db", "--child", "20", "--office").stdout
+    whole = said(reg, 20, is_office=True)
     assert (
         whole.startswith("For the office alone")
         and "8 were admitted:\n- 1 looked after" in whole
@@ -381,21 +413,9 @@ def test_what_a_family_does_not_read(office: Office, tmp_path: Path) -> None:
         and "700 metres" in whole
         and "some" not in whole.lower()
     )
-    for bad, said in (
-        ("16,x\n", "no flag from 0 to 15"),
-        ("x,y\n", "row 1"),
-        ("7,a\n7,b\n", "is there twice"),
-        ("7\n", "has no words"),
-    ):
-        (tmp_path / "bad.csv").write_text(bad, "utf-8")
-        ran = office("why", "reg.db", "--child", "20", "--flags", "bad.csv")
-        assert ran.returncode == 1 and said in ran.stderr and "Traceback" not in ran.stderr, (
-            bad,
-            ran,
-        )
 
 
-def test_what_was_changed_after_the_round(office: Office, tmp_path: Path) -> None:
+def test_what_was_changed_after_the_round(tmp_path: Path) -> None:
     """With the copy from before the round an admission number that was raised, a child that was
     amended and a new school leave the explanation as it was; without it, it is by the data of now.
     By hand: child 1 lives 50 metres from Oak and child 2, which has it, 10; then 5,000 metres.
@@ -415,33 +435,25 @@ def test_what_was_changed_after_the_round(office: Office, tmp_path: Path) -> Non
         tmp_path / "reg.db",
         [{"cmd": "round", "draw": 1, "day": "2025-03-03", "lots": [2, 1, 4, 3]}],
     )
-    now = ("why", "reg.db", "--child", "1", "--office")
-    then = (*now, "--copy", "before.db")
-    first = office(*now).stdout
-    assert office(*then).stdout == first and office(*then).stderr == ""
+    reg, before = tmp_path / "reg.db", tmp_path / "before.db"
+    first = said(reg, 1, True)
+    assert said(reg, 1, True, copy=before) == first
     do(tmp_path / "reg.db", [{"cmd": "raise_pan", "school": "OAK", "pan": 3}, school("ASH", pan=1)])
-    assert office(*then).stdout == first and "The school has 1 place." in first
-    assert office(*now).stdout == first.replace("has 1 place.", "has 3 places.")
+    assert said(reg, 1, True, copy=before) == first and "The school has 1 place." in first
+    assert said(reg, 1, True) == first.replace("has 1 place.", "has 3 places.")
     do(tmp_path / "reg.db", [{**child(1, east=5000), "cmd": "amend"}])
-    ran = office(*then)
+    found = said(reg, 1, True, copy=before)
     changed = (
         "The data of this child were changed after the draw: those that the draw saw are used"
         " here.\n"
     )
-    assert (
-        ran.returncode == 0
-        and ran.stdout.count(changed) == 1
-        and ran.stdout.replace(changed, "") == first
-        and "50 metres" in first
-    ), ran
-    assert "This child: class 1 (ranked by distance alone), 5,000 metres." in office(*now).stdout
+    assert found.count(changed) == 1 and found.replace(changed, "") == first
+    assert "50 metres" in first
+    assert "This child: class 1 (ranked by distance alone), 5,000 metres." in said(reg, 1, True)
     do(tmp_path / "reg.db", [{**child(1, east=5), "cmd": "amend"}])
-    ran = office(*now)
-    assert ran.returncode == 1 and ran.stdout.endswith(
+    assert said(reg, 1, True).endswith(
         "THERE IS NO REASON: the data that the register has now give no reason: those of this"
-        " child, or of one that was admitted, were changed after the draw. Name a copy from before"
-        " the draw by --copy.\n"
-    ), ran
+        " child, or of one that was admitted, were changed after the draw.\n")
     make(
         tmp_path / "other.db",
         [
@@ -458,15 +470,12 @@ def test_what_was_changed_after_the_round(office: Office, tmp_path: Path) -> Non
             {"cmd": "round", "draw": 1, "day": "2025-03-03", "lots": [2, 1]},
         ],
     )
-    ran = office("why", "other.db", "--child", "1", "--copy", "early.db")
-    assert (
-        ran.returncode == 1
-        and "early.db is not from right before draw 1 of other.db: held again, the draw has another"
-        " outcome" in ran.stderr
-    ), ran
+    with pytest.raises(Refused, match="early.db is not from right before draw 1 of other.db: held"
+                                      " again, the draw has another outcome"):
+        said(tmp_path / "other.db", 1, copy=tmp_path / "early.db")
 
 
-def test_a_plan_that_was_named_since(office: Office, tmp_path: Path) -> None:
+def test_a_plan_that_was_named_since(tmp_path: Path) -> None:
     """Of whoever has a plan since the round the register shows no class and no distance: the
     explanations of that child and of another are as they were.
     """
@@ -484,8 +493,8 @@ def test_a_plan_that_was_named_since(office: Office, tmp_path: Path) -> None:
         tmp_path / "reg.db",
         [{"cmd": "round", "draw": 1, "day": "2025-03-03", "lots": [3, 2, 1, 6, 5, 4]}],
     )
-    words = ["why", "reg.db", "--copy", "before.db", "--office", "--child"]
-    first = [office(*words, it).stdout for it in (1, 2, 3)]
+    reg, before = tmp_path / "reg.db", tmp_path / "before.db"
+    first = [said(reg, it, True, copy=before) for it in (1, 2, 3)]
     # (by hand: OAK is at 0 and ELM at 900 metres, so child 1 has OAK, and child 3 has ELM before
     # child 2)
     for it in (
@@ -496,70 +505,24 @@ def test_a_plan_that_was_named_since(office: Office, tmp_path: Path) -> None:
     ):
         assert it in first[1], first[1]
     do(tmp_path / "reg.db", [{"cmd": "name_plan", "child": it, "school": "ELM"} for it in (1, 2)])
-    shown = model.read(str(tmp_path / "reg.db"))
+    shown = register_of(reg)
     assert set(shown.applications) == {3} and shown.schools["ELM"].plans == 2
-    assert [office(*words, it).stdout for it in (1, 2, 3)] == first
+    assert [said(reg, it, True, copy=before) for it in (1, 2, 3)] == first
     # (without the copy: of child 3 all is known, also how child 1 ranked, which has a plan now)
-    ran = office("why", "reg.db", "--office", "--child", 3)
-    assert ran.returncode == 0, ran
-    assert ran.stdout.endswith(
+    assert said(reg, 3, True).endswith(
         "The last child admitted: class 1 (ranked by distance alone), 50 metres.\n"
         "This child: class 1 (ranked by distance alone), 150 metres.\n"
         "Both rank equally by the criteria, and the distance decided: the other child lives nearer"
         " to the school.\n"
-    ), ran
-    assert office("why", "reg.db", "--child", 2).stdout.splitlines()[4:] == [
+    )
+    assert said(reg, 2).splitlines()[4:] == [
         "The child got no place.",
         "Its application has ended since, by an EHC plan, so the register does not show how it"
         " ranked.",
     ]
 
 
-def test_by_the_address_of_a_register(office: Office, tmp_path: Path) -> None:
-    """The register is served: the explanation is the same. What cannot be read is named by its
-    address, and a copy is a file.
-    """
-    make(
-        tmp_path / "reg.db",
-        [
-            school("OAK", pan=1),
-            *(child(it, east=50 * it) for it in (1, 2)),
-            *(apply(it, ["OAK"]) for it in (1, 2)),
-        ],
-    )
-    shutil.copy(tmp_path / "reg.db", tmp_path / "before.db")
-    do(tmp_path / "reg.db", [{"cmd": "round", "draw": 1, "day": "2025-03-03", "lots": [2, 1]}])
-    first = office("why", "reg.db", "--child", "2")
-    assert first.returncode == 0 and "50 metres" in first.stdout
-    with served(tmp_path / "reg.db") as (after, run):
-        for more in ((), ("--user", "jane"), ("--copy", "before.db")):
-            ran = office("why", after, "--child", "2", *more, stdin="secret\n")
-            assert (ran.returncode, ran.stdout) == (0, first.stdout), (more, ran)
-        assert (
-            "in use: name the address at which it is served"
-            in office("why", "reg.db", "--child", "2").stderr
-        )
-        ran = office("why", after, "--child", "2", "--copy", after)
-        assert (ran.returncode, ran.stderr) == (
-            1,
-            f"admissions-why: {after} has no draw 2: {after} has 1, and there is none more\n",
-        ), ran
-        run.terminate()
-        run.wait()
-        ran = office("why", after, "--child", "2")
-        assert (
-            ran.returncode == 1
-            and ran.stderr.startswith(f"admissions-why: {after} cannot be read: no connection: ")
-            and ran.stderr.count("\n") == 1
-        ), ran
-    ran = office("why", "reg.db", "--child", "2", "--user", "jane")
-    assert (ran.returncode, ran.stderr) == (
-        2,
-        "admissions-why: --user needs the address at which a register is served\n",
-    ), ran
-
-
-def test_schools_that_were_left(office: Office, tmp_path: Path) -> None:
+def test_schools_that_were_left(tmp_path: Path) -> None:
     """By hand. Oak and Elm have 1 place each, that of Elm by a plan. Child 1 lives nearest: it
     declines Oak and leaves the list of Elm, and in round 2 child 2 has Oak, which ranks after it.
     Child 5 leaves Elm and is refused at Oak. No sentence says that a school that was left was
@@ -593,7 +556,7 @@ def test_schools_that_were_left(office: Office, tmp_path: Path) -> None:
         "The child took no part there, as its family had left the waiting list there.",
         "",
     ]
-    assert office("why", "reg.db", "--child", "1").stdout.splitlines() == [
+    assert said(tmp_path / "reg.db", 1).splitlines() == [
         "For the family of the child: small numbers are withheld",
         "Admission 2025 secondary, round 2 of 7 April 2025",
         "Child 1 Child 1",
@@ -607,7 +570,7 @@ def test_schools_that_were_left(office: Office, tmp_path: Path) -> None:
             " answered its offer in time."
         ),
     ]
-    other = office("why", "reg.db", "--child", "5").stdout.splitlines()
+    other = said(tmp_path / "reg.db", 5).splitlines()
     assert (
         other[4]
         == "The child got no place: each school on its list at which it took part was filled by"
@@ -659,12 +622,12 @@ def test_a_draw_as_its_document_has_it() -> None:
         assert found.lots == {("A", 1): 7, ("A", 2): 5}
         assert found.cutoffs == {"A": model.Cutoff(number=2, metres=300, lot=5)}
         assert found.refusals == {("A", 1): wanted}
-    said = r"reg.db: the program shows another document than this command reads \(ValueError\('age'"
-    with pytest.raises(Refused, match=said):
+    with pytest.raises(Refused, match="reg.db: the program shows another document than is read"
+                       r" here \(ValueError\('age'"):
         model.drawn_in("reg.db", (text % '"age"').encode())
 
 
-def test_a_fill_is_explained(office: Office, tmp_path: Path) -> None:
+def test_a_fill_is_explained(tmp_path: Path) -> None:
     """By hand. Oak has 2 places, of which 5 with a sibling and 1, the nearest, have one. 1 declines
     it, and the fill offers it to 2, as near as 3 and with a smaller lot; 4 lives farther. To a
     family nothing points to child 2, and nothing at all where that has a flag, as in the next fill.
@@ -691,8 +654,8 @@ def test_a_fill_is_explained(office: Office, tmp_path: Path) -> None:
     shutil.copy(reg, tmp_path / "before.db")
     fill = {"cmd": "fill", "draw": 2, "school": "OAK", "day": "2025-04-14"}
     do(reg, [{**fill, "lots": [7, 9, 1, 3]}])
-    ran = office("why", "reg.db", "--draw", 2, "--child", 3, "--office")
-    assert ran.stdout.splitlines() == [
+    found = said(reg, 3, True, 2)
+    assert found.splitlines() == [
         "For the office alone: it has numbers that are not published",
         "Admission 2025 secondary, fill of a vacancy at OAK School (OAK) of 14 April 2025, draw 2",
         "Child 3 Child 3",
@@ -706,10 +669,9 @@ def test_a_fill_is_explained(office: Office, tmp_path: Path) -> None:
         "This child: class 3 (meeting no criterion of the school), 200 metres, lot 9.",
         "A vacancy is offered to the one that ranks first of those who wait: by the criteria, then"
         " by the distance, and between equal distances by the lot.",
-    ], ran
-    again = office("why", "reg.db", "--copy", "before.db", "--child", 3, "--office")
-    assert again.stdout == ran.stdout and again.stderr == ""
-    assert office("why", "reg.db", "--draw", 2, "--child", 3).stdout.splitlines()[6:] == [
+    ]
+    assert said(reg, 3, True, copy=tmp_path / "before.db") == found
+    assert said(reg, 3, draw=2).splitlines()[6:] == [
         "OAK School (OAK), first preference: no place.",
         "Some children waited for the vacancy, this child among them.",
         "The child that was offered the place: meeting no criterion of the school.",
@@ -719,13 +681,12 @@ def test_a_fill_is_explained(office: Office, tmp_path: Path) -> None:
         "",
         why.MEANING,
     ]
-    said = {
+    sentences = {
         1: "The child did not wait at OAK School (OAK) when the vacancy was filled.",
         2: "The child was offered OAK School (OAK), its first preference.",
     }
-    for number, sentence in said.items():
-        ran = office("why", "reg.db", "--draw", 2, "--child", number)
-        assert (ran.returncode, ran.stdout.splitlines()[4:]) == (0, [sentence]), ran
+    for number, sentence in sentences.items():
+        assert said(reg, number, draw=2).splitlines()[4:] == [sentence]
     do(
         reg,
         [
@@ -734,16 +695,15 @@ def test_a_fill_is_explained(office: Office, tmp_path: Path) -> None:
             {**fill, "draw": 3, "lots": [9, 7, 3]},
         ],
     )
-    ran = office("why", "reg.db", "--draw", 3, "--child", 3)
-    assert "offered the place:" not in ran.stdout and "This child: meeting no" in ran.stdout, ran
-    ran = office("why", "reg.db", "--child", 6)
-    assert ran.stdout.splitlines()[4:] == [
+    found = said(reg, 3, draw=3)
+    assert "offered the place:" not in found and "This child: meeting no" in found
+    assert said(reg, 6).splitlines()[4:] == [
         "The application of 20 November 2024 came after the closing date, 31 October 2024, and"
         " took no part in the first round."
-    ], ran
+    ]
 
 
-def test_with_the_program(office: Office, tmp_path: Path) -> None:
+def test_with_the_program(tmp_path: Path) -> None:
     """A round of the program, and what is refused."""
     make(
         tmp_path / "reg.db",
@@ -755,30 +715,21 @@ def test_with_the_program(office: Office, tmp_path: Path) -> None:
             apply(2, ["OAK"]),
         ],
     )
-    assert office("backup", "reg.db", "before.db").returncode == 0
-    do(tmp_path / "reg.db", [{"cmd": "round", "draw": 1, "day": "2025-03-03", "lots": [2, 1]}])
-    ran = office("why", "reg.db", "--child", "1")
-    assert (
-        ran.returncode == 0 and "50 metres" in ran.stdout and "the distance decided" in ran.stdout
-    ), ran
-    do(tmp_path / "reg.db", [{**child(3), "cmd": "add_child"}, apply(3, ["OAK"])])
-    for words, text in (
-        (["before.db", "--child", "1"], "before.db had no round yet"),
-        (["before.db", "--child", "1", "--draw", "1"], "before.db has no draw 1"),
-        (["reg.db", "--child", "9"], "reg.db has no child 9"),
-        (["reg.db", "--child", "1", "--copy", "reg.db"], "reg.db has no draw 2"),
-        (["reg.db", "--child", "1", "--copy", "before.db", "--draw", "2"],
-         "before.db is not from right before draw 2"),
-        (["reg.db", "--child", "3", "--copy", "before.db"], "before.db has no child 3"),
-        (["none.db", "--child", "1"], "No such file"),
-    ):
-        ran = office("why", *words)
-        assert ran.returncode == 1 and text in ran.stderr and ran.stderr.count("\n") == 1, ran
-    ran = office("why", "reg.db", "--child", "3")
-    assert ran.stdout.splitlines()[4:] == [
-        "The application of 20 October 2024 was recorded after the round, and took no part in it."
-    ], ran
-    assert office("why", "reg.db").returncode == 2
+    reg, before = tmp_path / "reg.db", tmp_path / "before.db"
+    shutil.copy(reg, before)
+    do(reg, [{"cmd": "round", "draw": 1, "day": "2025-03-03", "lots": [2, 1]}])
+    found = said(reg, 1)
+    assert "50 metres" in found and "the distance decided" in found
+    do(reg, [{**child(3), "cmd": "add_child"}, apply(3, ["OAK"])])
+    refused: list[tuple[Path, int, Path | None, str]] = [
+        (before, 1, None, "before.db had no round yet"), (reg, 9, None, "reg.db has no child 9"),
+        (reg, 1, reg, "reg.db has no draw 2"), (reg, 3, before, "before.db has no child 3"),
+    ]
+    for path, number, copy, text in refused:
+        with pytest.raises(Refused, match=text):
+            said(path, number, copy=copy)
+    assert said(reg, 3).splitlines()[4:] == [
+        "The application of 20 October 2024 was recorded after the round, and took no part in it."]
 
 
 @pytest.mark.parametrize(
@@ -787,8 +738,8 @@ def test_with_the_program(office: Office, tmp_path: Path) -> None:
 def test_the_example_season(
     tools: Path, season: Path, number: int, first: str, second: str
 ) -> None:
-    """Both rounds of the example: all that admissions-audit says of each child that a school turned
-    away, why says too.
+    """Both rounds of the example: all that the audit says of each child that a school turned away
+    is said of it here too.
     """
     ran = subprocess.run(
         [tools / "admissions-audit", season / first, season / second],
@@ -797,7 +748,7 @@ def test_the_example_season(
         check=False,
     )
     assert ran.returncode == 0
-    after = model.read(str(season / second))
+    after = register_of(season / second)
     held = rounds.of_register(after, number)
     code, checked = None, 0
     found: dict[int, why.Why] = {}

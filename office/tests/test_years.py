@@ -114,7 +114,7 @@ class Season:
         assert rows_of(self.office, self.tables) == self.kept
         assert self.history.read_bytes() == self.lines
         assert [it.what for it in history.read(str(self.history))] == [SENDS, ANSWER]
-        found = model.read_stored(str(self.file), str(PROGRAM))
+        found = model.read_stored(str(self.file), PROGRAM, "the register")
         assert len(found.children) == CHILDREN[self.name]
 
 

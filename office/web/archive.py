@@ -3,7 +3,6 @@ says what is what, with the digest of each part.
 """
 from __future__ import annotations
 
-import argparse
 import contextlib
 import dataclasses
 import datetime
@@ -18,7 +17,7 @@ from typing import TYPE_CHECKING, Any
 
 from register_files import Refused
 
-from office import book, query, texts, worklists
+from office import book, texts, worklists
 from office.book import Page
 from office.model import Register
 from office.register_lists import Rows
@@ -74,7 +73,7 @@ def folder_of(parts: Parts) -> pathlib.Path:
 def lists_of(register: Register, day: datetime.date) -> bytes:
     """All lists as a workbook."""
     title = f"Admission {register.year} {register.phase}, last copy"
-    return book.data(query.all_lists(register, argparse.Namespace(day=day)), title)
+    return book.data(worklists.pages(register, day), title)
 
 
 def draws_of(register: Register) -> Iterator[Page]:
@@ -225,7 +224,7 @@ def content(parts: Parts, copy: int, day: datetime.date) -> Iterator[tuple[str, 
     yield "history.jsonl", "the history: who did what, by lines", data
     yield "history-check.txt", "the check of the history", f"{said}\n".encode()
     yield ("people.csv", "the people and programs with their roles, without passwords and tokens",
-           query.csv_text(people_rows(parts.store), True).encode())
+           worklists.csv_text(people_rows(parts.store)).encode())
     yield from of_store(parts.store)
 
 

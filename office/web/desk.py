@@ -244,9 +244,7 @@ class Desk:
         """The document of the register."""
         status, document = self.asked("/register")
         if status != 200:
-            said = commands.read(document)
-            reason, _ = senders.refusal(status, said if isinstance(said, dict) else {})
-            raise Away(f"the register cannot be read now: {reason}")
+            raise Away(f"the register cannot be read now: {senders.refusal(status)}")
         return document
 
     def register(self) -> Register:

@@ -10,7 +10,7 @@ from collections.abc import Callable, Iterator
 
 from register_files import Refused
 
-from office import lot_sheets, next_draw, texts
+from office import lot_sheets, texts
 from office.model import Pair, Register
 
 from . import draws_again, draws_checks, draws_second, effects
@@ -145,10 +145,10 @@ class Draws(DrawStore):
         sealed, pairs = {it.pair for it in sheet.rows}, set(self.pairs(draw))
         if gone := sealed - pairs:
             raise Refused(f"the register has changed: it wants no lot any more for"
-                          f" {next_draw.named(gone)}. {GIVE_UP}")
+                          f" {lot_sheets.in_words(gone)}. {GIVE_UP}")
         if new := pairs - sealed:
             raise Refused(f"the register has changed: it wants a lot also for"
-                          f" {next_draw.named(new)}. {GIVE_UP}")
+                          f" {lot_sheets.in_words(new)}. {GIVE_UP}")
         self.unchanged(draw)
 
     @contextlib.contextmanager

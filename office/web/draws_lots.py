@@ -134,12 +134,12 @@ def typed_lot(text: str) -> str:
 
 
 def errors_of_sheet(
-    name: str, pairs: Iterable[Pair], rows: Iterable[tuple[int, list[str]]]
+    pairs: Iterable[Pair], rows: Iterable[tuple[int, list[str]]]
 ) -> tuple[dict[Pair, int], list[str]]:
     """The lots of an uploaded sheet, and each error with its row. Pairs that it lacks are no error:
     their lots are still to be drawn.
     """
-    filled = lot_sheets.Filled(name, list(pairs))
+    filled = lot_sheets.Filled(list(pairs))
     wrong = [f"row {at} {said}" for at, cells in rows
              if (said := filled.add(at, cells)) and not is_empty(cells)]
     return filled.lots, wrong

@@ -17,7 +17,7 @@ from typing import Any
 
 from register_files import Refused
 
-from office import days, inputs, letter_fields, letters, letters_apart, printed, texts
+from office import days, inputs, letter_fields, letters_apart, printed, texts
 from office.letter_fields import Letter, Writer
 from office.letters_apart import Form, Running
 from office.model import Register
@@ -382,7 +382,7 @@ class Sets:
                 if self.desk.read(True)[1] != document:
                     raise Refused("the register was changed while its letters were read: make them"
                                   " again")
-            letters.compare(made, proved)
+            printed.compare(made, proved)
             rows = self.rows(register, found.asked, made)
             draws = {announced(register, it) for it in children} - {None}
             is_draft = bool(draws - self.audits.agreed(register))
@@ -470,7 +470,7 @@ class Sets:
         lengths = range(1, max(len(it[3:]) for it in rows) + 1)
         addresses = {one.child: [*it[3:], *[""] * (len(lengths) - len(it[3:]))]
                      for one, it in zip(made, rows)}
-        header, *lines = letters.merge_rows(
+        header, *lines = letter_fields.merge_rows(
             made, [f"address_{it}" for it in lengths], addresses)
         draft = letters_apart.DRAFT if found.is_draft else ""
         cells = [["draft", *header], *([draft, *it] for it in lines)]

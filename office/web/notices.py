@@ -94,7 +94,7 @@ def command_of(kind: str, child: int, school: str, day: datetime.date) -> Comman
 def due(register: Register, kind: str, day: datetime.date) -> list[Due]:
     """What is due on a day."""
     options = {"day": day}
-    worklists.see(register, LISTS[kind], options)
+    worklists.see_day(register, day)
     header, *rows = worklists.rows_of(register, LISTS[kind], options)
     found = []
     for row in rows:

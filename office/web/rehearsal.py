@@ -13,7 +13,7 @@ from typing import Any, Self
 import register_files as files
 from register_files import Refused
 
-from office import audit, audit_rows, commands, draw_lists, model, next_draw
+from office import audit, audit_rows, commands, draw_lists, lot_sheets, model
 from office.model import Register
 
 from . import plain
@@ -140,7 +140,7 @@ class Rehearsal:
         register = self.registers[-1]
         pairs = self.terms.pairs_in(register)
         if missing := set(pairs) - set(self.lots):
-            self.found.wrong.append(f"no lot was sealed for {next_draw.named(missing)}")
+            self.found.wrong.append(f"no lot was sealed for {lot_sheets.in_words(missing)}")
             return
         command = self.terms.command(at, [self.lots[it][at] for it in pairs])
         file = self.taken(pathlib.Path(self.files[-1]), f"after-{at + 1}.db")

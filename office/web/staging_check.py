@@ -1,4 +1,4 @@
-"""The check of the staging table: what admissions-check finds in its rows, each of which is read
+"""The check of the staging table: what is found in its rows, each of which is read
 once in each of its versions; which rows may be of one child; and which the register has.
 """
 import dataclasses
@@ -15,7 +15,6 @@ from . import points
 from .staging_rows import Staged
 
 SAME_NUMBER, ALIKE = "the same number", "a similar name at the same home, or nearby"
-UK_DAYS = "if all days of the file are day/month/year, say so in the list of files"
 # what a program writes that cannot write a letter
 LOST = re.compile(r"\w\?|\?\w")
 IS_LOST = "is the question mark a letter that was lost? Take the name from the form again"
@@ -197,9 +196,8 @@ def too_many(new: int, register: Register) -> str:
 
 def said(finding: Finding) -> str:
     """A finding as it is shown beside its cell."""
-    text = finding.text.replace(fields.UK_DAYS, UK_DAYS)
     if finding.kind == ERROR and finding.column:
-        return f"expected {text}"
+        return f"expected {finding.text}"
     if finding.kind == FIXED and finding.written is not None:
         return f"read as {texts.shown(finding.written)}"
-    return text
+    return finding.text

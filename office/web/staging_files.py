@@ -89,7 +89,7 @@ def with_points(found: sheet.Sheet) -> sheet.Sheet:
 
 def rows_of(name: str, found: sheet.Sheet) -> Read:
     """The rows of a sheet. One whose header is wrong is refused: no row of it can be told."""
-    reading = Check(found, None, False)
+    reading = Check(found)
     below = reading.rows_below()
     last = reading.header.number if reading.header else 0
     wrong = [it for it in reading.findings if it.kind == ERROR and (it.row <= last or not last)]

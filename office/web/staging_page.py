@@ -85,7 +85,8 @@ def columns() -> list[tuple[str, str]]:
 
 def asks_for_uk(finding: Finding) -> bool:
     """Whether a day has two readings."""
-    return finding.kind == ERROR and fields.UK_DAYS in finding.text
+    return (finding.kind == ERROR and finding.column == "day"
+            and fields.has_two_readings(finding.value))
 
 
 def uk_files(table: Table) -> set[int]:

@@ -46,7 +46,6 @@ UNSEALED = {
     True: "{} was given up before its lots were sealed: those of this child were seen by the"
           " supervisor alone, and are not in this.",
 }
-NO_OFFICE = "What the application keeps, and the history, were not read: no folder was named."
 NAMED = re.compile(r"\bchild (\d+)\b", re.I)
 # a form has no file, and a row is one of a file
 FORM = ""
@@ -308,23 +307,17 @@ def known_of(store: Rows, number: int) -> Known:
 
 
 def held(
-    register: Register, number: int, at: str, office: tuple[Rows, Sequence[Entry]] | None
+    register: Register, number: int, at: str, store: Rows, entries: Sequence[Entry]
 ) -> dict[str, Any]:
-    """All that is held of a child at a moment, by where it is. The application's file and history
-    may be missing, which is said.
-    """
-    found: dict[str, Any] = {
+    """All that is held of a child at a moment, by where it is."""
+    known = known_of(store, number)
+    entries_of = list(of_history(entries, known))
+    sent = (it["entry"] for it in entries_of if it["what"] == SENDS)
+    return {
         "child": number, "made": at, "register": of_register(register, number),
-        "elsewhere": [*ELSEWHERE, *(() if office else (NO_OFFICE,))], "history": [], "office": {},
+        "elsewhere": [*ELSEWHERE, *unsealed(store, number)], "history": entries_of,
+        "office": of_tables(store, known, sent),
     }
-    if office:
-        store, entries = office
-        known = known_of(store, number)
-        found["elsewhere"] += unsealed(store, number)
-        found["history"] = list(of_history(entries, known))
-        sent = (it["entry"] for it in found["history"] if it["what"] == SENDS)
-        found["office"] = of_tables(store, known, sent)
-    return found
 
 
 def text_of(found: Mapping[str, Any]) -> str:

@@ -11,8 +11,6 @@ from office.register_lists import Cell, Rows
 
 from .wording import NOT_A_DAY, day_of, draw_in_words, weekday
 
-# those that are lines for a terminal
-ELSEWHERE = ("amend",)
 TITLES = {
     "child": "Schools of one child", "children": "All children", "draws": "Rounds and fills",
     "equal-at-limit": "Where only the lot decided", "find": "Children by name",
@@ -24,9 +22,7 @@ TITLES = {
     "season": "Days and counts", "unplaced": "Children without a place",
     "vacancies": "Places of each school",
 }
-NAMES = [it for it in worklists.WORKLISTS if it not in ELSEWHERE]
-# those that are a file of a terminal, or that another option includes
-NO_OPTIONS = {"moved": ("before", "round")}
+NAMES = list(worklists.WORKLISTS)
 LABELS = {"day": "Day", "draw": "Draw", "round": "Round", "school": "School",
           "child": "Number of the child", "text": "Name"}
 # the options that are typed, each with how it is
@@ -58,15 +54,8 @@ def title(name: str) -> str:
 
 
 def purpose(name: str) -> str:
-    """What a list says, without what is for a terminal."""
-    text = re.sub(r" \(--[^)]*\)", "", worklists.WORKLISTS[name].purpose)
-    return re.sub(r"; with the copy .*", "", text)
-
-
-def taken(name: str) -> list[str]:
-    """The options of a list."""
-    options = worklists.WORKLISTS[name].taken
-    return [it for it in options if it not in NO_OPTIONS.get(name, ())]
+    """What a list says."""
+    return worklists.WORKLISTS[name].purpose
 
 
 def choices(register: Register, name: str) -> tuple[tuple[str, str], ...]:
@@ -90,7 +79,7 @@ def options(
     """
     found: list[Option] = []
     values: dict[str, Any] = {}
-    for it in taken(name):
+    for it in worklists.WORKLISTS[name].taken:
         text, can_be, wrong = given.get(it, "").strip(), choices(register, it), ""
         words = dict(can_be).get(text, "")
         if it == "day":
@@ -120,7 +109,7 @@ def child_of(register: Register, text: str) -> tuple[int, str]:
 
 def is_whole(name: str, found: list[Option], values: Mapping[str, Any]) -> bool:
     """Whether a list can be made of these values."""
-    return not any(it.wrong for it in found) and not worklists.unfit(name, values)
+    return not any(it.wrong for it in found) and worklists.is_whole(name, values)
 
 
 def rows_of(

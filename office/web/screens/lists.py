@@ -12,7 +12,8 @@ from register_files import Refused
 from werkzeug.datastructures import MultiDict
 from werkzeug.wrappers import Response
 
-from office import book, query
+from office import book
+from office import worklists as office_worklists
 from office.book import Page
 from office.model import Register
 from office.register_lists import Cell, Rows
@@ -262,7 +263,7 @@ def workbook(name: str) -> Response:
 def csv(name: str) -> Response:
     """The same as CSV for a spreadsheet."""
     headers = {"Content-Disposition": f'attachment; filename="{name}.csv"'}
-    return flask.Response(query.csv_text(whole(name).rows, True), mimetype="text/csv",
+    return flask.Response(office_worklists.csv_text(whole(name).rows), mimetype="text/csv",
                           headers=headers)
 
 

@@ -2,9 +2,7 @@
 decide nothing, and the seal.
 """
 import contextlib
-import pathlib
 import re
-import tempfile
 from collections.abc import Container, Sequence
 from typing import Any
 
@@ -228,7 +226,7 @@ def upload(number: int) -> Answer:
         if other := [it for it in draws if it != str(of)]:
             raise Refused(f"the file has lots of draw {texts.shown(other[0])}, and draw {of} is"
                           " chosen under 'Lots of'")
-        lots, errors = errors_of_sheet(draws_sheet.NAME, [it.pair for it in sheet.rows], rows)
+        lots, errors = errors_of_sheet([it.pair for it in sheet.rows], rows)
         if errors:
             count = texts.count(len(errors), "error")
             return sheet_page(number, reason=f"Nothing was taken: {count} in the file.",
@@ -252,11 +250,8 @@ def sheet_file(number: int, kind: str) -> flask.Response:
     if not 0 <= fill < draw.terms.fills:
         flask.abort(404)
     of = draw.terms.first + fill
-    with tempfile.TemporaryDirectory(prefix="admissions-") as room:
-        path = pathlib.Path(room, f"lots.{kind}")
-        lot_sheets.write(str(path), [it.pair for it in sheet.rows],
-                         draw=of if draw.terms.fills > 1 else None)
-        data = path.read_bytes()
+    data = lot_sheets.data(kind == "xlsx", [it.pair for it in sheet.rows],
+                           of if draw.terms.fills > 1 else None)
     answer = flask.Response(data, mimetype=KINDS[kind])
     name = f"lots-{of}.{kind}"
     answer.headers["Content-Disposition"] = f"attachment; filename={name}"

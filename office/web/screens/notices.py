@@ -96,7 +96,7 @@ def choose_page(
         try:
             found, marks = notices.due(register, kind, day), marks_of(register)
         except Refused as error:
-            wrong = sentence(str(error).partition(";")[0])
+            wrong = sentence(str(error))
     # (at first the reminders without an answer are ticked)
     tick = given.get("tick", "first" if kind == REMIND else "none")
     picked = choices.picked(given) if "ticked" in given else None

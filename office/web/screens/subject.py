@@ -22,7 +22,7 @@ def held(number: int, form: str) -> Response:
     found.notes.record(person(), PRINTED, number)
     with found.history.lock:
         entries = list(found.history.entries)
-    made = subject.held(register, number, now(), (found.store, entries))
+    made = subject.held(register, number, now(), found.store, entries)
     media, text_of = FORMS[form]
     headers = {"Content-Disposition": f'attachment; filename="child-{number}-held.{form}"',
                "Content-Security-Policy": SHUT}
