@@ -5,7 +5,6 @@ before the step or after it.
 import contextlib
 import datetime
 import json
-import re
 from collections.abc import Callable, Iterator
 
 from register_files import Refused
@@ -45,18 +44,6 @@ class Draws(DrawStore):
         super().__init__(store, record)
         self.desk, self.copies = desk, copies
         self.today: Callable[[], datetime.date] = datetime.date.today
-
-    @contextlib.contextmanager
-    def turn(self, number: int, seen: int, *states: str) -> Iterator[Draw]:
-        """The same. Officers read the errors, to whom the path of a copy says nothing."""
-        try:
-            with super().turn(number, seen, *states) as draw:
-                yield draw
-        except Refused as error:
-            said = re.sub(rf"{re.escape(str(self.copies.folder))}/[^\s:]+", "the copy", str(error))
-            if said == str(error):
-                raise
-            raise Refused(said) from error
 
     # the steps before the lots
 
