@@ -8,7 +8,7 @@
 #   make build    the proved program, at bin/admissions
 #   make demo     the examples, run and compared with what they must print
 #   make cases    the cases, the same way; they take seconds once the program is built
-#   make test     every proof, mutants, tests, examples, cases and the tests of the office's commands and the deployment; its last line is 'N passed, M failed'
+#   make test     every proof, mutants, tests, examples, cases and the tests of the application and the deployment; its last line is 'N passed, M failed'
 #   make reference     the definitions, public functions, clauses, mutants and files, as linked pages and one text, at out/reference; needs python3-jinja2, graphviz
 #   make evidence  what an auditor takes away, at out/evidence: each sentence promised, its clauses, what they assume, and verdicts; LOG=.. names logs of `make test`
 #                 and `make mutants`; needs git, python3-jinja2, graphviz
@@ -19,7 +19,7 @@
 #   make laws     the rounds of all small problems and of drawn ones by a search over all allocations, what match_runs must print of them, and each law of a
 #                 round tried on them; some minutes
 #   make audits   admissions-audit on the rounds and fills of 200 random registers, on files changed by hand, and on all allocations of small ones
-#   make office   the tests of the office's commands (office/tests) alone, with the built program; needs python3-pytest, python3-pytest-xdist, poppler-utils, and what cases need
+#   make office   the tests of the application (office/tests) alone, with the built program; needs python3-pytest, python3-pytest-xdist, poppler-utils, and what cases need
 #   make races    a restore beside which a program starts at 300 random moments; restore and backup with a program started before each operation, killed, failing, without power; some minutes
 #   make costs    what each part of the last `make test` here took; and the CPU seconds of each crate's proof in the last build, with the longest chain of crates
 #   make bench    the aims for the costs, beside the measured costs, as one page, which it writes to bench/RESULTS.md; some minutes once the program is built

@@ -32,8 +32,8 @@ Ran = subprocess.CompletedProcess[str]
 
 
 class Office(Protocol):
-    """Runs a command in the folder of a test: office("check", "a.csv"). It returns its status,
-    output and errors. The command "" is the program.
+    """Runs a command in the folder of a test: office("audit", "a.db", "b.db"). It returns its
+    status, output and errors. The command "" is the program.
     """
 
     def __call__(self, name: str, *given: object, stdin: str | None = None,
