@@ -163,6 +163,15 @@ def press(browser: Any, path: str, page: Page, button: str, **given: Any) -> Any
     return browser.get(found.location) if "typed=" in (found.location or "") else found
 
 
+TASK = re.compile(r"<li>\s*<div>(.*?)<p class=\"hint\"[^>]*>(.*?)</p>.*?"
+                  r"<div class=\"state\"[^>]*>(.*?)</div>", re.S)
+
+
+def plain(text: str) -> str:
+    """The words of a piece of a page."""
+    return html.unescape(re.sub(r"<[^>]*>|\s+", " ", text)).strip()
+
+
 def tasks(text: str) -> dict[str, list[tuple[str, str, str]]]:
     """What the first screen has to do: by group the titles with their states and hints."""
     part = text[text.index('id="to-do"'):].split("</section>")[0]
@@ -170,7 +179,5 @@ def tasks(text: str) -> dict[str, list[tuple[str, str, str]]]:
     for group in part.split('<h3 class="group">')[1:]:
         title, _, rows = group.partition("</h3>")
         found[title] = [
-            tuple(html.unescape(re.sub(r"<[^>]*>|\s+", " ", it)).strip() for it in row)
-            for row in re.findall(r"<li>\s*<div>(.*?)<p class=\"hint\"[^>]*>(.*?)</p>.*?"
-                                  r"<div class=\"state\"[^>]*>(.*?)</div>", rows, re.S)]
+            (plain(words), plain(hint), plain(state)) for words, hint, state in TASK.findall(rows)]
     return found

@@ -43,8 +43,11 @@ def refusals() -> str:
 
 
 def captioned(before: str) -> str:
-    """The begin of a table, which is called as the last heading before it."""
-    return f'<div class="wide"><table><caption>{HEADING.findall(before)[-1]}</caption>'
+    """The begin of a table, which is called as the last heading before it, and scrolls alone."""
+    title = HEADING.findall(before)[-1]
+    name = re.sub("<[^>]*>", "", title)
+    return (f'<div class="region" role="region" aria-label="{name}" tabindex="0"><table>'
+            f'<caption>{title}</caption>')
 
 
 @functools.cache
