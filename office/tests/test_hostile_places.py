@@ -74,6 +74,7 @@ TEXTS: dict[str, set[str]] = {
     "letters.take_back": {"reason"},
     "lists.remove": set(),
     "lists.save": {"query", "title"},
+    "lists.ticked": {"query", "row", "to", "page"},
     "lots.save": {"to"},
     "lots.seal": {"seen", "digest"},
     "lots.seed": {"seed"},
