@@ -58,9 +58,9 @@ def test_a_child_is_shown_with_its_place_its_list_and_its_data(office: Site) -> 
         "The child was offered a place at Beta on 3 March 2025. There is no answer yet.")
     assert page.by_id["deadline"] == "A reminder is due from 18 March 2025 on."
     assert page.tables["list"][1:] == [
-        ["1", "A Alpha", "waits, position 1 of 2", "ranked by distance alone", "300",
+        ["1. A Alpha", "waits, position 1 of 2", "ranked by distance alone 300 metres",
          "ranked by distance alone 200 metres", "The last child admitted lives 100 metres nearer."],
-        ["2", "B Beta", "offered", "ranked by distance alone", "300",
+        ["2. B Beta", "offered", "ranked by distance alone 300 metres",
          "ranked by distance alone 300 metres", ""]]
     assert page.tables["map-table"][1:] == [["A", "300"], ["B", "300"]]
     assert page.buttons() == []
@@ -183,7 +183,7 @@ def test_a_withdrawal_needs_a_reminder(office: Site, monkeypatch: pytest.MonkeyP
     found = press(jane, path, page, "Withdraw the offer of Beta from Cyd <b>Cole</b>")
     assert found.status_code == 303 and 3 not in office.parts.desk.now().places
     # (as the button and the letters call it)
-    assert Page(jane.get("/children/3").text).tables["list"][2][2] == "offer withdrawn"
+    assert Page(jane.get("/children/3").text).tables["list"][2][1] == "offer withdrawn"
 
 
 def test_the_last_day_of_an_answer_is_said_before_a_reminder_and_a_withdrawal(
@@ -282,7 +282,7 @@ def test_what_a_colleague_did_is_named(office: Site) -> None:
     assert [it[1:] for it in history.tables["history"][1:]] == [
         ["jane", "declined the place at A", "done"], ["bo", "accepted the place at A", "done"],
         ["", "round 1, 3 March 2025", "offered the place at A"]]
-    assert history.tables["list"][1][2] == "declined"
+    assert history.tables["list"][1][1] == "declined"
 
 
 def test_a_draw_that_gave_a_place_is_named(office: Site) -> None:
