@@ -336,5 +336,5 @@ def test_the_page_of_a_set_is_looked_at_again(office: Site) -> None:
     sets.wake = lambda: None
     path = jane.post("/letters/make", asked(jane, "offers", "1", child=["1"])).location
     page = jane.get(path).text
-    assert f'<div id="set" data-running="{path}">' in page
+    assert f'id="set" data-running="{path}">' in page
     assert f'<a href="{path}">Look again</a>' in page

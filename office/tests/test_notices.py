@@ -378,7 +378,7 @@ def test_a_row_that_runs_says_so_while_the_register_is_away(
     row = confirmed(jane, shown(jane, "remind", "18 March 2025", [2, 3])).location
     monkeypatch.setattr(office.parts.desk, "register", away)
     page = jane.get(row)
-    assert page.status_code == 200 and f'<div id="row" data-running="{row}">' in page.text
+    assert page.status_code == 200 and f'id="row" data-running="{row}">' in page.text
     assert "0 of 2 reminders recorded. The rest is being recorded" in page.text
     may_end.set()
     office.app.extensions["notices"].running[int(row.rsplit("/", 1)[1])].join(600)
