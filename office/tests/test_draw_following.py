@@ -290,7 +290,7 @@ def test_long_work_says_that_it_runs(small: Machine, monkeypatch: pytest.MonkeyP
             assert f'data-running="/draws/{number}"' in page and "begun by hal" in page
             assert "the draw is held, and then audited." in page
             assert "Audit draw 1</button>" not in page and "Ask to restore" not in page
-            assert "is in progress, and a step of it runs now." in who.browser.get("/").text
+            assert "Draw 1: a round. A step of it runs now." in who.browser.get("/").text
         found = jane.press(number, seen, "go-on")
         assert found.status_code == 409 and "A step is under way, which hal began" in found.text
         may_end.set()

@@ -44,9 +44,9 @@ class Task:
 @dataclasses.dataclass(frozen=True)
 class Known:
     """What the application knows beside the register, as far as this person may do something about
-    it: the draw in progress and its next step; how many letters of each draw are not recorded as
-    sent; how many answers wait in the person's pile, and rows of applications in the table; what
-    only a head has to do.
+    it: the draw in progress and its next step, in a sentence; how many letters of each draw are not
+    recorded as sent; how many answers wait in the person's pile, and rows of applications in the
+    table; what only a head has to do.
     """
 
     draw: Draw | None = None
@@ -104,7 +104,7 @@ def of_draw(known: Known) -> Iterator[Task]:
         elif known.draw.state == LOTS:
             said += " The supervisor can draw the lots now."
         elif known.next_step:
-            said += f" Next: {known.next_step}."
+            said += f" {known.next_step}"
         yield Task(f"Go on with {known.draw.terms.numbers}", said, "In progress", WAITING,
                    "draws.one", {"number": str(known.draw.number)})
 

@@ -57,9 +57,11 @@ def address_of(view: str, values: Mapping[str, str]) -> str:
 def known(register: Register, draw: Draw | None) -> Known:
     """What the application knows that this person may do something about."""
     step = draws.next_in_words(draw, register) if draw else ""
+    said = "A step of it runs now." if parts().following.under_way() else (
+        f"Next: {step}." if step else "")
     if not person().may(RECORD):
-        return Known(draw, step)
-    return Known(draw, step, letters.lists().untold(register),
+        return Known(draw, said)
+    return Known(draw, said, letters.lists().untold(register),
                  answers.all_piles().left_of(person().name), tools().staging.count(OPEN),
                  of_head(register))
 
