@@ -226,8 +226,10 @@ def test_what_is_not_recorded_is_not_said_to_be_not_sent() -> None:
 
 
 def test_no_text_of_people_is_taken_for_markup() -> None:
-    """No template has a text as it is, but that of the handbook, which the product itself has."""
+    """No template has a text as it is, but that of the handbook, which the product itself has, and
+    pictures, which escape each text.
+    """
     found = [path.name for path in (ROOT / "office" / "web").rglob("*")
              if path.suffix in (".html", ".py")
              and re.search(r"\|\s*safe\b|autoescape|Markup\(", path.read_text("utf-8"))]
-    assert found == ["help.py"]
+    assert sorted(found) == ["help.py", "pictures.py"]
