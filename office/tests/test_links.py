@@ -135,10 +135,11 @@ def test_what_waits_for_the_head_is_at_one_place(
     office.parts.people.add("gone", "reader")
     office.parts.people.lock("gone", True)
     page = office.browser("head", "head").get("/").text
-    said = page[page.index('id="head"'):page.index("Steps")]
-    assert "A place can be filled at A." in said and 'href="/draws/"' in said
+    said = page[page.index('class="tasks"'):]
+    assert "Somebody waits for a vacant place at A." in said and 'href="/draws/"' in said
     assert "Not signed in yet: newcomer." in said and "Locked: gone." in said
-    assert 'id="head"' not in office.browser("officer", "officer").get("/").text
+    other = office.browser("officer", "officer").get("/").text
+    assert "Not signed in yet" not in other and "Locked: " not in other
 
 
 def test_a_file_is_given_to_who_may_have_it_alone(office: Site) -> None:
