@@ -9,10 +9,13 @@ import pathlib
 import shutil
 import subprocess
 import sys
+import tempfile
 from collections.abc import Callable, Iterable, Iterator
 from typing import Any, Protocol
 
 import argon2
+import flask
+import jinja2
 import pytest
 
 sys.dont_write_bytecode = True
@@ -27,6 +30,8 @@ HEADER = "child,name,east,north,looked_after,flags,siblings,day,preferences,pres
 OMITTED = {it["field"]: it["omitted"] for it in json.loads(
     (ROOT / "office" / "rules.json").read_text("utf-8"))["commands"]["amend"] if it["optional"]}
 OFFICE = ("audit",)
+# registers that are made once
+KEPT = tempfile.TemporaryDirectory(prefix="registers-")
 Command = dict[str, Any]
 Ran = subprocess.CompletedProcess[str]
 
@@ -66,6 +71,15 @@ def cheap_hashes_fixture() -> Iterator[None]:
         yield
 
 
+@pytest.fixture(scope="session", autouse=True)
+def kept_templates_fixture(tmp_path_factory: pytest.TempPathFactory) -> Iterator[None]:
+    """The templates of the application are compiled once for all tests of this process."""
+    kept = jinja2.FileSystemBytecodeCache(str(tmp_path_factory.mktemp("templates")))
+    with pytest.MonkeyPatch.context() as patch:
+        patch.setattr(flask.Flask, "jinja_options", {"bytecode_cache": kept})
+        yield
+
+
 @pytest.fixture(name="hide")
 def hide_fixture(monkeypatch: pytest.MonkeyPatch) -> Callable[[str], None]:
     """Has a library missing from this process."""
@@ -101,8 +115,18 @@ def office_fixture(tools: pathlib.Path, tmp_path: pathlib.Path) -> Office:
 
 def make(path: pathlib.Path, commands: Iterable[Command], year: str = "2025") -> list[Command]:
     """A new register with these commands done, and the answers."""
+    register, answers = made(json.dumps(list(commands)), year)
+    for it in register.parent.iterdir():
+        shutil.copy(it, path.with_name(it.name.replace(register.name, path.name)))
+    return [dict(it) for it in answers]
+
+
+@functools.cache
+def made(commands: str, year: str) -> tuple[pathlib.Path, list[Command]]:
+    """Such a register, which is made once for all tests of this process and copied for each."""
+    path = pathlib.Path(tempfile.mkdtemp(dir=KEPT.name), "reg.db")
     subprocess.run([PROGRAM, "init", path, "secondary", year], check=True)
-    return do(path, commands)
+    return path, do(path, json.loads(commands))
 
 
 def do(path: pathlib.Path, commands: Iterable[Command]) -> list[Command]:
