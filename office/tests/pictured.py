@@ -162,6 +162,8 @@ def office_of(folder: pathlib.Path) -> Iterator[Site]:
     draw = first_round(folder, before)
     with after_round(folder, before, draw, *answers(folder, draw)) as office:
         office.parts.config = dataclasses.replace(office.parts.config, authority=AUTHORITY)
+        # (the first screen says when colleagues did what)
+        office.parts.history.moment = lambda: f"{DAY}T09:05:00+00:00"
         outcome = letters_audits.outcome_of(office.parts.desk.now(), 1)
         with office.parts.store.writing() as db:
             db.execute("INSERT INTO letter_audit VALUES (1, ?, 1, '', '', '')", (outcome,))

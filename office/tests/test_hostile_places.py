@@ -368,7 +368,7 @@ def test_after_all_of_it_each_page_has_only_texts(world: World) -> None:
 
 # what the head of a school can ask for, and what a reader can send
 OF_SCHOOL = ("/", "/schools/OAK", "/schools/OAK/workbook", "/help", "/password", "/signed-in")
-OF_READER = ("lists.save", "lists.remove")
+OF_READER = ("lists.save", "lists.remove", "lists.ticked")
 ODD = {"code": ["OAK"], "name": ["children"], "owner": ["jane"], "key": ["key"]}
 
 
