@@ -286,9 +286,13 @@ class Hands:
             self.emulate("", scheme)
             _, faint = self.driver.execute_script(f"return {screens.CONTRAST};")
             found += [f"faint in {scheme}: {text} {ratio}" for text, ratio in faint[:5]]
+        # (what is not on paper loses the focus where a page is shown as paper)
+        before = self.driver.switch_to.active_element
         self.emulate("print", "light")
         found += [f"on paper: {it}" for it in self.driver.execute_script(screens.PRESSABLE)]
         self.emulate("", "light")
+        if before.tag_name != "body":
+            self.driver.execute_script(screens.TO_FIELD, before)
         for it in found or [""]:
             self.report.see(not it, f"'{name}': {it}")
 

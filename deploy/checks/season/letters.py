@@ -140,7 +140,7 @@ def due(office: Office, kind: str, day: datetime.date, children: Iterable[int],
     wanted, out = sorted(children), sorted(kept)
     title, one = (("Withdrawals of offers", "withdrawal") if kind == "lapse" else
                   ("Reminders", "reminder"))
-    to_due(office, kind, len(wanted) + len(out), day)
+    to_due(office, kind, day)
     shown = {int(row[1]): (row[2], row[3]) for row in hal.captioned("Due on")}
     report.same(shown, {it: (season.children[it].name, season.places[it])
                         for it in sorted([*wanted, *out])}, f"who is due: {title} of {day}")
@@ -162,7 +162,7 @@ def due(office: Office, kind: str, day: datetime.date, children: Iterable[int],
     hal.see(f"{len(wanted)} of {many} recorded.")
 
 
-def to_due(office: Office, kind: str, count: int, day: datetime.date) -> None:
+def to_due(office: Office, kind: str, day: datetime.date) -> None:
     """From the first screen to the list of those that are due today. On another day, where that
     cannot be today, by its address.
     """
@@ -171,9 +171,8 @@ def to_due(office: Office, kind: str, count: int, day: datetime.date) -> None:
         hal.open(f"/notices/{kind}?day={day}")
         return
     hal.open("/")
-    said = ("reminders are due." if kind == "remind" else "offers may be withdrawn.") if (
-        count > 1) else "reminder is due." if kind == "remind" else "offer may be withdrawn."
-    hal.press(f"{count} {said}")
+    hal.press("Remind families who have not answered" if kind == "remind" else
+              "Withdraw offers that stay unanswered")
 
 
 def reminders(office: Office, day: datetime.date) -> None:

@@ -135,8 +135,8 @@ STEPS: tuple[tuple[Callable[[Office], None], int], ...] = (
     # the row that is withdrawn
     (applications.corrected, 1),
     (applications.stored, 2),
-    # the screen, the pile, the question, and its answer
-    (applications.plans, 4),
+    # the group, the screen, the pile, the question, and its answer
+    (applications.plans, 5),
     # for the head of the office the screen, the close and the draw; for the officer the draw and
     # the confirmation; for the supervisor the seal, and the sheet and its file
     (first_round, 8),
@@ -145,7 +145,7 @@ STEPS: tuple[tuple[Callable[[Office], None], int], ...] = (
     # the screen, the file, and the record
     (offers, 3),
     # the screen: all else is done by the keyboard
-    (first_answers, 1),
+    (first_answers, 2),
     # what is due, what is recorded, the record; the letters' file, and their record
     (reminders, 5),
     (fills, 6),
