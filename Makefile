@@ -24,7 +24,8 @@
 #   make costs    what each part of the last `make test` here took; and the CPU seconds of each crate's proof in the last build, with the longest chain of crates
 #   make bench    the aims for the costs, beside the measured costs, as one page, which it writes to bench/RESULTS.md; some minutes once the program is built
 #   make bench-more  the costs of commands in more tables, beside a baseline in the same run
-#   make deploy-check  the deployment (site, desk in its own network), on this machine alone; needs nginx, openssl, curl, sqlite3 and python3-pytest; not in test
+#   make deploy-check  the deployment (site, desk in its own network), on this machine alone; needs nginx, openssl, curl, sqlite3 and python3-pytest;
+#                 test leaves out what hundreds of clients at once see
 #   make pictures  the pictures of the pages (docs/pictures), of screens and a letter of an invented season; needs nginx, openssl, python3-selenium, chromium
 #                 and chromium-driver
 #   make install  the proved program that is at bin/admissions (it builds nothing), the office's tools, their manual pages and completions, and the office's

@@ -45,6 +45,11 @@ def compact(command: Command) -> str:
     return json.dumps(command, separators=(",", ":"), ensure_ascii=False)
 
 
+def named(name: object) -> str:
+    """The command that names child 6 of the first register anew."""
+    return compact(amendment(6, f"Fay Ford {name}", 300))
+
+
 def lines_of(commands: Iterable[Command]) -> str:
     """A file of commands."""
     return "".join(json.dumps(it) + "\n" for it in commands)

@@ -1,8 +1,7 @@
-"""Desk and application behind the site: where the desk can be reached, many clients at once, ones
-that leave, and a desk or an application that is killed or begins again. What was answered as done
-is stored, and the history says of each command what became of it."""
+"""Desk and application behind the site: where the desk can be reached, a client that leaves, and a
+desk or an application that is killed. What was answered as done is stored, and the history says of
+each command what became of it."""
 
-import concurrent.futures
 import hashlib
 import json
 import os
@@ -10,26 +9,17 @@ import pathlib
 import re
 import signal
 import ssl
-import threading
-import time
-from collections.abc import Callable
 from typing import Any, NamedTuple
 
 import pytest
 
-from checks.commands import Command, amendment, compact
+from checks.commands import named
 from checks.expected import headers_differ, units_differ
 from checks.raw import raw, status_of
 from checks.world import NAME, Answer, World, until
 
 # What may be before the path of a program in a unit: - it may fail, + it runs as root, ..
 SIGNS = "[-@:+!]*"
-ROUTES = ("/child/1", "/child/2/letter", "/school/A/waiting", "/round/1")
-
-
-def named(name: object) -> str:
-    """The command that names child 6 anew."""
-    return compact(amendment(6, f"Fay Ford {name}", 300))
 
 
 # The units as they are installed, and as systemd reads them, with the folders of the room
@@ -85,117 +75,6 @@ def test_the_desk_is_reached_inside_of_its_network(world: World) -> None:
     assert answer.startswith('{"child":6,')
 
 
-# Many clients
-
-
-def ask_many(world: World, count: int) -> tuple[list[Answer], float]:
-    """Sends requests at once, one in four a command, and returns the answers and the seconds of
-    the slowest."""
-    gate = threading.Barrier(count)
-
-    def one(number: int) -> tuple[Answer, float]:
-        gate.wait()
-        began = time.monotonic()
-        if number % 4 == 0:
-            answer = world.ask("/command", "robot", named(number))
-        else:
-            answer = world.ask(ROUTES[number % 4], "robot")
-        return answer, time.monotonic() - began
-
-    with concurrent.futures.ThreadPoolExecutor(count) as pool:
-        done = list(pool.map(one, range(count)))
-    return [answer for answer, _ in done], max(seconds for _, seconds in done)
-
-
-def test_200_clients_at_once_all_get_their_answer_and_the_register_has_one_of_their_commands(
-        world: World, record_property: Callable[[str, object], None]) -> None:
-    answers, seconds = ask_many(world, 200)
-    record_property("seconds of the slowest, its own start included", f"{seconds:.1f}")
-    assert [answer.status for answer in answers].count(200) == 200
-    assert re.search(r"Fay Ford \d+\n", world.letter(6))
-    numbers = {f"Fay Ford {number}" for number in range(0, 200, 4)}
-    assert set(done(world)) >= numbers
-
-
-def outcomes(world: World) -> list[tuple[Command, bool | None]]:
-    """Each command of the history, and whether it is done, as far as the history says that."""
-    entries = world.entries()
-    known: dict[int, bool] = {}
-    for it in entries:
-        about = it["about"]
-        if it["what"] == "answer":
-            known[about["of"]] = about["answer"].get("done") is True
-        elif it["what"] == "settled":
-            known[about["of"]] = about["done"]
-    return [(it["about"]["command"], known.get(it["n"])) for it in entries
-            if it["what"] == "sends" and "command" in it["about"]]
-
-
-def done(world: World) -> list[str]:
-    """The names that were given by commands that are done by the history, in their order."""
-    return [command["name"] for command, is_done in outcomes(world)
-            if is_done and "name" in command]
-
-
-@pytest.fixture(scope="module", name="crowd")
-def crowd_fixture(world: World) -> list[Answer]:
-    """The answers to 300 clients at once: while the desk is suspended, the queue fills up."""
-    world.stop_desk()
-    try:
-        with concurrent.futures.ThreadPoolExecutor(300) as pool:
-            asked = [pool.submit(world.ask, "/child/1", "robot") for _ in range(300)]
-            until(lambda: sum(it.done() for it in asked) >= 44,
-                  "the answers to those for whom there is no place in the queue")
-            world.continue_desk()
-            return [it.result() for it in asked]
-    finally:
-        world.continue_desk()
-
-
-def busy(crowd: list[Answer]) -> list[Answer]:
-    """Those for whom there was no place."""
-    return [answer for answer in crowd if answer.status == 503]
-
-
-def test_of_300_at_once_on_a_suspended_desk_256_wait_and_get_their_answer(
-        crowd: list[Answer]) -> None:
-    assert [answer.status for answer in crowd].count(200) == 256
-
-
-def test_who_has_no_place_in_the_queue_gets_each_header_of_the_list(crowd: list[Answer]) -> None:
-    assert [(headers_differ(it.fields), it.fields["content-type"]) for it in busy(crowd)[:1]] == [
-        ([], "application/json")]
-
-
-def test_who_has_no_place_in_the_queue_is_asked_to_retry(crowd: list[Answer]) -> None:
-    assert {(answer.body, answer.fields.get("retry-after")) for answer in busy(crowd)} == {
-        ('{"busy":true}', "2")}
-
-
-def test_of_300_commands_at_once_each_is_done_or_was_not_passed_on(world: World) -> None:
-    """All but those that the application works on wait, even to be known; and who is not known
-    because there is no place is not passed on."""
-    world.stop_desk()
-    try:
-        with concurrent.futures.ThreadPoolExecutor(300) as pool:
-            asked = [pool.submit(world.ask, "/command", "robot", named(f"crowd {number}"))
-                     for number in range(300)]
-            until(lambda: sum(it.done() for it in asked) >= 44,
-                  "the answers to those for whom there is no place in the queue")
-            world.continue_desk()
-            answers = [it.result() for it in asked]
-    finally:
-        world.continue_desk()
-    assert {(it.status, it.body) for it in answers} == {
-        (200, '{"done":true}'), (503, '{"busy":true}')}
-    names = [it for it in done(world) if "crowd" in it]
-    answered = [f"Fay Ford crowd {number}" for number, it in enumerate(answers)
-                if it.status == 200]
-    assert sorted(names) == sorted(answered)
-    assert len(names) >= 200
-    assert f"{names[-1]}\n" in world.letter(6)
-
-
 # A client that leaves, and a desk or an application that is killed
 
 
@@ -223,7 +102,7 @@ def received(client: ssl.SSLSocket) -> tuple[int, Any]:
 
 def known(world: World, body: str) -> list[bool | None]:
     """What the history says of a command."""
-    return [it for command, it in outcomes(world) if command == json.loads(body)]
+    return [it for command, it in world.outcomes() if command == json.loads(body)]
 
 
 def test_a_command_whose_sender_leaves_when_it_is_at_the_desk_is_done_and_recorded(
@@ -320,42 +199,6 @@ def test_an_application_that_is_killed_with_a_command_finds_out_that_it_is_done(
     assert "Fay Ford after it" in world.letter(6)
 
 
-@pytest.mark.parametrize("how", [signal.SIGTERM, signal.SIGKILL])
-def test_an_application_that_begins_again_under_a_load_loses_nothing(
-        world: World, how: signal.Signals) -> None:
-    """What is asked meanwhile waits, or is answered that it was not done or may be."""
-    is_over = threading.Event()
-
-    def one(thread: int) -> list[tuple[str, Answer]]:
-        found: list[tuple[str, Answer]] = []
-        while not is_over.is_set():
-            name = f"{how.name} {thread} {len(found)}"
-            found.append((f"Fay Ford {name}", world.ask("/command", "robot", named(name))))
-        return found
-
-    with concurrent.futures.ThreadPoolExecutor(12) as pool:
-        asked = [pool.submit(one, thread) for thread in range(12)]
-        try:
-            for _ in range(3):
-                count = len(world.entries())
-                until(lambda: len(world.entries()) > count + 20, "commands in the history")
-                world.end(world.office, how)
-                world.start_office()
-        finally:
-            is_over.set()
-        answers = [it for thread in asked for it in thread.result()]
-    assert world.ask("/command", "robot", named("at last")).status == 200
-    assert {it.status for _, it in answers} <= {200, 502, 503}
-    names = done(world)
-    assert [name for name, it in answers if it.status == 200 and names.count(name) != 1] == []
-    unsent = [name for name, it in answers if it.status == 503]
-    assert [name for name in unsent if name in names] == []
-    assert None not in [it for _, it in outcomes(world)]
-    assert names[-1] == "Fay Ford at last"
-    assert "Fay Ford at last\n" in world.letter(6)
-    assert world.ask("/child/1", "robot").status == 200
-
-
 def test_without_room_for_the_history_nothing_is_sent_and_afterwards_all_goes_on(
         world: World) -> None:
     """As on a full disk. (The token of a program needs no room.)"""
@@ -391,4 +234,4 @@ def test_the_history_is_one_chain_after_all_this(world: World) -> None:
         entry = json.loads(line)
         assert (entry["n"], entry["before"]) == (number, before)
         before = hashlib.sha256(line).hexdigest()
-    assert len(lines) > 500
+    assert len(lines) > 100

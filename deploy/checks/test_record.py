@@ -161,7 +161,8 @@ def test_an_entry_that_was_changed_is_named_and_what_is_before_it_is_printed(
     copy.write_bytes(b"".join(lines))
     printed = admissions_sent(world, copy, before.moment)
     assert printed.returncode == 1
-    assert printed.stdout.splitlines() == replay.printed.stdout.splitlines()[:-1]
+    # (a name has a sign that ends a line elsewhere)
+    assert printed.stdout.split("\n")[:-1] == replay.printed.stdout.split("\n")[:-2]
     # (the line after it has the digest of what was there)
     assert printed.stderr.splitlines()[-1] == (
         f"admissions-sent: {copy}, line {last + 2}: the history was changed there or in the line"

@@ -1,7 +1,6 @@
 """Who may do what, and which requests are passed on: each permission and each refusal of the site,
 by curl."""
 
-import concurrent.futures
 import itertools
 import json
 import re
@@ -10,14 +9,13 @@ import ssl
 import time
 import urllib.parse
 from collections.abc import Callable
-from typing import NamedTuple
 
 import pytest
 
 from checks.expected import headers_differ
 from checks.raw import raw, status_of
 from checks.office import Account
-from checks.world import COOKIE, FORM, HAS_IPV6, NAME, Answer, World, basic, group, until
+from checks.world import COOKIE, FORM, HAS_IPV6, NAME, Answer, World, basic, group
 
 ACCEPT = '{"cmd":"accept","child":1,"school":"A"}'
 QUESTION = '{"child":3,"lots":[1,2,3],"preferences":["B"]}'
@@ -66,8 +64,15 @@ def test_nginx_accepts_the_site(world: World) -> None:
 @pytest.fixture(scope="module", name="screens")
 def screens_fixture(world: World) -> list[str]:
     """The addresses in the menu of who has most of it."""
-    menu = world.ask("/", "jane").body.partition("<nav")[2].partition("</nav>")[0]
-    return re.findall('href="([^"]+)"', menu)
+    groups = links(world, "/")
+    return sorted({*groups, *(it for group in groups for it in links(world, group))})
+
+
+def links(world: World, path: str) -> list[str]:
+    """What the menu of a page leads to."""
+    shown = world.ask(path, "jane").body
+    menu = re.findall('(?s)<nav class="(?:groups|screens)"(.*?)</nav>', shown)
+    return re.findall('href="([^"]+)"', " ".join(menu))
 
 
 @pytest.mark.parametrize("path", ["/", "/lists/", "/child/1", "/child/1/letter",
@@ -164,17 +169,11 @@ def test_after_five_wrong_passwords_an_address_waits_and_then_the_right_one_is_a
     assert world.sign_in("hal", "wrong", *here).session == ""
 
 
-def wait_of(answer: Answer) -> int:
-    """For how many seconds nothing more may be tried, as an answer says."""
-    found = re.search("Try again in ([0-9]+) seconds?", answer.body)
-    return int(found[1]) if found else 0
-
-
 def waited(ask: Callable[[], Answer]) -> int:
     """Waits as long as an answer says, and asks again, until it is looked at. Returns for how many
     seconds at most."""
     seconds = [0]
-    while wait := wait_of(answer := ask()):
+    while wait := (answer := ask()).wait:
         seconds.append(wait)
         time.sleep(wait)
     assert answer.status == 303 or "is wrong" in answer.body
@@ -331,9 +330,9 @@ def test_what_is_not_there_is_not_found(world: World, path: str) -> None:
     assert world.ask(path, "robot").status == 404
 
 
-@pytest.mark.skipif(not HAS_IPV6, reason="this machine has no IPv6")
-def test_the_site_is_at_ipv6_too(world: World) -> None:
-    at = ("--connect-to", f"{NAME}:443:[::1]:{world.site_port}")
+@pytest.mark.parametrize("address", ["127.0.0.1", *(["[::1]"] if HAS_IPV6 else [])])
+def test_the_site_is_at_each_kind_of_address(world: World, address: str) -> None:
+    at = ("--connect-to", f"{NAME}:443:{address}:{world.site_port}")
     assert world.ask("/pile.js", "jane", options=at).status == 200
 
 
@@ -390,7 +389,7 @@ def test_a_school_gets_only_screens_of_its_own(world: World, screens: list[str])
 # What others get who sign in
 
 
-@pytest.mark.parametrize("path", ["/lists/", "/children/", "/children/1", "/schools/A"])
+@pytest.mark.parametrize("path", ["/lists/", "/find", "/children/1", "/schools/"])
 @pytest.mark.parametrize("name", ["sup", "adam"])
 def test_who_draws_lots_and_who_adds_people_see_no_child(
         world: World, name: str, path: str) -> None:
@@ -841,137 +840,6 @@ def test_of_a_long_line_that_is_no_command_the_begin_alone_is_in_the_history(
     assert world.ask("/command", "robot", f"@{world.room}/long-line").status == 400
     assert world.entries()[-2]["about"] == {"line": "x" * 1000}
     assert (world.room / "office/history.jsonl").stat().st_size < size + 2000
-
-
-# Many wrong passwords from one address: all are refused, most of them without a look at what was
-# sent; and nobody else is kept out
-
-
-class Tries(NamedTuple):
-    """The answers to 200 wrong passwords, and in how many seconds they came; and meanwhile from
-    there to the right one, to none, to a session and to a token, and from another address to the
-    right one; and how many entries the history has more."""
-
-    wrong: list[Answer]
-    seconds: float
-    right: Answer
-    unsigned: Answer
-    session: Answer
-    token: Answer
-    elsewhere: Answer
-    lines: int
-
-    def refused(self) -> list[Answer]:
-        """Those that did not reach the application."""
-        return [it for it in self.wrong if it.status == 429]
-
-
-@pytest.fixture(scope="module", name="tries")
-def tries_fixture(world: World) -> Tries:
-    """Sends them."""
-    here, elsewhere = ("--interface", "127.0.0.3"), ("--interface", "127.0.0.5")
-    world.ask("/children/1", "jane")
-    before, began = len(world.entries()), time.monotonic()
-    with concurrent.futures.ThreadPoolExecutor(40) as pool:
-        wrong = list(pool.map(lambda _: world.sign_in("rita", "wrong", *here), range(200)))
-    seconds, lines = time.monotonic() - began, len(world.entries()) - before
-    until(lambda: wait_of(world.sign_in("rita", "wrong", *here)) >= 8, "a wait of some seconds")
-    # (the site may let one pass again only after a second)
-    answers = (world.sign_in("rita", world.passwords["rita"], *here) for _ in range(100))
-    right = next(it for it in answers if it.status != 429)
-    return Tries(wrong, seconds, right, world.ask("/child/1", options=here),
-                 world.ask("/children/1", "jane", options=here),
-                 world.ask("/child/1", "robot", options=here),
-                 world.sign_in("rita", world.passwords["rita"], *elsewhere), lines)
-
-
-def test_of_200_wrong_passwords_from_one_address_all_are_refused(tries: Tries) -> None:
-    assert sorted({it.status for it in tries.wrong}) == [403, 429]
-    assert {it.session for it in tries.wrong} == {""}
-
-
-def test_at_most_two_each_second_after_the_first_thirty_reach_the_application(
-        tries: Tries) -> None:
-    assert 30 <= len(tries.wrong) - len(tries.refused()) <= 33 + 2 * tries.seconds
-
-
-def test_a_wrong_sign_in_leaves_no_line_in_the_history(tries: Tries) -> None:
-    assert tries.lines == 0
-
-
-def test_who_is_not_looked_at_is_asked_to_wait(tries: Tries) -> None:
-    assert {(it.body, it.fields.get("retry-after")) for it in tries.refused()} == {
-        ('{"reason":"too many requests or sign-ins from this address: wait some seconds",'
-         '"status":429}', "10")}
-
-
-def test_who_is_not_looked_at_gets_each_header_of_the_list(tries: Tries) -> None:
-    assert [headers_differ(it.fields) for it in tries.refused()[:1]] == [[]]
-
-
-def test_the_right_password_is_not_tried_from_there_meanwhile_and_who_has_it_learns_that(
-        tries: Tries) -> None:
-    """Otherwise one that is guessed at the tenth try would be found."""
-    assert (tries.right.status, tries.right.session) == (403, "")
-    assert re.search("Too many attempts failed. Try again in [0-9]+ seconds?", tries.right.body)
-
-
-def test_who_is_signed_in_and_a_program_go_on_there_meanwhile(tries: Tries) -> None:
-    assert (tries.session.status, tries.token.status) == (200, 200)
-
-
-def test_who_gives_no_password_is_asked_for_one_there_meanwhile(tries: Tries) -> None:
-    assert tries.unsigned.status == 401
-
-
-def test_another_address_is_not_concerned(tries: Tries) -> None:
-    assert (tries.elsewhere.status, bool(tries.elsewhere.session)) == (303, True)
-
-
-# How long a wrong sign-in takes with a name that is there, whose password is looked at for some
-# tenths of a second, and with others
-
-
-@pytest.fixture(scope="module", name="times")
-def times_fixture(world: World) -> dict[str, float]:
-    """The seconds of a right sign-in, and of wrong ones with each kind of name. Whoever else uses
-    the processors can only make an answer later: so the quickest ones are compared, and more are
-    asked for until those are near each other. Each comes from an address that has not tried yet."""
-    kinds = {"right": ("jane", "jane"), "known": ("jane", "wrong"), "unknown": ("nobody", "wrong"),
-             "locked": ("smith", "smith"), "a program": ("robot", "robot")}
-    found = dict.fromkeys(kinds, float("inf"))
-    for turn in range(40):
-        for at, (kind, (name, whose)) in enumerate(kinds.items()):
-            form = urllib.parse.urlencode(
-                {"name": name, "password": world.passwords.get(whose, whose)})
-            found[kind] = min(found[kind], seconds(world, form, f"127.0.{3 + at}.{turn + 1}"))
-        if turn >= 4 and apart(found) < found["right"] / 4:
-            break
-    return found
-
-
-def apart(times: dict[str, float]) -> float:
-    """How far the times of wrong sign-ins are apart."""
-    wrong = [it for kind, it in times.items() if kind != "right"]
-    return max(wrong) - min(wrong)
-
-
-def seconds(world: World, form: str, address: str) -> float:
-    """How long the first byte of an answer to a sign-in takes."""
-    with world.connect(address) as it:
-        began = time.monotonic()
-        it.sendall(f"POST /sign-in HTTP/1.1\r\nHost: {NAME}\r\nOrigin: https://{NAME}\r\n"
-                   f"Content-Type: {FORM}\r\nContent-Length: {len(form)}\r\n\r\n"
-                   f"{form}".encode())
-        it.recv(1)
-        return time.monotonic() - began
-
-
-def test_the_time_of_an_answer_does_not_tell_which_names_there_are(
-        times: dict[str, float], record_property: Callable[[str, object], None]) -> None:
-    record_property("seconds", ", ".join(f"{kind} {it:.4f}" for kind, it in times.items()))
-    assert times["right"] > 0.02
-    assert apart(times) < times["right"] / 4
 
 
 # What a program of the office sends

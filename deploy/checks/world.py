@@ -512,6 +512,19 @@ class World:
         return [it["about"]["command"] for it in self.entries()[since:]
                 if it["what"] == "sends" and "command" in it["about"]]
 
+    def outcomes(self) -> list[tuple[Command, bool | None]]:
+        """Each command of the history, and whether it is done, as far as the history says that."""
+        entries = self.entries()
+        known: dict[int, bool] = {}
+        for it in entries:
+            about = it["about"]
+            if it["what"] == "answer":
+                known[about["of"]] = about["answer"].get("done") is True
+            elif it["what"] == "settled":
+                known[about["of"]] = about["done"]
+        return [(it["about"]["command"], known.get(it["n"])) for it in entries
+                if it["what"] == "sends" and "command" in it["about"]]
+
 
 def basic(name: str, token: str) -> str:
     """The field of a head with a name and a token, or a password."""
@@ -541,3 +554,9 @@ class Answer:
         lines = (line for line in head.split("\n")[1:] if ": " in line)
         fields = (line.lower().partition(": ") for line in lines)
         self.fields = {name: value for name, _, value in fields}
+
+    @property
+    def wait(self) -> int:
+        """For how many seconds nothing more may be tried, as an answer to a sign-in says."""
+        found = re.search("Try again in ([0-9]+) seconds?", self.body)
+        return int(found[1]) if found else 0

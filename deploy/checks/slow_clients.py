@@ -1,5 +1,5 @@
 """Many slow clients at the site: while they are all open and have no answer, other clients are
-served. The desk never sees a slow one."""
+served. The desk never sees a slow one. It is not in the gate, as many_clients.py is not."""
 
 import concurrent.futures
 import socket
