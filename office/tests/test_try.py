@@ -134,7 +134,7 @@ def test_two_weeks_after_the_offers(tmp_path: pathlib.Path) -> None:
 
         head, page = found.signed_in(ROLES[0])
         for it in ("Ashdown Council", "Today is Tuesday, 16 March 2027", "8 schools",
-                   "1,500 children", "of which 40 late", "held for 1 March 2027"):
+                   " applications, of which 40 late", "for 1 March 2027: "):
             assert it in page
         assert "held, and open for all" in head.get("/draws/")
         activity = head.get("/activity/?day=2027-03-12&person=owen")
