@@ -7,7 +7,7 @@ from collections.abc import Sequence
 from .office import HAL, Office
 from .report import until
 
-ANSWERS, MOST_KEYS = 24, 89
+ANSWERS, MOST_KEYS = 24, 92
 # so many of them decline the school at which vacancies are filled, and so many another one
 DECLINED, OTHERS = 3, 2
 
