@@ -5,7 +5,7 @@ import re
 import xml.etree.ElementTree as ET
 
 from office.web import home, pictures
-from office.web.pictures import LEAST, SIDE, Places, Span
+from office.web.pictures import LEAST, SIDE, Circle, Home, Places, Span
 
 SVG = "{http://www.w3.org/2000/svg}"
 
@@ -67,3 +67,21 @@ def test_a_bar_is_as_long_as_its_share() -> None:
     assert 'width="24.6"' in pictures.bar(25, 100, "first")
     assert not any("first" in pictures.bar(0, it, "first") for it in (0, 100))
     assert home.share(1, 3) == "33.3%" and home.share(0, 0) == ""
+
+
+def test_the_map_of_a_school_has_each_home_in_reach() -> None:
+    """And says how many are further away; a name cannot end its hint."""
+    drawn = random.Random(11)
+    homes = [Home(drawn.randrange(-3000, 3000), drawn.randrange(-3000, 3000), "within",
+                  drawn.choice(("has", "waits")), f"</title><b>{at}", f"/children/{at}")
+             for at in range(200)]
+    picture, away = pictures.school_map(
+        "m", "Homes", "said", ("A", 0, 0), [("B", 900, 900), ("C", 9000, 0)], homes,
+        [Circle(1500, "1,500 metres", "criterion")], 2000)
+    found = parsed(str(picture))
+    inside = {it.hint for it in homes if abs(it.east) < 2000 and abs(it.north) < 1600}
+    hints = [it.text for it in found.iter(f"{SVG}title")][1:]
+    assert len(hints) == len(inside) and {*hints} == inside and away == 200 - len(inside)
+    assert [it.text for it in found.iter(f"{SVG}text")][:3] == ["B", "A", "1,500 metres"]
+    [circle] = found.iter(f"{SVG}circle")
+    assert abs(float(circle.get("r", "")) - 1500 * 720 / 4000) < 0.1

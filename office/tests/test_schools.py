@@ -509,6 +509,11 @@ def test_a_school_has_its_intake_its_list_and_its_last_offers(held: Site) -> Non
     assert page.tables["last"][1:] == [
         ["round 1", "3 March 2025", "2", "2", "ranked by distance alone", "200", "2"]]
     assert "<b>Cole" not in page.text
+    assert page.tables["classes"][1:] == [["ranked by distance alone", "2", "2", "200"]]
+    homes = re.findall(
+        '<a href="/children/([0-9])"[^>]*><path class="home far ([a-z]*)"', page.text)
+    assert sorted(homes) == [("1", "has"), ("2", "has"), ("3", "waits"), ("4", "waits")]
+    assert "2 children have a place, and 2 wait." in page.text
     desk = held.parts.desk
     hal = Person("hal", "head")
     for command in ({"cmd": "accept", "child": 1, "school": "A"},
@@ -525,6 +530,8 @@ def test_a_school_has_its_intake_its_list_and_its_last_offers(held: Site) -> Non
     assert page.tables["last"][1:] == [
         ["round 1", "3 March 2025", "2", "2", "ranked by distance alone", "200", "2"],
         ["fill of A (draw 2)", "20 March 2025", "1", "3", "ranked by distance alone", "300", "7"]]
+    assert page.tables["classes"][1:] == [["by an EHC plan", "1", "0", ""],
+                                          ["ranked by distance alone", "2", "0", "300"]]
 
 
 def test_a_table_is_put_in_order_by_links(held: Site) -> None:
@@ -558,6 +565,8 @@ def test_a_head_sees_the_own_school_alone(held: Site) -> None:
     assert ann.get("/").location == "/schools/A"
     page = Page(ann.get("/schools/A").text)
     assert page.tables["waiting"][1][2] == "Cyd <b>Cole</b>"
+    # (homes are for the office)
+    assert "How the places are filled" in page.text and 'class="home' not in page.text
     assert "/children/" not in page.text and "raise" not in page.text
     assert page.buttons() == []
     assert ann.get("/schools/A/workbook").status_code == 200

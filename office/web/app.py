@@ -11,7 +11,7 @@ import werkzeug.routing
 
 from office import texts
 
-from . import authority, flags, frame, guard, numbers, uploads, wording
+from . import authority, flags, frame, guard, numbers, pictures, uploads, wording
 from .guard import PUBLIC, needs
 from .parts import Config, Parts
 from .screens import (
@@ -70,6 +70,7 @@ def create(config: Config) -> flask.Flask:
     app.jinja_env.filters["visible"] = texts.visible
     app.jinja_env.filters["at_fields"] = wording.at_fields
     app.jinja_env.globals["count"] = texts.count
+    app.jinja_env.globals["shapes"] = pictures.SHAPES
 
     @needs(PUBLIC)
     def file(name: str) -> flask.Response:

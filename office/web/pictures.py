@@ -258,3 +258,78 @@ def school(ground: Ground, it: Way, is_below: bool) -> str:
     is_below = is_below and y < ground.height - 40 or y < 40
     name = label(x, y + (27 if is_below else -13), it.code, f"halo name {it.state}", "middle")
     return f'<path class="school {it.state}" d="M{x:.1f} {y - 7:.1f}l7 11.9h-14z"/>{name}'
+
+
+class Home(NamedTuple):
+    """A home on the map of a school: its point, the child's class there (one of SHAPES), whether it
+    has a place or waits, its hint, and the address of the child's screen.
+    """
+
+    east: int
+    north: int
+    kind: str
+    state: str
+    hint: str
+    href: str
+
+
+class Circle(NamedTuple):
+    """A distance around a school: its metres and words, and whether it is a criterion or the last
+    place.
+    """
+
+    metres: int
+    words: str
+    kind: str
+
+
+# each class of children has a shape besides its colour
+SHAPES = {
+    "care": "M0-6 6 0 0 6-6 0Z",
+    "sibling": "M-4.5-4.5H4.5V4.5H-4.5Z",
+    "flag": "M0-5.5 5.5 4.5H-5.5Z",
+    "within": "M-4.5 0a4.5 4.5 0 1 0 9 0a4.5 4.5 0 1 0-9 0Z",
+    "feeder": "M0 5.5 5.5-4.5H-5.5Z",
+    "far": "M-3.5 0a3.5 3.5 0 1 0 7 0a3.5 3.5 0 1 0-7 0Z",
+}
+
+
+def school_map(
+    name: str, title: str, text: str, here: tuple[str, int, int],
+    others: Sequence[tuple[str, int, int]], homes: Sequence[Home], circles: Sequence[Circle],
+    reach: int,
+) -> tuple[Markup, int]:
+    """A school with the homes of those who have a place or wait, and the circles that decide; and
+    how many homes are further away than the map shows. For the office alone. The link of a home is
+    for the pointer: the keyboard has the lists.
+    """
+    code, east, north = here
+    ground = Ground(east - reach, north - reach * 0.8, east + reach, north + reach * 0.8, 720)
+    inside = [it for it in homes if ground.has(it.east, it.north)]
+    # (places are drawn last, above the others)
+    inside.sort(key=lambda it: it.state == "has")
+    x, y = ground.at(east, north)
+    parts = [ground.grid()]
+    for it in sorted(circles, key=lambda it: -it.metres):
+        parts.append(f'<circle class="{it.kind}" cx="{x:.1f}" cy="{y:.1f}"'
+                     f' r="{it.metres * ground.scale:.1f}"/>')
+    parts += [mark(ground, it) for it in inside]
+    parts += [school(ground, Way(other, e, n, ""), n < north)
+              for other, e, n in others if ground.has(e, n)]
+    parts.append(f'<path class="school this" d="M{x:.1f} {y - 11:.1f}l11 18.7h-22z"/>'
+                 f'{label(x, y - 17, code, "halo name this", "middle")}')
+    for it in circles:
+        above = it.kind == "criterion"
+        at = y - it.metres * ground.scale - 8 if above else y + it.metres * ground.scale + 20
+        parts.append(label(x, at, it.words, "halo strong", "middle"))
+    parts.append(ground.scale_bar())
+    drawn = svg(name, ground.width, ground.height, title, text, parts, "map")
+    return drawn, len(homes) - len(inside)
+
+
+def mark(ground: Ground, home: Home) -> str:
+    """A home."""
+    x, y = ground.at(home.east, home.north)
+    drawn = (f'<path class="home {home.kind} {home.state}" d="{SHAPES[home.kind]}"'
+             f' transform="translate({x:.1f} {y:.1f})"><title>{escape(home.hint)}</title></path>')
+    return f'<a href="{escape(home.href)}" tabindex="-1">{drawn}</a>' if home.href else drawn

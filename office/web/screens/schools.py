@@ -1,5 +1,7 @@
 """The schools: all of them, one with its lists, and a raise of its admission number."""
 import datetime
+from collections.abc import Mapping
+from typing import Any
 
 import flask
 from register_files import Refused
@@ -8,7 +10,7 @@ from werkzeug.wrappers import Response
 from office import book, fields, risks, rules, texts
 from office.model import Register, School
 
-from .. import flags, guard, intake, tables
+from .. import flags, guard, home, intake, pictures, school_map, tables
 from ..desk import Seen, seen_of
 from ..guard import needs, parts, person
 from ..people import LISTS, READ, RECORD
@@ -84,8 +86,28 @@ def one(code: str) -> Answer:
         "school.html", school=school, criteria=classes(school, words), register=register,
         intake=tables.table(INTAKE, intake.intake(register, code), "intake"),
         waiting=tables.table(WAITING, intake.waiting(register, code, words), "waiting"),
-        last=intake.last_offered(register, code, words),
+        last=intake.last_offered(register, code, words), **drawn(register, code, words),
         said="The admission number is raised." if "raised" in flask.request.args else "")
+
+
+def drawn(register: Register, code: str, words: Mapping[int, str]) -> dict[str, Any]:
+    """By which criteria the places are filled; and for who sees every child, the map of homes."""
+    rows = school_map.filled(register, code, words)
+    every = sum(it.has for it in rows)
+    found = {"filled": [
+        (it.words, f"{it.has:,}", home.share(it.has, every), pictures.bar(it.has, every, it.kind))
+        for it in rows if it.has], "by_class": rows, "map": "", "map_says": "", "map_key": []}
+    if not person().may(READ) or not rows:
+        return found
+    address = {child: flask.url_for("child.show", number=child)
+               for child in school_map.states(register, code)}
+    picture, says = school_map.drawn(register, code, address)
+    key: dict[str, list[str]] = {}
+    for it in rows:
+        key.setdefault(f"home {it.kind} has", []).append(it.words)
+    return {**found, "map": picture, "map_says": says, "map_key": [
+        *((kind, "; ".join(words)) for kind, words in key.items()),
+        ("home far waits", "hollow: waits")]}
 
 
 @screen.get("/<code>/workbook")
