@@ -335,7 +335,7 @@ rt: must-fail adm_types/closes_a_day_early.edit: refused, as it must be
 rt: match_runs ran, and wrote what its file stdout has
 rt: adm_tests: its tests passed
 part tools/proofs: 109 passed, 0 failed
-case lots: NOT as expected (lines with + are of this run)
+case rounds: NOT as expected (lines with + are of this run)
 part tools/cases: 51 passed, 1 failed
 part tools/cases: 1 failed
 part tools/python-tests office: 700 passed, 0 failed
@@ -355,7 +355,7 @@ def test_a_log_of_the_gate_says_what_came_out_of_tests_and_how_long_it_took(rich
     assert {it["outcome"] for it in found["mutants"]} == {"refused, as it must be",
                                                           "not tried here"}
     cases = {it["case"]: it["outcome"] for it in found["cases"]}
-    assert cases.pop("lots").startswith("NOT as expected")
+    assert cases.pop("rounds").startswith("NOT as expected")
     assert set(cases.values()) == {"passed (gate.log)"}
     ran = {it["crate"]: it["outcome"] for it in found["tests_of_crates"]}
     assert ran["match_runs"] == "ran, and wrote what its file stdout has (gate.log)"
