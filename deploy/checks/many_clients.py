@@ -196,7 +196,7 @@ def tries_fixture(world: World) -> Tries:
 
 
 def test_of_200_wrong_passwords_from_one_address_all_are_refused(tries: Tries) -> None:
-    assert sorted({it.status for it in tries.wrong}) == [403, 429]
+    assert {403, 429} <= {it.status for it in tries.wrong} <= {403, 429, 503}
     assert {it.session for it in tries.wrong} == {""}
 
 

@@ -21,7 +21,7 @@ from conftest import ROOT
 from pages import Page, press
 from register_files import Refused
 
-from office.web import guard, history, letters_whom, people, store, uploads, wording
+from office.web import guard, history, letters_whom, people, serve, store, uploads, wording
 from office.web.screens import activity
 from office.web.screens import people as people_screen
 
@@ -56,7 +56,8 @@ def test_nobody_reads_without_a_sign_in(office: Site) -> None:
 def test_the_path_after_the_sign_in_is_of_this_site(office: Site) -> None:
     """Nobody is led to another site by an address."""
     office.add("jane", "officer")
-    for to in ("https://evil.example/", "//evil.example", "/\\evil.example", "javascript:alert(1)"):
+    for to in ("https://evil.example/", "//evil.example", "/\\evil.example", "javascript:alert(1)",
+               "//[", "https://[::1"):
         given = {"name": "jane", "password": office.passwords["jane"], "to": to}
         assert Browser(office.app).post("/sign-in", given).location == "/", to
 
@@ -626,9 +627,52 @@ def test_attempts_at_the_same_time_are_not_free(
         checked.clear()
         said = at_once(32, lambda it: found.sign_in(name.format(it), "wrong", address))
         assert len(checked) == people.FREE_ATTEMPTS == said.count(people.WRONG) == 5
-        assert sum(it.startswith("Too many attempts failed.") for it in said) == 27
+        late = ("Too many attempts failed.", "Many sign in now")
+        assert sum(it.startswith(late) for it in said) == 27
     said = at_once(8, lambda it: found.sign_in(names[it], "right", "192.0.2.3"))
     assert said == [""] * 8
+
+
+def test_few_sign_ins_at_the_same_time_hold_a_thread(
+    office: Site, monkeypatch: pytest.MonkeyPatch
+) -> None:
+    """From many addresses, each of which has free attempts. A browser in which the name has signed
+    in before finds room beside them.
+    """
+    office.add("jane", "officer")
+    jane = Browser(office.app)
+    assert jane.sign_in("jane", office.passwords["jane"]).status_code == 303
+    found, going_on = office.parts.people, threading.Event()
+    refused, is_right = list[str](), found.is_right
+
+    def waiting(hashed: str, password: str) -> bool:
+        assert password != "wrong" or going_on.wait(60)
+        return is_right(hashed, password)
+
+    def wrong(at: int) -> None:
+        try:
+            found.sign_in(f"nobody{at}", "wrong", f"192.0.2.{at}")
+        except Refused as error:
+            refused.append(str(error))
+
+    monkeypatch.setattr(found, "is_right", waiting)
+    threads = [threading.Thread(target=wrong, args=(it,)) for it in range(serve.THREADS)]
+    for it in threads:
+        it.start()
+    try:
+        end = time.monotonic() + 60
+        while len(refused) < serve.THREADS - people.SIGN_INS_AT_ONCE and time.monotonic() < end:
+            time.sleep(0.01)
+        busy = "Many sign in now, and nothing was tried. Try again in a moment."
+        assert refused == [busy] * (serve.THREADS - people.SIGN_INS_AT_ONCE)
+        other = Browser(office.app).sign_in("jane", office.passwords["jane"])
+        assert other.status_code == 503 and busy in other.text
+        assert jane.sign_in("jane", office.passwords["jane"]).status_code == 303
+    finally:
+        going_on.set()
+        for it in threads:
+            it.join()
+    assert refused.count(people.WRONG) == people.SIGN_INS_AT_ONCE
 
 
 def test_a_wrong_present_password_waits_too(office: Site) -> None:

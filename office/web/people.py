@@ -1,5 +1,6 @@
 """Who may sign in, and do what: people with a password of their own, and programs with a token."""
 import collections
+import contextlib
 import dataclasses
 import hashlib
 import hmac
@@ -9,11 +10,12 @@ import re
 import secrets
 import threading
 import time
-from collections.abc import Callable
+from collections.abc import Callable, Iterator
 
 from register_files import Refused
 
 from office import rules, texts
+from office.turns import Busy
 
 from .history import now
 from .store import Store
@@ -60,6 +62,9 @@ IDLE_SECONDS, SESSION_SECONDS = 30 * 60, 10 * 3600
 # so many attempts that fail are free; each after them doubles the wait, up to the longest
 FREE_ATTEMPTS, LONGEST_WAIT = 5, 300
 HASHES_AT_ONCE = 4
+# so many sign-ins are looked at or wait at once, and hold a thread each; and beside them so many of
+# browsers in which the name has signed in before
+SIGN_INS_AT_ONCE, KNOWN_AT_ONCE = 8, 4
 # an office has one address for all: failures are forgotten so many seconds after the last wait
 FORGOTTEN_AFTER = 3600
 # for a name from all addresses many are free, and they are forgotten after a day
@@ -261,6 +266,8 @@ class People:
         self.wrong = argon2.exceptions.VerificationError, argon2.exceptions.InvalidHash
         # (each needs much memory for some time)
         self.hashing = threading.Semaphore(HASHES_AT_ONCE)
+        self.signing = threading.BoundedSemaphore(SIGN_INS_AT_ONCE)
+        self.signing_known = threading.BoundedSemaphore(KNOWN_AT_ONCE)
         # (so that a name that does not exist takes as long)
         self.nobody = self.hasher.hash(secrets.token_urlsafe(18))
 
@@ -374,9 +381,24 @@ class People:
 
         name, place = name[:64], network(address)
         keys = (f"{name} {place}", place, EVERYWHERE + name)
-        if not self.attempts.is_right(check, *((f"{name} by {browser}",) if browser else keys)):
-            raise Refused(WRONG)
+        with self.one_of_few(bool(browser)):
+            if not self.attempts.is_right(check, *((f"{name} by {browser}",) if browser else keys)):
+                raise Refused(WRONG)
         return self.begin(name)
+
+    @contextlib.contextmanager
+    def one_of_few(self, is_known: bool) -> Iterator[None]:
+        """One of the few sign-ins at once. Who is beyond them is refused and not kept waiting: from
+        many addresses each has free attempts, and all threads would wait for their hashes.
+        """
+        turns = (self.signing_known, self.signing) if is_known else (self.signing,)
+        taken = next((it for it in turns if it.acquire(False)), None)
+        if taken is None:
+            raise Busy("Many sign in now, and nothing was tried. Try again in a moment.")
+        try:
+            yield
+        finally:
+            taken.release()
 
     def sign_in_outside(self, name: str, account: str) -> str:
         """The secret of a new session of somebody whom the authority's provider has signed in by an

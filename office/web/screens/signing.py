@@ -1,6 +1,5 @@
 """Signing in and out, and a password of one's own."""
 import secrets
-import urllib.parse
 from typing import cast
 
 import flask
@@ -21,8 +20,7 @@ Answer = str | Response | tuple[str, int]
 
 def own_path(text: str) -> str:
     """A path of this site to go on at, or that of the first screen."""
-    found = urllib.parse.urlsplit(text)
-    is_own = text.startswith("/") and not text.startswith("//") and not found.netloc
+    is_own = text.startswith("/") and not text.startswith("//")
     return text if is_own and "\\" not in text and text.isprintable() else "/"
 
 
@@ -47,9 +45,9 @@ def sign_in() -> Answer:
             name, request.form.get("password", ""), guard.address(),
             browser if name in names else "")
     except Refused as error:
-        is_wait = isinstance(error, people.TooMany)
+        is_wait = isinstance(error, (people.TooMany, Busy))
         guard.sign_in_failed(failures.WAIT if is_wait else failures.PASSWORD)
-        return sign_in_page(to, str(error), name), 403
+        return sign_in_page(to, str(error), name), status_of(error)
     parts().history.add(name, "signed in", {})
     answer = with_session(flask.redirect(to, 303), secret)
     known = [name, *(it for it in names if it != name)][:MOST_NAMES]
