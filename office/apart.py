@@ -39,7 +39,7 @@ class Ended(Refused):
 
 def done(
     module: str, what: str, asked: dict[str, Any], data: bytes, seconds: int = inputs.SECONDS,
-    most_seconds: int = MOST_SECONDS,
+    most_seconds: int | None = None,
 ) -> bytes:
     """What the process of a module prints, which gets what is asked and bytes; or a refusal that
     says what took too long or did not end well.
@@ -51,7 +51,7 @@ def done(
             ran = subprocess.run(
                 [sys.executable, "-I", "-B", "-c", BEGIN, *places, module],
                 input=json.dumps(asked).encode() + b"\n" + data, env=ENVIRONMENT,
-                capture_output=True, check=False, timeout=most_seconds)
+                capture_output=True, check=False, timeout=most_seconds or MOST_SECONDS)
     except subprocess.TimeoutExpired as error:
         raise late from error
     if ran.returncode in (-signal.SIGXCPU, -signal.SIGKILL):

@@ -71,12 +71,27 @@ def cheap_hashes_fixture() -> Iterator[None]:
         yield
 
 
+class Compiled(jinja2.BytecodeCache):
+    """Compiled templates in memory: another user of a test has no folder of this one's."""
+
+    def __init__(self) -> None:
+        self.kept: dict[str, bytes] = {}
+
+    def load_bytecode(self, bucket: jinja2.bccache.Bucket) -> None:
+        """Takes what was compiled."""
+        if found := self.kept.get(bucket.key):
+            bucket.bytecode_from_string(found)
+
+    def dump_bytecode(self, bucket: jinja2.bccache.Bucket) -> None:
+        """Keeps it."""
+        self.kept[bucket.key] = bucket.bytecode_to_string()
+
+
 @pytest.fixture(scope="session", autouse=True)
-def kept_templates_fixture(tmp_path_factory: pytest.TempPathFactory) -> Iterator[None]:
+def kept_templates_fixture() -> Iterator[None]:
     """The templates of the application are compiled once for all tests of this process."""
-    kept = jinja2.FileSystemBytecodeCache(str(tmp_path_factory.mktemp("templates")))
     with pytest.MonkeyPatch.context() as patch:
-        patch.setattr(flask.Flask, "jinja_options", {"bytecode_cache": kept})
+        patch.setattr(flask.Flask, "jinja_options", {"bytecode_cache": Compiled()})
         yield
 
 

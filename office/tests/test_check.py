@@ -360,7 +360,7 @@ def test_a_header_with_faults_is_refused() -> None:
 
 def test_too_many_in_a_list() -> None:
     table = table_of("\n".join([
-        HEADER, "1,Ann,0,0,no,,A;B;C;D;E;F;G,2024-10-20,A;B;C;D;E;F;G;H;I;J;K,",
+        HEADER, "1,Ann,7,7,no,,A;B;C;D;E;F;G,2024-10-20,A;B;C;D;E;F;G;H;I;J;K,",
         "2,Bo,9,9,no,,A;B;C;D;E;F,2024-10-20,A;B;C;D;E;F;G;H;I;J,"]).encode())
     assert found_in(table) == {(2, "siblings", "error"), (2, "preferences", "error")}
     assert "(it has 7)" in said_in(table) and "(it has 11)" in said_in(table)

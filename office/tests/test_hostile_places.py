@@ -41,7 +41,7 @@ CHILD = {"name", "east", "north", "looked_after", "flags", "siblings", "present"
 # or change the register as a whole are the last
 TEXTS: dict[str, set[str]] = {
     "answers.add": {"entry"},
-    "answers.choose": {"number", "child"},
+    "answers.choose": {"number", "child", "answer"},
     "answers.record": {"digest"},
     "answers.remove": {"number", "digest"},
     "answers.several": {"pasted"},

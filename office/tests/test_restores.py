@@ -700,7 +700,8 @@ def test_a_draw_with_a_wrong_day_is_held_again_with_its_lots(small: Machine) -> 
         assert link not in room.jane.get("/draws/").text + room.jane.get(f"/draws/{number}").text
         page = room.hal.get(f"/draws/?again={number}").text
         assert "This form is for another draw" not in page
-        assert '<option value="round" selected>' in page and 'id="day" name="day" value=""' in page
+        assert '<option value="round" selected>' in page
+        assert Page(page).fields["day"]["value"] == ""
         held_again(room, lots)
         # what was refused, since there was no offer yet, is sent now
         page = room.hal.get(f"/restores/{restore}").text
