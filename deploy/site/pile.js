@@ -89,11 +89,11 @@ function paragraph(id, kind, text) {
 /** @param {XMLHttpRequest} request */
 function show(request) {
   const made = request.responseXML;
-  const pile = made?.getElementById("pile"), said = made?.getElementById("said");
-  if (request.status !== 200 || !pile || !said) return false;
+  const pile = made?.getElementById("pile"), record = made?.getElementById("record"), said = made?.getElementById("said");
+  if (request.status !== 200 || !pile || !record || !said) return false;
   status.replaceChildren(...said.childNodes);
   const held = document.activeElement?.id;
-  document.getElementById("pile")?.replaceWith(document.importNode(pile, true));
+  for (const it of [record, pile]) document.getElementById(it.id)?.replaceWith(document.importNode(it, true));
   if (held && document.activeElement?.id !== held) document.getElementById(held)?.focus();
   return true;
 }

@@ -4,10 +4,12 @@ alone.
 import random
 from collections.abc import Sequence
 
+from selenium.webdriver.common.keys import Keys
+
 from .office import HAL, Office
 from .report import until
 
-ANSWERS, MOST_KEYS = 24, 92
+ANSWERS, MOST_KEYS = 24, 89
 # so many of them decline the school at which vacancies are filled, and so many another one
 DECLINED, OTHERS = 3, 2
 
@@ -30,7 +32,8 @@ def recorded(office: Office, school: str) -> None:
     report, hal, season = office.report, office.people[HAL], office.season
     report.step(f"{ANSWERS} answers")
     children, declined = chosen(office, school)
-    hal.go("Offers", "Answers")
+    hal.open("/")
+    hal.press("Record answers")
     before = report.counts.keys
     typed(office, children, declined)
     pile = {row[1]: row for row in hal.captioned("The pile")}
@@ -39,7 +42,8 @@ def recorded(office: Office, school: str) -> None:
         what = "decline" if it in declined else "accept"
         report.same(row[2:6], [season.children[it].name, what, season.places[it], ""],
                     f"the answer of child {it} in the pile")
-    hal.press_by_keys(f"Record {ANSWERS} answers")
+    # (the button of the whole pile is in the head of the screen, right before the field)
+    hal.press_by_keys(f"Record {ANSWERS} answers", Keys.SHIFT)
     hal.look("Answers, the question")
     hal.see(f"{len(declined)} of them are final:")
     for it in declined:

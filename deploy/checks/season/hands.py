@@ -159,10 +159,12 @@ class Hands:
             self.key(Keys.TAB)
         raise Stopped(f"{self.who} at '{self.title}' does not come to {label!r} by Tab")
 
-    def press_by_keys(self, text: str) -> None:
-        """Goes to a button by Tab and presses it by Enter, from which another page follows."""
+    def press_by_keys(self, text: str, *held: str) -> None:
+        """Goes to a button by Tab, or back by it where Shift is held, and presses it by Enter, from
+        which another page follows.
+        """
         for _ in range(MOST_TABS):
-            self.key(Keys.TAB)
+            self.key(*held, Keys.TAB)
             if self.driver.execute_script(FOCUSED) == text:
                 return self.enter()
         raise Stopped(f"{self.who} at '{self.title}' does not come to {text!r} by Tab")

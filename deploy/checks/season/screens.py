@@ -57,6 +57,9 @@ for (const name of ["header", "main", "footer", "nav"].slice(0, all("nav").lengt
     if (!all(name).some(isShown)) found.push(`no ${name}`);
 }
 if (all("main").length !== 1) found.push(`${all("main").length} main parts`);
+// (who is asked reads first what the question is about)
+const begin = plain(document.activeElement?.textContent);
+if (begin === "No, go back") found.push("it begins at the way back");
 let level = 0;
 for (const it of all("h1, h2, h3, h4").filter(isShown)) {
     const now = Number(it.tagName[1]);
