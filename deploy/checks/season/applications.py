@@ -169,7 +169,8 @@ def plans(office: Office) -> None:
     report.step("two plans are recorded")
     children = list(season.children.values())
     named = [(children[9], "A"), (children[33], "DEAN")]
-    hal.go("Offers", "Answers")
+    hal.open("/")
+    hal.press("Record EHC plans")
     hal.tab_to("A column of numbers or names, or rows as 23 Bo Bell ELM decline")
     hal.type("\n".join(f"plan,{it.number},{school},{it.name}" for it, school in named))
     hal.press("Add to the pile")

@@ -35,7 +35,8 @@ def figures(office: Office) -> None:
     report, hal, before = office.report, office.people[HAL], office.before[1]
     report.step("figures of the first round")
     got = outcome(before)
-    hal.go("Reports", "Figures")
+    hal.open("/")
+    hal.press("Published figures")
     hal.pick("Round", "round 1", "round 1")
     hal.press("Make the figures, and show them")
     hal.see(f"of {len(got)} children who took part")
@@ -185,14 +186,15 @@ def deleted(office: Office) -> None:
     if not office.clock:
         return
     report, jane, hal = office.report, office.jane, office.people[HAL]
-    name = jane.text("#who").partition(",")[0]
+    name = jane.text("#register")
     office.today(office.deletion)
     report.step("the season is deleted by two persons")
     jane.reload()
     jane.fill("Name of the register", name)
     jane.enter()
     jane.see("You have asked for the deletion: somebody else confirms it.")
-    hal.go("Office", "End of the season")
+    hal.open("/")
+    hal.press("End the season")
     hal.look("The deletion, to be confirmed")
     report.see(hal.has(f"Delete {name} for ever, with {len(town.children(office.season.closing))}"
                        " children"), f"the button of the deletion: {hal.main}")

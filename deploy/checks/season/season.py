@@ -110,7 +110,7 @@ def other_screens(office: Office) -> None:
                  "/applications/duplicates", "/applications/withdrawn", f"/schools/{SCHOOL}/raise"):
         hal.open(path)
     rita.open("/")
-    rita.see("held for")
+    rita.see("Children without a place")
     abbey = office.people[ABBEY]
     abbey.open("/")
     intake = {int(row[0]) for row in abbey.rows("#intake")}
@@ -135,8 +135,8 @@ STEPS: tuple[tuple[Callable[[Office], None], int], ...] = (
     # the row that is withdrawn
     (applications.corrected, 1),
     (applications.stored, 2),
-    # the group, the screen, the pile, the question, and its answer
-    (applications.plans, 5),
+    # the screen, the pile, the question, and its answer
+    (applications.plans, 4),
     # for the head of the office the screen, the close and the draw; for the officer the draw and
     # the confirmation; for the supervisor the seal, and the sheet and its file
     (first_round, 8),
@@ -145,7 +145,7 @@ STEPS: tuple[tuple[Callable[[Office], None], int], ...] = (
     # the screen, the file, and the record
     (offers, 3),
     # the screen: all else is done by the keyboard
-    (first_answers, 2),
+    (first_answers, 1),
     # what is due, what is recorded, the record; the letters' file, and their record
     (reminders, 5),
     (fills, 6),
@@ -155,6 +155,7 @@ STEPS: tuple[tuple[Callable[[Office], None], int], ...] = (
     # the officer the restore and its confirmation (4); the draw again (5 and the seal of all lots);
     # and the answer to its offer (2)
     (second_round, 20),
+    # the screen, what is made, and the file
     (ending.figures, 3),
     (ending.question, 4),
     (other_screens, 0),

@@ -115,8 +115,12 @@ def page(found: Register, draw: Draw | None) -> dict[str, Any]:
 
 def acts(found: Register) -> list[tuple[str, str]]:
     """What is done most at this time of the season, with its screen."""
-    views = (("Record answers", "answers.show"), ("Add an application", "applications_add.show"))
-    links = [(words, address_of(view, {})) for words, view in views[0 if found.draws else 1:]]
+    views = [("Add an application", "applications_add.show")]
+    if found.draws:
+        views.insert(0, ("Record answers", "answers.show"))
+    elif found.children:
+        views.append(("Record EHC plans", "answers.show"))
+    links = [(words, address_of(view, {})) for words, view in views]
     return [it for it in links if it[1]]
 
 
