@@ -210,7 +210,7 @@ def test_a_round_by_five_hands(machine: Machine, town: Town) -> None:
         # (the rehearsal follows)
         page = jane.browser.get("/").text
         assert '<a href="/draws/1"' in page
-        assert ">Draw 1: a round. Next: confirm draw 1.<" in page
+        assert ">Draw 1: a round. A second person has to confirm it.<" in page
         wanted = town.allotted(lots)
         shown = hal.browser.get("/draws/1").text
         assert "from then on until the register is open again. All can still read" in shown

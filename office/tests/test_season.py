@@ -16,7 +16,7 @@ from pages import Page, press, tasks
 from office import worklists as office_worklists
 from office.model import OFFERED, Place
 from office.register_lists import Rows, lapse_due, remind_due
-from office.web import home, wording, worklists
+from office.web import frame, home, wording, worklists
 from office.web.draws_terms import IN_ORDER, Draw, Terms
 from office.web.people import Person
 from office.web.screens import lists, season
@@ -45,15 +45,18 @@ def test_the_supervisor_draws_only_lots_that_a_draw_waits_for(tmp_path: pathlib.
         terms = Terms(1, None, 1, datetime.date(2025, 3, 3))
 
         def due(draw: Draw | None) -> list[str]:
-            found = home.tasks(register, today, home.Known(draw, "Next: next."))
+            turn = frame.turn(draw) if draw else ""
+            found = home.tasks(register, today, home.Known(draw, turn))
             return [it.hint for title, rows in found for it in rows if title != "Not yet"]
 
         assert due(None) == [
             "The offer day is Monday, 3 March 2025. The supervisor draws 8 lots."]
         for state in IN_ORDER:
             draw = Draw(1, terms, state, 1, None, None, "", {}, {}, "", "", "", "", (), None, "")
-            assert due(draw) == ["Draw 1: a round. The supervisor can draw the lots now."
-                                 if state == "lots" else "Draw 1: a round. Next: next."]
+            turn = {"lots": "The supervisor has the lots to draw and to seal.",
+                    "rehearsed": "A second person has to confirm it."}
+            assert due(draw) == [
+                f"Draw 1: a round. {turn.get(state, 'A head of the office goes on with it.')}"]
 
 
 def test_a_season_goes_step_by_step(

@@ -11,7 +11,7 @@ from office import days, model, register_lists, texts
 from office.model import Register, School
 
 from . import pictures
-from .draws_terms import LOTS, Draw
+from .draws_terms import Draw
 from .history import ANSWER, SENDS, SETTLED, Entry
 from .letters_whom import OFFERS, PART
 from .notices import LAPSE, REMIND
@@ -54,6 +54,7 @@ class Known:
     untold: Mapping[int, int] = dataclasses.field(default_factory=dict)
     answers: int = 0
     rows: int = 0
+    withdrawn: int = 0
     of_head: tuple[Task, ...] = ()
 
 
@@ -96,15 +97,7 @@ def tasks(register: Register, today: datetime.date, known: Known) -> list[tuple[
 def of_draw(known: Known) -> Iterator[Task]:
     """The draw in progress."""
     if known.draw:
-        said = sentence(known.draw.in_words)
-        if known.draw.give_up_by:
-            said += f" {known.draw.give_up_by} has asked to give it up."
-        elif known.draw.restore_by:
-            said += f" {known.draw.restore_by} has asked to restore the copy from before it."
-        elif known.draw.state == LOTS:
-            said += " The supervisor can draw the lots now."
-        elif known.next_step:
-            said += f" {known.next_step}"
+        said = f"{sentence(known.draw.in_words)} {known.next_step}"
         yield Task(f"Go on with {known.draw.terms.numbers}", said, "In progress", WAITING,
                    "draws.one", {"number": str(known.draw.number)})
 
@@ -177,6 +170,10 @@ def of_work(known: Known, register: Register) -> Iterator[Task]:
     if known.rows:
         yield Task("Check and store applications", "They are in the table, and not in the register"
                    " yet.", texts.count(known.rows, "row"), WAITING, "applications.show")
+    if known.withdrawn and not register.draws:
+        yield Task("Look at rows that were withdrawn", "They are not in the register. Bring back"
+                   " what a family still wants.", texts.count(known.withdrawn, "row"), READY,
+                   "applications.withdrawn")
 
 
 def of_places(register: Register, today: datetime.date) -> Iterator[Task]:
@@ -326,7 +323,7 @@ def figures(register: Register) -> list[Figure]:
     return [*found,
             Figure(share(met[0], every) or "none", "Have their first preference",
                    f"{share(some, every)} have one of theirs" if every else "", "lists.one",
-                   {"name": "children"}),
+                   {"name": "preferences"}),
             Figure(f"{offers:,}", "Offers not answered", "", "lists.one", {"name": "no-answer"},
                    "bad" if offers else ""),
             Figure(f"{sum(it.vacancies for it in schools):,}", "Vacant places",

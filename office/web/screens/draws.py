@@ -274,14 +274,6 @@ def state_to_come(draw: Draw, register: Register | None) -> str:
     return next_state(draw) if is_held else SENDING
 
 
-def next_in_words(draw: Draw, register: Register) -> str:
-    """The next step of a draw as its heading has it, or ""."""
-    state = state_to_come(draw, register)
-    title = next((it.title for it in STEPS if it.state == state), "")
-    text = button_of(draw, state, standing_of(draw, register)) or title
-    return text[:1].lower() + text[1:]
-
-
 def button_of(draw: Draw, state: str, standing: int) -> str:
     """The text of the next button."""
     text = next((it.button for it in STEPS if it.state == state), "")

@@ -9,17 +9,17 @@ from werkzeug.wrappers import Response
 
 from office.model import Register
 
-from .. import home, pictures
+from .. import frame, home, pictures
 from ..draws_terms import LOTS, Draw
 from ..guard import SIGNED_IN, needs, parts, person
 from ..home import Known, Task
 from ..letters_sender import Sender
 from ..people import DRAW, NOTES, READ, RECORD
 from ..schools import COLUMNS
-from ..staging_rows import OPEN
+from ..staging_rows import OPEN, WITHDRAWN
 from ..staging_tools import tools
 from ..wording import sentence, weekday
-from . import answers, draws, letters
+from . import answers, letters
 
 screen = flask.Blueprint("season", __name__)
 PLACES = [{"name": it, "title": it, "kind": "number" if at else "", "href": ""}
@@ -56,14 +56,13 @@ def address_of(view: str, values: Mapping[str, str]) -> str:
 
 def known(register: Register, draw: Draw | None) -> Known:
     """What the application knows that this person may do something about."""
-    step = draws.next_in_words(draw, register) if draw else ""
     said = "A step of it runs now." if parts().following.under_way() else (
-        f"Next: {step}." if step else "")
+        frame.turn(draw) if draw else "")
     if not person().may(RECORD):
         return Known(draw, said)
     return Known(draw, said, letters.lists().untold(register),
                  answers.all_piles().left_of(person().name), tools().staging.count(OPEN),
-                 of_head(register))
+                 tools().staging.count(WITHDRAWN), of_head(register))
 
 
 def of_head(register: Register) -> tuple[Task, ...]:
