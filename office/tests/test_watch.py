@@ -79,7 +79,7 @@ def test_the_register_is_asked_once_in_a_while() -> None:
 
 
 def test_who_asks_meanwhile_has_the_last_answer() -> None:
-    """A register that hangs holds one thread, and not all."""
+    """A register that hangs holds one thread, and not all; and after some seconds it is away."""
     now = [100.0]
     found, register = watch.Watch(lambda: now[0]), Register(200, 503)
     desk = cast(Desk, register)
@@ -92,6 +92,8 @@ def test_who_asks_meanwhile_has_the_last_answer() -> None:
     thread.start()
     assert register.begun.wait(10)
     assert found.is_answered(desk) and register.asked_for == 2
+    now[0] += watch.LATE_SECONDS
+    assert not found.is_answered(desk) and register.asked_for == 2
     register.goes_on.set()
     thread.join()
     assert said == [False]

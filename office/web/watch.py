@@ -2,6 +2,7 @@
 were answered with which status. Nothing of it is of a person.
 """
 import collections
+import math
 import threading
 import time
 from collections.abc import Callable
@@ -14,6 +15,8 @@ from .desk import Desk
 SECONDS = 1.0
 # so long others wait for its first answer
 FIRST_SECONDS = 2.0
+# a register that has not answered for so long is away, whatever it answered before
+LATE_SECONDS = 5.0
 # an answer of the register to this, of whatever child, says that it reads its rows
 ASKED, ANSWERED = "/child/1", (200, 404)
 
@@ -27,6 +30,8 @@ class Watch:
         self.counting, self.asking = threading.Lock(), threading.Lock()
         self.statuses: collections.Counter[int] = collections.Counter()
         self.last: tuple[float, bool] | None = None
+        # since when somebody waits for its answer, or never
+        self.since = math.inf
 
     def add(self, status: int) -> None:
         """Counts an answer."""
@@ -40,17 +45,20 @@ class Watch:
 
     def is_answered(self, desk: Desk) -> bool:
         """Whether the register answers. While somebody waits for its answer, others have the last
-        one.
+        one for some seconds.
         """
         last = self.last
         if not self.asking.acquire(timeout=FIRST_SECONDS if last is None else 0):
-            return last is not None and last[1]
+            is_late = self.clock() - self.since >= LATE_SECONDS
+            return last is not None and last[1] and not is_late
         try:
             last = self.last
             if last is None or self.clock() - last[0] >= SECONDS:
-                last = self.last = self.clock(), is_up(desk)
+                self.since = self.clock()
+                last = self.last = self.since, is_up(desk)
             return last[1]
         finally:
+            self.since = math.inf
             self.asking.release()
 
 
