@@ -119,9 +119,13 @@ stops.forEach((it, at) => { it.dataset.stop = at; });
 return stops.length;
 """
 WITHOUT_TAB = COMMON + """
+const to = (it) => it.getAttribute("href");
+const reached = all("a[href]").filter((it) => isShown(it) && it.tabIndex >= 0).map(to);
+// (a mark of a picture leads where a link of the page does)
+const isMark = (it) => it.matches("svg a") && reached.includes(to(it));
 return all("a[href], button, input, select, textarea, summary, [tabindex]").filter(
     (it) => isShown(it) && (it.tabIndex > 0 || (
-        it.tabIndex < 0 && !it.matches("h1, h2, [role=status]")))).map(named);
+        it.tabIndex < 0 && !it.matches("h1, h2, [role=status]") && !isMark(it)))).map(named);
 """
 # from the begin of the page Tab goes to its first control
 TO_BEGIN = """
