@@ -348,9 +348,10 @@ class People:
         row = self.store.row("SELECT hash FROM person WHERE name=?", person.name)
         hashed = row["hash"] if row else self.nobody
         # (who may try it is signed in: the wait keeps nobody else out)
-        if not self.attempts.is_right(
-                lambda: self.is_right(hashed, old), f"{person.name} changes"):
-            raise Refused("the present password is wrong")
+        with self.one_of_few(True):
+            if not self.attempts.is_right(
+                    lambda: self.is_right(hashed, old), f"{person.name} changes"):
+                raise Refused("the present password is wrong")
         see_password(person.name, new)
         if new == old:
             raise Refused("the new password is the present one")
