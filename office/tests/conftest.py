@@ -71,27 +71,27 @@ def cheap_hashes_fixture() -> Iterator[None]:
         yield
 
 
-class Compiled(jinja2.BytecodeCache):
+class Compiled:
     """Compiled templates in memory: another user of a test has no folder of this one's."""
 
     def __init__(self) -> None:
         self.kept: dict[str, bytes] = {}
 
-    def load_bytecode(self, bucket: jinja2.bccache.Bucket) -> None:
-        """Takes what was compiled."""
-        if found := self.kept.get(bucket.key):
-            bucket.bytecode_from_string(found)
+    def get(self, key: str) -> bytes | None:
+        """What was compiled."""
+        return self.kept.get(key)
 
-    def dump_bytecode(self, bucket: jinja2.bccache.Bucket) -> None:
+    def set(self, key: str, value: bytes, _seconds: int | None = None) -> None:
         """Keeps it."""
-        self.kept[bucket.key] = bucket.bytecode_to_string()
+        self.kept[key] = value
 
 
 @pytest.fixture(scope="session", autouse=True)
 def kept_templates_fixture() -> Iterator[None]:
     """The templates of the application are compiled once for all tests of this process."""
     with pytest.MonkeyPatch.context() as patch:
-        patch.setattr(flask.Flask, "jinja_options", {"bytecode_cache": Compiled()})
+        patch.setattr(flask.Flask, "jinja_options", {
+            "bytecode_cache": jinja2.MemcachedBytecodeCache(Compiled())})
         yield
 
 
