@@ -71,7 +71,7 @@ def test_a_child_is_shown_with_its_place_its_list_and_its_data(office: Site) -> 
     assert rita.get("/children/6").status_code == 404
 
 
-def test_a_reason_has_few_words_and_tells_no_distance_that_no_family_is_told() -> None:
+def test_a_reason_has_few_words_and_withholds_distances() -> None:
     """For each reason of a draw. Of a child that is looked after there are no metres."""
     last = Cutoff(2, 400, 7)
     for by, wanted in (

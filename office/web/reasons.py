@@ -11,8 +11,8 @@ from office.model import CLASS, DISTANCE, LOT, NOBODY, Cutoff, Draw, Register
 @dataclasses.dataclass(frozen=True)
 class Reason:
     """What a draw says of a child at a school: how the last child that was newly admitted ranks, in
-    words and metres, if anybody was; and why this one was not, or "" if it was. There are no metres
-    where they are those of a child that no family is told of: officers read aloud.
+    words and metres, if anybody was; and why this one was not, or "" if it was. The metres of a
+    child that is looked after or has a flag are withheld: officers read aloud.
     """
 
     draw: Draw

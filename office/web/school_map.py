@@ -22,7 +22,7 @@ BEYOND, LEAST_REACH = 1.15, 1000
 @dataclasses.dataclass(frozen=True)
 class Filled:
     """The children of one class at a school: how many have a place and how many wait, and how far
-    away the last of those with a place lives, unless that is told to no family.
+    away the last of those with a place lives, unless that is withheld from families.
     """
 
     words: str
