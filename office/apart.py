@@ -46,12 +46,13 @@ def done(
     """
     places = [os.path.dirname(HERE), os.path.dirname(os.path.abspath(register_files.__file__))]
     late = Refused(f"{what} takes more than {seconds} seconds")
+    most = MOST_SECONDS if most_seconds is None else most_seconds
     try:
         with AT_ONCE:
             ran = subprocess.run(
                 [sys.executable, "-I", "-B", "-c", BEGIN, *places, module],
                 input=json.dumps(asked).encode() + b"\n" + data, env=ENVIRONMENT,
-                capture_output=True, check=False, timeout=most_seconds or MOST_SECONDS)
+                capture_output=True, check=False, timeout=most)
     except subprocess.TimeoutExpired as error:
         raise late from error
     if ran.returncode in (-signal.SIGXCPU, -signal.SIGKILL):

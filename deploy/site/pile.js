@@ -89,7 +89,7 @@ function paragraph(id, kind, text) {
 /** @param {XMLHttpRequest} request */
 function show(request) {
   const made = request.responseXML;
-  const pile = made?.getElementById("pile"), record = made?.getElementById("record"), said = made?.getElementById("said");
+  const pile = made?.getElementById("pile"), record = made?.getElementById("record-part"), said = made?.getElementById("said");
   if (request.status !== 200 || !pile || !record || !said) return false;
   status.replaceChildren(...said.childNodes);
   const held = document.activeElement?.id;

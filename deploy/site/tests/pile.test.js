@@ -37,7 +37,7 @@ globalThis.XMLHttpRequest = class {
     hold.then(() => {
       const answer = answers.get(entry) ?? "";
       if (answer === "no line") return this.onerror(new Error("no line"));
-      const parts = { pile: new Part(), record: new Part({ id: "record" }), said: new Part(), answer: answer ? new Part({ textContent: answer }) : null };
+      const parts = { pile: new Part(), "record-part": new Part({ id: "record-part" }), said: new Part(), answer: answer ? new Part({ textContent: answer }) : null };
       if (answer === "broken") Object.defineProperty(parts.said, "childNodes", { get: () => { throw new Error("broken"); } });
       this.status = answer && answer !== "broken" ? 409 : 200;
       this.responseXML = { getElementById: (id) => parts[id] ?? null };
@@ -53,7 +53,7 @@ let turn = 0;
 async function load(more = {}) {
   page = {
     entries: new Part({ action: "/answers/" }), entry: new Part(), pasted: new Part({ value: more.pasted ?? "" }), said: new Part(), who: new Part({ textContent: "jane" }),
-    "not-added": new Part(), several: new Part({ id: "several", dataset: more.dataset ?? {} }), pile: new Part(), record: new Part(),
+    "not-added": new Part(), several: new Part({ id: "several", dataset: more.dataset ?? {} }), pile: new Part(), "record-part": new Part(),
   };
   globalThis.document = Object.assign(new Part(), {
     getElementById: (id) => page[id] ?? null, createElement: () => new Part(), importNode: (it) => it, activeElement: null, querySelector: () => null,
