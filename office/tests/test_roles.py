@@ -180,7 +180,7 @@ def sent(program: Program, method: str, path: str) -> Answer:
 
 
 def test_what_is_for_programs_takes_a_token_of_its_role_and_no_session(office: Site) -> None:
-    """Whoever is signed in is told what to use."""
+    """The refusal names what a session has to use."""
     theirs = [it for it in addresses(office) if it[0] in OF_PROGRAMS]
     assert {it[0] for it in theirs} == set(OF_PROGRAMS) == guard.OF_PROGRAMS
     for role in ROLES:

@@ -265,7 +265,7 @@ def is_worse(listed: list[str], got: str | None, code: str) -> bool:
     return got is None or listed.index(got) > listed.index(code)
 
 
-# what is compared with the model, and in which column the kinds of rows are told apart
+# what is compared with the model, and which column has the kind of a row
 OF_DRAWS: dict[str, tuple[Callable[[Any], Iterator[Row]], int]] = {
     "preferences": (preferences, 2), "last-offered": (last_offered, 5),
     "equal-at-limit": (equal_at_limit, 6),
