@@ -88,7 +88,7 @@ def made(
     program = tmp_path / "admissions"
     program.write_text("#!/bin/sh\n")
     program.chmod(0o755)
-    version = package.releases()[0][0]
+    version = re.split("[-+~]", package.releases()[0][0])[0]
     # (the commands that make a package need not be on this machine)
     monkeypatch.setattr(package, "NEEDED", {})
     monkeypatch.setattr(package, "program_version", lambda _: f"admissions {version}")
@@ -105,6 +105,54 @@ def test_a_verdict_is_of_the_program_of_this_checkout_alone(
         match="says nothing of .*, which is not the program that this checkout built",
     ):
         made(package, str(tmp_path / "log"), monkeypatch, tmp_path)
+
+
+def released(folder: pathlib.Path, changelog: str, *tags: str) -> types.ModuleType:
+    """deploy/package of a repository with a changelog, whose commits before the last have tags."""
+    (folder / "deploy").mkdir()
+    (folder / "deploy/package").write_bytes((ROOT / "deploy/package").read_bytes())
+
+    def git(*words: str) -> None:
+        about = ["-c", "user.name=A", "-c", "user.email=a@b.example", "-c", "commit.gpgsign=false"]
+        subprocess.run(["git", "-C", folder, *about, *words], check=True)
+
+    git("init", "--quiet")
+    for name in (*tags, ""):
+        (folder / "CHANGELOG.md").write_text(f"# Changelog\n\n{changelog}{' ' * (not name)}")
+        git("add", "CHANGELOG.md")
+        git("commit", "--quiet", "--message", name or "last")
+        if name:
+            git("tag", name)
+    return loaded(folder / "deploy/package")
+
+
+def compared(one: str, relation: str, other: str) -> bool:
+    """Whether Debian's tools put two versions so."""
+    return not subprocess.run(["dpkg", "--compare-versions", one, relation, other],
+                              check=False).returncode
+
+
+def test_a_commit_after_a_release_has_a_version_between_it_and_the_next(
+    tmp_path: pathlib.Path
+) -> None:
+    changes = "## Next release\n\n- Something.\n\n## 0.1.0, 2026-11-26\n\n- The first.\n"
+    package = released(tmp_path, changes, "v0.1.0")
+    (version, _, text), before = package.releases()
+    assert (text, before[0]) == ("- Something.", "0.1.0")
+    assert version.endswith(package.git("rev-parse", "HEAD")[:8])
+    assert all(compared(version, it, other) for it, other in
+               (("gt", "0.1.0"), ("lt", "0.1.1"), ("lt", "0.2.0")))
+    assert package.debian_changelog().startswith(f"admissions ({version}) unstable;")
+    package.refuse_tagged(version)
+
+
+def test_a_release_is_one_commit(tmp_path: pathlib.Path) -> None:
+    package = released(tmp_path, "## 0.1.0, 2026-11-26\n\n- The first.\n", "v0.1.0")
+    assert package.releases()[0][0] == "0.1.0"
+    with pytest.raises(package.Refused, match="v0.1.0 is another commit"):
+        package.refuse_tagged("0.1.0")
+    package.git("checkout", "--quiet", "v0.1.0")
+    package.refuse_tagged("0.1.0")
 
 
 def test_without_a_verdict_nothing_is_made() -> None:
