@@ -237,8 +237,8 @@ class Store:
                 if self.db.in_transaction:
                     self.db.execute("ROLLBACK")
                 if getattr(error, "sqlite_errorname", "") == FULL:
-                    raise Refused("the disk is full, and nothing was stored: tell whoever"
-                                  " maintains the system") from error
+                    raise Refused("the disk is full, and nothing was stored: IT support has to"
+                                  " make room on it") from error
                 raise
 
     def rows(self, query: str, *values: object) -> list[sqlite3.Row]:
