@@ -21,6 +21,21 @@ def section(page: Path, heading: str) -> str:
     return found[1]
 
 
+def parts(page: Path, heading: str) -> list[tuple[str, str]]:
+    """The headings below one of a page, each with the text below it, as one line."""
+    text = f"{page.read_text(encoding='utf-8')}\n## "
+    found = re.search(rf"(?ms)^## {re.escape(heading)}\n(.*?)(?=^## )", text)
+    listed = re.split(r"(?m)^### (.*)\n", found[1])[1:] if found else []
+    if not listed:
+        raise Refused(f"{page} has no headings below '{heading}'")
+    return [(name, " ".join(said.split())) for name, said in zip(listed[::2], listed[1::2])]
+
+
+def points(text: str) -> list[str]:
+    """The points of a list, each as one line."""
+    return [" ".join(it.split()) for it in re.findall(r"(?ms)^- (.*?)(?=^- |^\n|\Z)", text)]
+
+
 def cells_of(line: str) -> list[str]:
     """The cells of a row of a table."""
     return [it.strip() for it in re.split(r"(?<!\\)\|", line)[1:-1]]

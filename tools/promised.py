@@ -1,16 +1,16 @@
-"""What is promised, for tools/evidence: the claims of README.md, the rows of docs/GUARANTEES.md and
-the rules of the Code, each sentence with its clauses; and each clause with what it assumes."""
+"""What is promised, for tools/evidence: the promises of docs/GUARANTEES.md in plain words, the rows of
+its tables and the rules of the Code, each sentence with its clauses; and each clause with what it
+assumes."""
 import re
 from collections.abc import Callable
 from pathlib import Path
 from typing import Any
 
 from claims import LIMIT, TABLE, Carrier, Claims, Sentence, Unclear, named, sentences
-from page_text import Refused, plain, section, table
+from page_text import Refused, parts, plain, points, section, table
 from premises import Premise, Premises
 
 README, CODE = Path("README.md"), "The rules of the Code"
-CLAIM = re.compile(r"\*\*(.+?)\.\*\* (.*)")
 LEFT = "Of the rule on the .."
 # the definitions that say what a clause assumes where one of its premises reaches them
 ASSUMED = ("SuccessiveRuns.HavePagesOf",)
@@ -47,11 +47,11 @@ class Promised:
         self.named: dict[str, Any] = {}
         try:
             self.rows = [(row, self.of_row(row)) for row in project.rows]
-            self.of_readme = list(self.of_claims())
+            self.of_promises = list(self.of_claims())
         except Unclear as error:
             raise Refused(str(error)) from error
         if self.list.entries:
-            raise Refused(f"{TABLE}: README has no promise {', '.join(self.list.entries)}")
+            raise Refused(f"{TABLE}: there is no promise {', '.join(self.list.entries)}")
         self.assumed = [it for it in project.reached if it.anchor in ASSUMED]
         for it in project.reached:
             if re.search(r"\bassum", it.sentence) and not {it, *it.names} & {*self.assumed}:
@@ -61,9 +61,7 @@ class Promised:
     @staticmethod
     def points() -> list[str]:
         """The points of README's list of what it leaves out, with their links."""
-        text = section(README, "What it does not do")
-        found = re.findall(r"(?ms)^- (.*?)(?=^- |^\n|\Z)", text)
-        return [" ".join(it.split()) for it in found]
+        return points(section(README, "What it does not do"))
 
     def said(self, row: Any) -> str:
         """What a row promises: of a rule of the Code, what holds here."""
@@ -83,22 +81,17 @@ class Promised:
         return Sentence(self.said(row), [Carrier(it, []) for it in carrying])
 
     def of_claims(self) -> Any:
-        """The claims of README.md, each with the heading that it links to and its sentences."""
+        """The promises in plain words, each with its sentences."""
+        page = self.reference.GUARANTEES
         carrying = {it for _, found in self.rows for it in found.clauses}
-        for said, link in table(README.read_text(encoding="utf-8"), "What is promised"):
-            found = CLAIM.fullmatch(said)
-            if not found:
-                raise Refused(f"{README}: this claim has no name in bold: {said}")
-            texts = sentences(plain(found[2]))
+        for name, said in parts(page, "What is promised"):
             # (a name that is a promise itself)
-            first = next(iter(self.list.entries.get(found[1], ())), "")
-            texts = [f"{found[1]}.", *texts] if first == found[1] else texts
-            result = self.list.of(found[1], texts)
+            first = next(iter(self.list.entries.get(name, ())), "")
+            result = self.list.of(name, [f"{name}."] * (first == name) + sentences(plain(said)))
             for clause in (it for one in result for it in one.clauses):
                 if clause not in carrying:
-                    raise Refused(f"{README}: {found[1]}: no row of {self.reference.GUARANTEES} has"
-                                  f" {named(clause)}")
-            yield found[1], re.findall(r"#([\w-]+)", link)[0], result
+                    raise Refused(f"{page}: {name}: no row has {named(clause)}")
+            yield name, result
 
     def sentence(self, it: Sentence) -> dict[str, Any]:
         """A sentence with the names of its clauses; none: it says what is not covered."""
@@ -109,12 +102,10 @@ class Promised:
                             for clause, by in it.carriers]}
 
     def claims(self) -> list[dict[str, Any]]:
-        """The claims of README.md, with the numbers of the promises below their heading."""
-        anchors = [(self.reference.anchor_of(row.heading), row.number) for row, _ in self.rows]
-        return [{"claim": name, "heading": anchor,
-                 "sentences": [self.sentence(it) for it in found],
-                 "promises": [number for at, number in anchors if at == anchor]}
-                for name, anchor, found in self.of_readme]
+        """The promises in plain words, each with its heading."""
+        return [{"claim": name, "heading": self.reference.anchor_of(name),
+                 "sentences": [self.sentence(it) for it in found]}
+                for name, found in self.of_promises]
 
     def promises(self) -> list[dict[str, Any]]:
         """The rows of the guarantees."""

@@ -145,8 +145,8 @@ def test_each_sentence_leads_to_its_clauses_where_they_are(pack: Pack) -> None:
     copy, found = pack
     assert found["changes_that_are_not_committed"] == []
     assert found["commit"] == run(copy, "git", "rev-parse", "HEAD").stdout.strip()
-    rows = re.findall(r"(?m)^\| \*\*(.+?)\.\*\*", (copy / "README.md").read_text())
-    assert [it["claim"] for it in found["claims"]] == rows
+    names = page_text.parts(copy / "docs/GUARANTEES.md", "What is promised")
+    assert [it["claim"] for it in found["claims"]] == [name for name, _ in names]
     pages = {it.name: it.read_text() for it in copy.glob("out/evidence/*.html")}
     clauses = {it["id"]: it for it in found["clauses"]}
     used = set()
@@ -628,7 +628,7 @@ def promises_fixture(project: typing.Any, monkeypatch: pytest.MonkeyPatch) -> ty
 
 
 def test_a_fill_takes_the_first_as_it_is_claimed(promises: typing.Any) -> None:
-    """From the sentence of README to the clause, the definition, and what it assumes."""
+    """From the sentence of the promise to the clause, the definition, and what it assumes."""
     it = promises()
     claim = next(one for one in it.claims() if one["claim"] == "No queue jumping")
     said = claim["sentences"][1]
@@ -975,7 +975,7 @@ def test_each_rule_of_the_code_has_its_paragraphs(promises: typing.Any) -> None:
     for one in (one for rule in rules for one in rule["sections"]):
         assert f"Code 2021, {one['sections']}" in (ROOT / one["file"]).read_text()
     left_out = " ".join(it.points())
-    assert all(what in left_out for what in ("appeals", "in-year admissions", "Infant class"))
+    assert all(what in left_out for what in ("appeals", "In-year admissions", "Infant class"))
 
 
 @pytest.mark.parametrize(("old", "new", "wanted"), [
@@ -1019,8 +1019,8 @@ SIZES = "`cases/sizes`, `cases/children`"
     ("docs/GUARANTEES.md", "| ranked again |", "| ordered again |",
      "this rule has no 'ordered again'"),
     ("docs/GUARANTEES.md", "`office/tests/test_lists.py` |", "the tests |", "no test is named"),
-    ("README.md", "**All or nothing.** A", "All or nothing. A", "has no name in bold"),
-    ("README.md", "by the same lots, by declining its place first.",
+    ("docs/GUARANTEES.md", "### All or nothing\n", "", "confirmed: these are not the first"),
+    ("docs/GUARANTEES.md", "by the same lots, by declining its place first.",
      "by the same lots, by declining its place first. Nor later.", "words of its 2 sentences"),
 ])
 def test_what_is_missing_is_an_error(
@@ -1054,11 +1054,10 @@ def test_what_is_missing_is_an_error(
 def test_a_page_that_does_not_fit_leaves_what_was_there(copy: pathlib.Path) -> None:
     (copy / "out/evidence").mkdir(parents=True)
     (copy / "out/evidence/index.html").write_text("as it was")
-    name = "**All or nothing.** A"
-    change(copy, "README.md", name, name.replace("*", ""))
+    change(copy, "docs/GUARANTEES.md", "### All or nothing\n", "")
     done = run(copy, "tools/evidence")
     assert done.returncode == 1 and done.stdout == ""
-    assert "this claim has no name in bold" in done.stderr
+    assert "A crash loses nothing that was confirmed: these are not" in done.stderr
     assert files(copy) == {"index.html": b"as it was"}
 
 
