@@ -1,4 +1,5 @@
-"""The sentences of the promises of docs/GUARANTEES.md, each with the clauses that carry it (tools/claims.txt)."""
+"""The sentences of the promises of docs/GUARANTEES.md, each with the clauses that carry it
+(tools/claims.txt)."""
 import re
 from pathlib import Path
 from typing import Any, NamedTuple

@@ -8,8 +8,8 @@ from pathlib import Path
 
 # beside README.md, CHANGELOG.md, CONTRIBUTING.md, COPYING and docs/*.md
 LISTS = ("bench/RESULTS.md", "crates.txt", "debian/ported.tsv", "tools/claims.txt",
-         "tools/expected", "tools/mutants", "tools/notation_words.json", "tools/proved_source.py",
-         "tools/test", "tools/unit", "tools/verdict_words.json")
+         "tools/expected", "tools/mutants", "tools/notation_words.json", "tools/promises.md",
+         "tools/proved_source.py", "tools/test", "tools/unit", "tools/verdict_words.json")
 # what is no text to look for names in: marks, and what is within these
 MARKED = re.compile(r"(?s)(<(a|pre|title|style|svg)\b.*?</\2>|<[^>]*>)")
 # (its words may go over an end of line, and not over an empty line)

@@ -1,6 +1,6 @@
-"""What is promised, for tools/evidence: the promises of docs/GUARANTEES.md in plain words, the rows of
-its tables and the rules of the Code, each sentence with its clauses; and each clause with what it
-assumes."""
+"""What is promised, for tools/evidence: the promises of docs/GUARANTEES.md in plain words, the
+rules of the Code there and the rows of tools/promises.md, each sentence with its clauses; and each
+clause with what it assumes."""
 import re
 from collections.abc import Callable
 from pathlib import Path
@@ -160,10 +160,11 @@ class Promised:
     def only_tested(self) -> list[dict[str, Any]]:
         """What no clause says, with the tests that are named for it and their commands."""
         out = []
-        for said, tests in table(section(self.reference.GUARANTEES, "Only tested"), "Left open"):
+        page = self.reference.ROWS
+        for said, tests in table(section(page, "Only tested"), "Left open"):
             names = [it for it in re.findall(r"`([^`]+)`", tests) if not self.is_function(it)]
             if not names:
-                raise Refused(f"{self.reference.GUARANTEES}: this row names no test: {said}")
+                raise Refused(f"{page}: this row names no test: {said}")
             out.append({"left_open": plain(said), "tested_by": plain(tests),
                         "commands": [self.command(name) for name in names]})
         return out
@@ -173,13 +174,13 @@ class Promised:
         return any(it.name == name for it in self.project.functions)
 
     def command(self, name: str) -> str:
-        """The command of a test that the guarantees name, which must be there."""
+        """The command of a test that a row names, which must be there."""
         path = Path("crates", name) if re.fullmatch(r"\w+_runs", name) else Path(name)
         is_there = name[5:] in self.goals if name.startswith("make ") else path.exists()
         for pattern, command in COMMANDS:
             if is_there and re.fullmatch(pattern, name):
                 return command(name)
-        raise Refused(f"{self.reference.GUARANTEES}: there is no test `{name}`")
+        raise Refused(f"a row names the test `{name}`, which is not there")
 
     def definition(self, it: Any) -> dict[str, str]:
         """A definition in plain words, with its place and its text."""

@@ -1008,13 +1008,13 @@ SIZES = "`cases/sizes`, `cases/children`"
 
 
 @pytest.mark.parametrize(("name", "old", "new", "wanted"), [
-    ("docs/GUARANTEES.md", BEST, BEST.replace("`offers`: `best`", "`offers`: `least`"),
+    ("tools/promises.md", BEST, BEST.replace("`offers`: `best`", "`offers`: `least`"),
      "`least` does not resolve"),
-    ("docs/GUARANTEES.md", f"`adm_commands`::`propose`: `step`; `adm_round`::{BEST}", "|",
+    ("tools/promises.md", f"`adm_commands`::`propose`: `step`; `adm_round`::{BEST}", "|",
      "this promise has no clause: A round gives the child-optimal stable allocation"),
-    ("docs/GUARANTEES.md", SIZES, SIZES.replace("sizes", "lengths"),
-     "there is no test `cases/lengths`"),
-    ("docs/GUARANTEES.md", "| each case in which it succeeds; `desk_runs` |", "| each case |",
+    ("tools/promises.md", SIZES, SIZES.replace("sizes", "lengths"),
+     "the test `cases/lengths`, which is not there"),
+    ("tools/promises.md", "| each case in which it succeeds; `desk_runs` |", "| each case |",
      "this row names no test: a call that always reports Memory"),
     ("docs/GUARANTEES.md", "| ranked again |", "| ordered again |",
      "this rule has no 'ordered again'"),
@@ -1028,10 +1028,11 @@ def test_what_is_missing_is_an_error(
     tmp_path: pathlib.Path, monkeypatch: pytest.MonkeyPatch,
 ) -> None:
     """Over the repository with one page changed."""
-    (tmp_path / "docs").mkdir()
-    for folder in (ROOT, ROOT / "docs"):
+    folders = (ROOT / "docs", ROOT / "tools")
+    for folder in (ROOT, *folders):
+        (tmp_path / folder.relative_to(ROOT)).mkdir(exist_ok=True)
         for it in folder.iterdir():
-            if it != ROOT / "docs":
+            if it not in folders:
                 (tmp_path / it.relative_to(ROOT)).symlink_to(it)
     text = (ROOT / name).read_text()
     assert text.count(old) == 1
@@ -1039,8 +1040,7 @@ def test_what_is_missing_is_an_error(
     (tmp_path / name).write_text(text.replace(old, new))
     monkeypatch.chdir(tmp_path)
     monkeypatch.setattr(project, "failures", [])
-    page = pathlib.Path("docs/GUARANTEES.md")
-    monkeypatch.setattr(project, "rows", list(project.read_rows(page)))
+    monkeypatch.setattr(project, "rows", project.all_rows())
     found = "\n".join(project.failures)
     if not found:
         with pytest.raises(page_text.Refused) as raised:
