@@ -678,7 +678,7 @@ def test_premises_are_read_from_the_source(
 
 
 def test_what_a_premise_reaches_is_assumed_where_its_definition_says_so(pack: Pack) -> None:
-    """Of the law of crashes: the size of pages, which docs/DECISIONS.md calls assumed; and what
+    """Of the law of crashes: the size of pages, which tools/promises.md calls assumed; and what
     the rows assume in words, as known bytes."""
     copy, found = pack
     key = "adm_program_laws.html#SuccessiveRuns.HavePagesOf"
