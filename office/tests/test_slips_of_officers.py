@@ -28,6 +28,7 @@ test of their own elsewhere are named here too, so that this is the whole list.
 | A day in the order of another country | test_child, test_staging: days of a file |
 | A reminder or a withdrawal on a day far away | test_child: warned of |
 | Attempts of a wrong password | test_application |
+| A reload of the page that shows a new password | here |
 | An error that stands far from its field | test_schools, test_child, test_staging |
 """
 import io
@@ -37,7 +38,7 @@ from collections.abc import Iterator
 from typing import Any
 
 import pytest
-from applications import Site, office_over
+from applications import Browser, Site, office_over
 from offers import PAGE, enter, offered, pile, record, sent, shown
 from pages import Page, press
 
@@ -209,6 +210,21 @@ def test_an_empty_or_a_wrong_file_adds_nothing_and_is_said(
     assert found.status_code in (400, 409)
     said = Page(found.text).said()
     assert said.startswith(("Not added: ", "Nothing was added: ")), said
+
+
+def test_a_reload_draws_no_second_password(office: Site) -> None:
+    """The one that was handed over stays, and so does what its person has chosen since."""
+    hal, name = office.browser("hal", "head"), office.add("una", "officer")
+    question = Page(hal.get(f"/people/ask?what=reset&name={name}").text)
+    button = f"Draw a new password of {name}"
+    shown_once = press(hal, "/people/", question, button)
+    secret = " ".join(Page(shown_once.text).by_id["secret"].split())
+    late = press(hal, "/people/", question, button)
+    assert late.status_code == 409 and "secret" not in Page(late.text).by_id
+    assert Page(late.text).said() == "Nothing was changed yet: this is what it does now."
+    assert Browser(office.app).sign_in(name, secret).status_code == 303
+    done = press(hal, "/people/", Page(late.text), button)
+    assert "secret" in Page(done.text).by_id, "and it can be done again by who reads that"
 
 
 def test_a_head_of_a_school_is_led_to_the_own_school(office: Site) -> None:

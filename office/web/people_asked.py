@@ -22,7 +22,9 @@ ACTS = (ROLE, RESET, LOCK, UNLOCK, REMOVE)
 
 @dataclasses.dataclass(frozen=True)
 class Act:
-    """What is to be done to whom, with the role that is given where one is; and as they are now."""
+    """What is to be done to whom, with the role that is given where one is; and as they are now,
+    with the hash of their password or token, by which a form draws a new one once.
+    """
 
     what: str
     name: str
@@ -30,6 +32,7 @@ class Act:
     is_program: bool
     role_now: str
     is_locked: bool
+    hash: str
 
     @property
     def secret(self) -> str:
@@ -75,7 +78,7 @@ def act_of(parts: Parts, what: str, name: str, role: str) -> Act:
     if what == REMOVE:
         parts.people.see_removable(name)
     return Act(what, name, role if what == ROLE else "", row["kind"] == PROGRAM, row["role"],
-               bool(row["is_locked"]))
+               bool(row["is_locked"]), row["hash"])
 
 
 def shown_of(act: Act, said: list[str]) -> str:
