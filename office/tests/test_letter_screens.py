@@ -12,14 +12,14 @@ from typing import Any
 
 import openpyxl
 import pytest
-from applications import Browser, Site, site
+from applications import ORIGIN, Browser, Site, site
 from conftest import make
 from draw_site import machine_over
 from letter_site import (
     HAS, NAMES, ROUND, SENT_ON, after_round, asked, audited, beside, commands, count, hidden,
     letter_pages, made, pages, waited,
 )
-from pages import Page, tasks
+from pages import Page, press, tasks
 from register_files import Refused
 from served import do_over, served
 
@@ -373,22 +373,73 @@ def test_a_file_is_kept_for_a_day_and_an_hour_after_it_was_taken(office: Site) -
     assert "sent on 3 March 2025, by jane" in jane.get(one).text
 
 
-def test_a_set_can_be_ended_and_removed(office: Site) -> None:
+def test_a_set_can_be_ended_and_removed(
+    office: Site, monkeypatch: pytest.MonkeyPatch,
+) -> None:
     """Nothing of it is left: no file, no letter."""
     jane = office.browser("jane")
-    path = jane.post("/letters/make", asked(jane, "part", "1")).location
-    assert jane.post(f"{path}/end").status_code == 303
-    page = waited(jane, path)
-    assert "ended before all were made" in page or "the file is removed" in page
+    with monkeypatch.context() as patch:
+        patch.setattr(office.app.extensions["letters"], "wake", lambda: None)
+        path = jane.post("/letters/make", asked(jane, "part", "1")).location
+        ended = press(jane, path, Page(jane.get(path).text), "End these letters")
+        assert ended.status_code == 303
+        assert "ended before all were made" in jane.get(path).text
     path = made(jane, asked(jane, "part", "1"))
-    jane.post(f"{path}/end")
+    removed = press(jane, path, Page(jane.get(path).text), "Remove this file and its 5 letters")
+    assert removed.status_code == 303
     assert "the file is removed" in jane.get(path).text
-    for it in range(100):
-        if not list((office.parts.config.folder / "letters").iterdir()):
-            break
-        waited(jane, path)
     assert list((office.parts.config.folder / "letters").iterdir()) == []
     assert count(office, "letter") == 0
+
+
+def test_letters_that_were_taken_meanwhile_are_not_removed_by_an_older_page(
+    office: Site, monkeypatch: pytest.MonkeyPatch,
+) -> None:
+    """Neither by the end of a set that is made since, nor by the removal of a file that a colleague
+    has taken and posted: nobody could record that these were sent.
+    """
+    jane, hal = office.browser("jane"), office.browser("hal")
+    with monkeypatch.context() as patch:
+        patch.setattr(office.app.extensions["letters"], "wake", lambda: None)
+        path = jane.post("/letters/make", asked(jane, "offers", "1", child=["1", "2"])).location
+        running = Page(jane.get(path).text)
+    jane.get("/letters/")
+    waited(jane, path)
+    untaken = Page(jane.get(path).text)
+    assert hal.get(f"{path}/file").status_code == 200
+    for page, button in ((running, "End these letters"),
+                         (untaken, "Remove this file and its 2 letters")):
+        late = press(jane, path, page, button)
+        assert late.status_code == 409 and Page(late.text).said() == (
+            "Nothing was ended or removed: these letters are made, taken or sent since they were"
+            " shown.")
+        assert count(office, "letter") == 2
+    page = Page(jane.get(path).text)
+    assert page.by_id["taken"].startswith("Somebody took this file on ")
+    assert recorded(hal, path)[0] == 303
+    late = press(jane, path, page, "Remove this file and its 2 letters")
+    assert late.status_code == 409 and "sent on 3 March 2025, by hal" in late.text
+
+
+def test_a_look_at_the_head_of_a_file_takes_no_letters(office: Site) -> None:
+    """As of a program that looks whether there is one: nobody has the letters by it."""
+    jane = office.browser("jane")
+    path = made(jane, asked(jane, "offers", "1", child=["1"]))
+    assert jane.client.head(f"{path}/file", base_url=ORIGIN).status_code == 200
+    found = jane.post(f"{path}/record", {**SENT_ON, "count": "1"})
+    assert found.status_code == 400
+    assert "Nobody has taken the file of these letters yet" in Page(found.text).said()
+    assert not office.parts.store.rows("SELECT 1 FROM letter_set WHERE taken IS NOT NULL")
+
+
+def test_a_date_of_letters_that_is_far_away_is_asked_about(office: Site) -> None:
+    """Before the file is taken: it stands on each letter."""
+    jane, today = office.browser("jane"), datetime.date.today()
+    for days, is_far in ((7, False), (8, True), (-8, True)):
+        day = (today + datetime.timedelta(days)).isoformat()
+        path = made(jane, asked(jane, "offers", "1", child=["1"], day_of_letters=day))
+        said = Page(jane.get(path).text).by_id.get("far", "")
+        assert ("is it right?" in said) == is_far, (days, said)
 
 
 def test_what_is_not_right_is_said_and_nothing_is_lost(office: Site) -> None:

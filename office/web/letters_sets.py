@@ -102,6 +102,13 @@ class Set:
         """Whether it is not made yet."""
         return self.state in (WAITS, RUNS)
 
+    @property
+    def standing(self) -> str:
+        """What somebody has seen who ends it: that it is being made; or that it is, and when its
+        file was taken and its letters were sent.
+        """
+        return "open" if self.is_open else f"{self.state} {self.taken} {self.sent}"
+
 
 @dataclasses.dataclass(frozen=True)
 class Kept:
@@ -216,12 +223,17 @@ class Sets:
         if shutil.disk_usage(self.folder).free < LEAST_FREE:
             raise Refused("the disk of this machine is nearly full: tell whoever maintains it")
 
-    def end(self, who: Person, number: int) -> None:
-        """Ends a set that is not made yet, or removes the file of one that is."""
+    def end(self, who: Person, number: int, standing: str) -> None:
+        """Ends a set that is not made yet, or removes the file of one that is, as it was seen: of
+        one that was made, taken and posted meanwhile nobody could record that it was sent.
+        """
         with self.lock:
             found = self.get(number)
             if found.state in (ENDED, GONE):
                 return
+            if found.standing != standing:
+                raise Refused("Nothing was ended or removed: these letters are made, taken or sent"
+                              " since they were shown")
             self.history.add(who.name, "ended letters", {"for": found.asked.words, "set": number})
             self.change(number, "state=?, ended=?", ENDED if found.is_open else GONE, now())
             if number in self.running:

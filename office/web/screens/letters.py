@@ -38,7 +38,8 @@ LETTERS: dict[str, tables.Column[sqlite3.Row]] = {
     "words": tables.Column("About", "", lambda it: it["words"]),
 }
 TEXT: tables.Column[sqlite3.Row] = tables.Column("Text", "screen-only")
-# so many days before today letters are recorded as sent without a question
+# so many days before today letters are recorded as sent without a question, and so many days from
+# the day on which they are made they may have their date
 FAR_DAYS = 7
 
 
@@ -238,9 +239,15 @@ def set_page(
         "letters_set.html", it=found, said=said, is_bad=status != 200, template=template_of(found),
         recording=recording(found, day, wrong, sure_of), reason=reason,
         rests=letters_back.rests(sets(), found) if found.sent else "",
-        has_example=sets().has_example(found), many=len(letters.rows),
+        has_example=sets().has_example(found), many=len(letters.rows), is_far=is_far(found),
         may_show=may_show, table=letters, pages=tables.pages("letters.one", number=number),
         page=tables.paged(letters.rows, flask.request.args.get("page", ""))), status
+
+
+def is_far(found: Set) -> bool:
+    """Whether the date of letters that are not sent is far from the day on which they were made."""
+    made = datetime.datetime.fromisoformat(found.at).astimezone().date()
+    return not found.sent and abs((found.asked.date - made).days) > FAR_DAYS
 
 
 def template_of(found: Set) -> str:
@@ -281,7 +288,10 @@ def recording(
 def file(number: int) -> Response:
     """The file of a set, which is taken."""
     found = set_of(number)
-    data = sets().take(person(), number).read_bytes()
+    # (nobody has the letters by a request for the head alone)
+    is_taken = flask.request.method == "GET"
+    path = sets().take(person(), number) if is_taken else sets().file(found)
+    data = path.read_bytes()
     draft = "-draft" if found.is_draft else ""
     stem, _, end = letters_sets.FILES[found.asked.kind].partition(".")
     headers = {"Content-Disposition": f'attachment; filename="{stem}-{number}{draft}.{end}"'}
@@ -293,7 +303,10 @@ def file(number: int) -> Response:
 def end(number: int) -> Answer:
     """Ends a set, or removes its file."""
     set_of(number)
-    sets().end(person(), number)
+    try:
+        sets().end(person(), number, flask.request.form.get("standing", ""))
+    except Refused as error:
+        return set_page(number, sentence(str(error)), 409)
     return flask.redirect(flask.url_for("letters.show"), 303)
 
 
