@@ -17,7 +17,7 @@ import pytest
 from applications import ORIGIN, Browser, Site, office_over
 from conftest import school
 from gazetteers import PATH, csv_of, read_in, receive, said, zipped
-from pages import Page
+from pages import Page, press
 from register_files import Refused
 from staged import workbook
 
@@ -339,10 +339,24 @@ def test_more_rows_than_an_authority_has_are_refused(
     assert gazetteer(office).summaries() == []
     found = Page(jane.get(PATH).text)
     assert "Remove town.csv without reading it in" in found.buttons()
-    jane.post(f"{PATH}drop")
+    press(jane, PATH, found, "Remove town.csv without reading it in")
     assert gazetteer(office).given() is None
     monkeypatch.setattr(gazetteer_rows, "MOST_BYTES", 100)
     assert "a file has at most 0 MB. Send it as a zip" in said(receive(jane, DATA))
+
+
+def test_a_file_of_a_colleague_is_not_removed_by_an_older_page(office: Site, jane: Browser) -> None:
+    """It took the place of the one that was shown."""
+    receive(jane, DATA)
+    older = Page(jane.get(PATH).text)
+    bo = office.browser("bo")
+    bo.get(PATH)
+    receive(bo, DATA + b"1")
+    late = press(jane, PATH, older, "Remove town.csv without reading it in")
+    assert late.status_code == 409
+    assert said(late) == "Nothing was removed: bo has sent town.csv meanwhile."
+    given = gazetteer(office).given()
+    assert given is not None and given.who == "bo"
 
 
 def test_empty_lines_are_counted_and_not_read_for_the_first_rows(

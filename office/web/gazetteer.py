@@ -171,10 +171,13 @@ class Gazetteer:
         """The columns of a first row, as they were chosen last or are usually called."""
         return gazetteer_rows.guessed(first, json.loads(self.store.setting(SETTING, "{}")))
 
-    def drop(self, who: str) -> None:
+    def drop(self, who: str, digest: str) -> None:
         """Removes a file that was sent, and is not to be used."""
         with self.lock:
             if given := self.given():
+                if given.digest != digest:
+                    raise Refused(f"nothing was removed: {given.who} has sent {given.name}"
+                                  " meanwhile")
                 self.history.add(who, "removed a gazetteer that was not read in",
                                  {"file": given.name})
                 (self.folder / GIVEN).unlink()

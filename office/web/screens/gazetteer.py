@@ -96,7 +96,7 @@ def receive() -> Answer:
 @needs(RECORD)
 def drop() -> Answer:
     """A file that was sent, and is not to be used."""
-    tools().points.gazetteer.drop(person().name)
+    tools().points.gazetteer.drop(person().name, flask.request.form.get("digest", ""))
     return flask.redirect(flask.url_for("gazetteer.show", done="removed"), 303)
 
 
