@@ -478,6 +478,20 @@ def test_lines_are_compared_with_one_another() -> None:
         ("a criterion is there twice", point("A"), point("B"))]
 
 
+def test_a_school_far_from_all_others_is_asked_about() -> None:
+    """As one whose east and north are exchanged: nothing of it could be changed once it is stored.
+    """
+    def notes(*points: tuple[str, str]) -> list[tuple[str, ...]]:
+        given = [(at, {"school": f"S{at}", "name": f"School {at}", "pan": "30", "east": east,
+                       "north": north, "criteria": ""}) for at, (east, north) in enumerate(points)]
+        return [it.notes for it in schools.lines_of(given, {}, {})]
+
+    far = ("it is more than 50 km from every other school: are east and north right?",)
+    assert notes(("525000", "180000"), ("526000", "181000"), ("183000", "524000")) == [(), (), far]
+    assert notes(("525000", "180000"), ("525000", "230000"), ("525000", "280001")) == [(), (), far]
+    assert notes(("525000", "180000")) == [()]
+
+
 def test_nothing_is_stored_while_the_register_is_closed(empty: Site) -> None:
     """The draft stays, and the reason is said."""
     jane = empty.browser("jane")

@@ -5,7 +5,7 @@ from typing import Any
 
 from register_files import Refused
 
-from office import commands, fields, header, persons, rules, texts
+from office import across, commands, fields, header, persons, rules, texts
 from office.fields import Field
 from office.model import School
 from office.rules import LIMITS
@@ -165,13 +165,21 @@ def notes_of(
     if len(set(command["criteria"])) < len(command["criteria"]):
         yield "a criterion is there twice"
     schools = [command_of(it) for it in known.values()]
-    for it in [*schools, *(other for _, _, other, _ in others if other)]:
-        if it["school"] == command["school"]:
-            continue
+    all_others = [it for it in (*schools, *(other for _, _, other, _ in others if other))
+                  if it["school"] != command["school"]]
+    if all_others and min(metres_between(command, it) for it in all_others) > across.FAR_METRES:
+        yield (f"it is more than {across.FAR_METRES // 1000} km from every other school: are east"
+               " and north right?")
+    for it in all_others:
         if (it["east"], it["north"]) == (command["east"], command["north"]):
             yield f"{it['school']} has the same point on the map"
         if texts.folded(it["name"]) == texts.folded(command["name"]):
             yield f"{it['school']} has the same name"
+
+
+def metres_between(one: Command, other: Command) -> int:
+    """How far two schools are from each other."""
+    return int(texts.metres(one["east"] - other["east"], one["north"] - other["north"]))
 
 
 def rows_of(rows: Sequence[Row]) -> list[Cells]:
