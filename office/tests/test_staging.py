@@ -16,6 +16,7 @@ import openpyxl
 import pytest
 from applications import ORIGIN, Site, office_over, site
 from conftest import ROOT, apply, child, make, school
+from pages import Page, press
 from register_files import Refused
 from served import served
 from staged import COLUMNS, Screens, Seen, csv_of, workbook
@@ -509,16 +510,59 @@ def test_a_row_is_withdrawn_and_brought_back(office: Site, screens: Screens) -> 
     assert "Withdrawn 1 row" in " ".join(screens.see("commit/").texts["left-out"].split())
     assert screens.bring_back(row).status_code == 303
     assert states(office) == {OPEN: 3}
-    refused = screens.browser.post("/applications/file/1", {"what": "withdraw", "many": "2"})
-    assert refused.status_code == 409 and states(office) == {OPEN: 3}
-    screens.browser.post("/applications/file/1", {"what": "withdraw", "many": "3"})
+    page = Page(screens.browser.get("/applications/").text)
+    press(screens.browser, "", page, "Withdraw 3 rows of a.csv")
     assert states(office) == {WITHDRAWN: 3}
-    screens.browser.post("/applications/withdrawn", {"many": "3"})
+    page = Page(screens.browser.get("/applications/withdrawn").text)
+    press(screens.browser, "/applications/withdrawn", page, "Bring back 3 rows")
     assert states(office) == {OPEN: 3}
     told = [(it.what, it.about) for it in office.parts.history.entries][-3:]
     assert told == [("brought back applications", {"rows": "3 of a.csv"}),
                     ("withdrew applications", {"rows": "2 to 4 of a.csv"}),
                     ("brought back applications", {"rows": "2 to 4 of a.csv"})]
+
+
+def test_rows_that_a_colleague_has_changed_are_not_withdrawn_by_an_older_page(
+    office: Site, screens: Screens,
+) -> None:
+    """As many as were shown, and yet not the same: what somebody has corrected since stays. Nor are
+    other rows brought back than those that were shown.
+    """
+    screens.add(("a.csv", lines(GOOD[:3])))
+    older = Page(screens.browser.get("/applications/").text)
+    row = screens.see().row("row 3 of a.csv")
+    staging = office.app.extensions["staging"].staging
+    staging.save("bo", row, 1, {"name": "Corrected By Bo"})
+    late = press(screens.browser, "", older, "Withdraw 3 rows of a.csv")
+    assert late.status_code == 409 and states(office) == {OPEN: 3}
+    assert Page(late.text).said() == (
+        "Nothing was changed: somebody has changed rows of this file meanwhile.")
+    screens.withdraw(row)
+    other = screens.see().row("row 2 of a.csv")
+    withdrawn = Page(screens.browser.get("/applications/withdrawn").text)
+    screens.bring_back(row)
+    screens.withdraw(other)
+    late = press(screens.browser, "/applications/withdrawn", withdrawn, "Bring back 1 row")
+    assert late.status_code == 409 and states(office) == {OPEN: 2, WITHDRAWN: 1}
+    assert Page(late.text).said() == (
+        "Nothing was changed: the withdrawn rows are others meanwhile.")
+
+
+def test_half_of_a_point_is_not_filled_by_that_of_another_row(
+    office: Site, screens: Screens,
+) -> None:
+    """East of one home and north of another are nobody's home. A row without any has the whole."""
+    rows = [changed(GOOD[0], 3, ""), changed(GOOD[0], 2, "1234"),
+            changed(changed(GOOD[1], 2, ""), 3, ""), GOOD[1]]
+    screens.add(("a.csv", lines(rows)))
+    at = [screens.see().row(f"row {it} of a.csv") for it in range(2, 6)]
+    staging = office.app.extensions["staging"].staging
+    for one, other in (at[:2], at[2:]):
+        merged = screens.browser.post("/applications/duplicates", {
+            "one": one, "one-version": 1, "other": other, "other-version": 1, "what": "merge"})
+        assert merged.status_code == 303
+    points = [[staging.row(it).cells[name] for name in ("east", "north")] for it in at[::2]]
+    assert points == [[GOOD[0][2], ""], GOOD[1][2:4]]
 
 
 def test_duplicates_are_side_by_side_and_merged(office: Site, screens: Screens) -> None:
@@ -1116,9 +1160,11 @@ def test_the_table_has_a_limit(office: Site, screens: Screens) -> None:
     page = screens.see("commit/")
     assert "a register has at most 2,000 children: it has 1, and 2,000 are new" in page.text
     assert screens.store(page.texts.get("", "x")).status_code == 409
-    screens.browser.post("/applications/file/1", {"what": "withdraw", "many": "2000"})
+    page = Page(screens.browser.get("/applications/").text)
+    press(screens.browser, "", page, "Withdraw 2,000 rows of a.csv")
     screens.add(("b.csv", rows(4001, 1)))
-    refused = screens.browser.post("/applications/withdrawn", {"many": "2000"})
+    page = Page(screens.browser.get("/applications/withdrawn").text)
+    refused = press(screens.browser, "/applications/withdrawn", page, "Bring back 2,000 rows")
     assert refused.status_code == 409 and states(office) == {OPEN: 1, WITHDRAWN: 2000}
 
 

@@ -20,10 +20,10 @@ from office.turns import Turn
 from . import points
 from .history import History, now
 from .points import Point
-from .staging_files import Given, Read
+from .staging_files import POINT, Given, Read
 from .staging_rows import (
-    COMMITTED, OPEN, SENDING, WITHDRAWN, File, Staged, named, packed, packed_notes, places_of,
-    see_lengths, staged_of, told,
+    COMMITTED, OPEN, SENDING, WITHDRAWN, File, Staged, digest_of, named, packed, packed_notes,
+    places_of, see_lengths, staged_of, told,
 )
 from .store import Store
 
@@ -84,12 +84,14 @@ class Staging:
     def files(self) -> list[File]:
         """The files, the last first, without those of which all is in the register."""
         counts: dict[int, dict[str, int]] = {}
-        for it in self.store.rows("SELECT file, state, count(*) AS many FROM staged_row"
-                                  " GROUP BY file, state"):
+        versions: dict[int, int] = {}
+        for it in self.store.rows("SELECT file, state, count(*) AS many, sum(version) AS version"
+                                  " FROM staged_row GROUP BY file, state"):
             counts.setdefault(it["file"], {})[it["state"]] = it["many"]
+            versions[it["file"]] = versions.get(it["file"], 0) + it["version"]
         found = self.store.rows("SELECT * FROM staged_file ORDER BY id DESC")
         made = [File(it["id"], it["name"], bool(it["is_form"]), bool(it["is_uk"]),
-                     json.loads(it["changes"]), it["who"], it["added"],
+                     json.loads(it["changes"]), it["who"], it["added"], versions.get(it["id"], 0),
                      {state: counts.get(it["id"], {}).get(state, 0)
                       for state in (OPEN, WITHDRAWN, SENDING, COMMITTED)}) for it in found]
         return [it for it in made if sum(it.counts.values()) > it.counts[COMMITTED]]
@@ -211,13 +213,32 @@ class Staging:
                     " WHERE id=?", [(state, who, now(), it.id) for it in found])
         return found
 
+    def withdraw_file(self, who: str, file: int, version: int) -> None:
+        """Withdraws all rows of a file, as they were shown."""
+        with self.lock:
+            found = next((it for it in self.files() if it.id == file), None)
+            if found is None or found.version != version:
+                raise Meanwhile("somebody has changed rows of this file meanwhile")
+            self.move(who, [(it.id, it.version) for it in self.rows(OPEN) if it.file == file],
+                      WITHDRAWN)
+
+    def bring_back(self, who: str, seen: str) -> None:
+        """Brings all rows back that were withdrawn, as they were shown."""
+        with self.lock:
+            rows = self.rows(WITHDRAWN)
+            if digest_of(rows) != seen:
+                raise Meanwhile("nothing was changed: the withdrawn rows are others meanwhile")
+            self.move(who, [(it.id, it.version) for it in rows], OPEN)
+
     def merge(self, who: str, into: tuple[int, int], other: tuple[int, int]) -> Staged:
         """Fills the empty cells of a row by those of another, which is withdrawn."""
         with self.lock:
             kept, given = self.seen(*into, OPEN), self.seen(*other, OPEN)
             if kept.id == given.id:
                 raise Refused(f"{kept.where} cannot be merged with itself")
-            cells = {it: text if text.strip() else given.cells[it]
+            # (the two numbers of a home's point are one: half of one is not filled by another's)
+            whole = POINT if points.has_any(kept.cells) else ()
+            cells = {it: text if text.strip() or it in whole else given.cells[it]
                      for it, text in kept.cells.items()}
             others = {**given.others, **kept.others}
             filled = {it: told(text) for it, text in cells.items() if text != kept.cells[it]}

@@ -1,6 +1,7 @@
 """The rows of the staging table and its files, as the store keeps them and the history names them.
 """
 import dataclasses
+import hashlib
 import json
 import sqlite3
 from collections.abc import Iterable, Mapping
@@ -65,8 +66,8 @@ class Staged:
 
 @dataclasses.dataclass(frozen=True)
 class File:
-    """A file that was added: who added it and when, what was changed to read it, and how many of
-    its rows are in each state.
+    """A file that was added: who added it and when, what was changed to read it, the sum of the
+    versions of its rows, which grows with each change of one, and how many are in each state.
     """
 
     id: int
@@ -76,6 +77,7 @@ class File:
     changes: list[str]
     who: str
     added: str
+    version: int
     counts: dict[str, int]
 
 
@@ -92,6 +94,11 @@ def staged_of(row: sqlite3.Row) -> Staged:
 def whole(cells: Mapping[str, str]) -> dict[str, str]:
     """Cells with each column that an application has."""
     return {it: cells.get(it, fields.OMITTED.get(it, "")) for it in fields.COLUMNS}
+
+
+def digest_of(rows: Iterable[Staged]) -> str:
+    """Rows in their versions, in short: who changes all of them has seen these."""
+    return hashlib.sha256(packed([[it.id, it.version] for it in rows]).encode()).hexdigest()
 
 
 def packed(value: object) -> str:

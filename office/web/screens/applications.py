@@ -14,9 +14,8 @@ from office.check import ERROR
 from .. import staging_files, staging_page, staging_points, staging_sent, staging_tools, tables
 from ..guard import needs, person
 from ..people import RECORD
-from ..staging import Meanwhile
 from ..staging_check import Table
-from ..staging_rows import OPEN, WITHDRAWN
+from ..staging_rows import OPEN, WITHDRAWN, digest_of
 from ..staging_sent import Refusal
 from ..staging_tools import number_in, table_now, tools
 
@@ -188,10 +187,7 @@ def change_file(number: int) -> Answer:
         if form.get("what") == "uk":
             staging.read_uk(person().name, number)
             return to_table()
-        rows = [(it.id, it.version) for it in staging.rows(OPEN) if it.file == number]
-        if len(rows) != number_in(form, "many"):
-            raise Meanwhile("the table has changed meanwhile")
-        staging.move(person().name, rows, WITHDRAWN)
+        staging.withdraw_file(person().name, number, number_in(form, "version"))
         return to_table()
     except Refused as error:
         return page(f"Nothing was changed: {error}.", True)
@@ -205,6 +201,7 @@ def withdrawn() -> Answer:
     lines = [staging_page.line_of(it, None, {}) for it in rows]
     return flask.render_template(
         "applications_withdrawn.html", columns=staging_page.columns(), many=len(lines),
+        seen=digest_of(rows),
         page=tables.paged(lines, flask.request.args.get("page", "")),
         address=tables.pages("applications.withdrawn"))
 
@@ -213,11 +210,7 @@ def withdrawn() -> Answer:
 @needs(RECORD)
 def bring_back() -> Answer:
     """All of them, brought back."""
-    staging = tools().staging
-    rows = [(it.id, it.version) for it in staging.rows(WITHDRAWN)]
-    if len(rows) != number_in(flask.request.form, "many"):
-        raise Meanwhile("nothing was changed: the table has changed meanwhile")
-    staging.move(person().name, rows, OPEN)
+    tools().staging.bring_back(person().name, flask.request.form.get("seen", ""))
     return to_table()
 
 
