@@ -270,6 +270,26 @@ def test_what_was_recorded_before_the_letters_does_not_rest_on_them(
     record.close()
 
 
+def test_rows_that_may_be_of_another_child_are_shown_before_they_are_stored(office: Site) -> None:
+    """As of a sheet one of whose columns was put in order without the others; and letters that a
+    program has lost. Of a child's own name, and of its parents', nothing is said.
+    """
+    jane = office.browser("jane")
+    data = sheet([["child", "name", "street"], [1, "Ann \"Nan\" O'Abel", "1 High Street"],
+                  [4, "Bo & Bell, jr.", "T? Gwyn"], [5, "GWYN, SIAN TY", "2 Low Street?"]])
+    found = jane.post("/letters/addresses/", {"way": "child", "file": (data, "a.xlsx")})
+    said = " ".join(Page(found.text).by_id["doubts"].split())
+    lost = "is the question mark a letter that was lost?"
+    assert found.status_code == 200 and said == (
+        'child 4, Siân Tŷ Gwyn: "Bo & Bell, jr." is the name of child 5'
+        f' child 4, Siân Tŷ Gwyn: "T? Gwyn": {lost}'
+        ' child 5, Bo & Bell, jr.: "GWYN, SIAN TY" is the name of child 4'
+        f' child 5, Bo & Bell, jr.: "2 Low Street?": {lost}')
+    right = sheet([["child", "name", "street"], [4, "The parents of Siân", "Tŷ Gwyn"]])
+    found = jane.post("/letters/addresses/", {"way": "child", "file": (right, "a.xlsx")})
+    assert found.status_code == 200 and "doubts" not in Page(found.text).by_id
+
+
 def test_addresses_are_uploaded_once_and_stand_on_the_letters(office: Site) -> None:
     """By child or whole; who has none is shown; a faulty file stores nothing."""
     jane = office.browser("jane")

@@ -2,7 +2,7 @@
 import dataclasses
 import hashlib
 import json
-from collections.abc import Iterable, Sequence
+from collections.abc import Iterable, Mapping, Sequence
 
 from register_files import Refused
 
@@ -11,6 +11,7 @@ from office.sheet import Row
 
 from .history import History, now
 from .people import Person
+from .staging_check import LOST
 from .store import Store
 
 # (more lines than a window of an envelope shows)
@@ -43,6 +44,25 @@ def read(
                 len(it) > MOST_CHARACTERS or texts.UNSHOWN.search(it) for it in lines):
             raise Refused(f"the address of child {child} has at most {MOST_LINES} lines, each of"
                           f" {MOST_CHARACTERS} characters that can be printed")
+    return found
+
+
+def doubts(rows: list[Row], names: Mapping[int, str]) -> list[tuple[int, str]]:
+    """What looks wrong in a sheet, by child: a cell with the name of another child, as where one
+    column was put in order without the others; and a letter that was lost.
+    """
+    named: dict[str, list[int]] = {}
+    for number, name in names.items():
+        named.setdefault(texts.folded(name), []).append(number)
+    found = []
+    for child, cells in letter_pdf.addresses_in(NAME, rows)[1].items():
+        for cell in filter(None, cells):
+            others = named.get(texts.folded(cell), [child])
+            if child not in others:
+                found.append((child, f"{texts.shown(cell)} is the name of child {others[0]}"))
+            elif LOST.search(cell):
+                found.append((child, f"{texts.shown(cell)}: is the question mark a letter that was"
+                              " lost?"))
     return found
 
 

@@ -54,12 +54,15 @@ def look(
     """
     names, seen = parts().desk.register().children, addresses().digest()
     replaced = addresses().replaced(found, way == "whole")
+    doubts = letters_addresses.doubts(rows, {it.number: it.name for it in names.values()})
     in_place = f", and replace {texts.count(len(replaced), 'address', 'addresses')}"
     return flask.render_template(
         "letters_addresses_look.html", columns=columns, taken=taken, way=way, ways=WAYS, said=said,
         rows=letters_addresses.packed(rows), shown=" ".join(map(str, taken)), seen=seen,
         examples=[(child, names[child].name, lines)
                   for child, lines in letters_addresses.examples(found)],
+        doubts=[(it, names[it].name, text) for it, text in doubts[:MOST_SHOWN]],
+        more_doubts=len(doubts) - MOST_SHOWN,
         replaced=replaced[:MOST_SHOWN], more=len(replaced) - MOST_SHOWN,
         button=f"Store {texts.count(len(found), 'address', 'addresses')}"
         f"{in_place if replaced else ''}"), 409 if said else 200
