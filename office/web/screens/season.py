@@ -9,7 +9,7 @@ from werkzeug.wrappers import Response
 
 from office.model import Register
 
-from .. import frame, home, pictures
+from .. import doubts, frame, home, pictures
 from ..draws_terms import LOTS, Draw
 from ..guard import SIGNED_IN, needs, parts, person
 from ..home import Known, Task
@@ -139,7 +139,7 @@ def show() -> str | Response:
         return flask.redirect(other)
     found, reason = None, ""
     try:
-        found = parts().desk.now()
+        found, reason = doubts.in_words(parts(), parts().desk.now)
     except Refused as error:
         reason = sentence(str(error))
     draw: Draw | None = parts().draws.present()
