@@ -35,7 +35,7 @@ class Example:
     """An example of the page."""
 
     def __init__(self, number: int) -> None:
-        text = PAGE.split(f"\n#### Example {number}: ")[1].partition("\n#")[0]
+        text = PAGE.split(f"\n### Example {number}: ")[1].partition("\n#")[0]
         schools, children = re.findall(r"(?m)(?:^\|.*\n)+", text)
         self.schools, self.children = rows(schools), rows(children)
 
@@ -171,7 +171,7 @@ def test_an_example_ends_as_the_page_says(
 def test_each_column_of_the_page_is_played() -> None:
     """The page has no other example, and no other column of what children get."""
     given = {"Child", "Holds", "Lists"}
-    numbers = [int(it) for it in re.findall(r"(?m)^#### Example ([0-9]+): ", PAGE)]
+    numbers = [int(it) for it in re.findall(r"(?m)^### Example ([0-9]+): ", PAGE)]
     found = [(it, title) for it in numbers for title in Example(it).children[0]
              if title not in given]
     assert found == [(it[0], it[1]) for it in COLUMNS]
