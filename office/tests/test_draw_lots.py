@@ -9,14 +9,14 @@ from collections.abc import Iterator
 import pytest
 from applications import ORIGIN
 from draw_site import (
-    HAL, SUP, Fields, Machine, after_round, at_lots, begun, brought, lot_of, machine_over,
-    small_register, typed, version,
+    HAL, MISTYPED, SUP, Fields, Machine, Person, after_round, at_lots, begun, brought, lot_of,
+    machine_over, sealed, small_register, typed, version,
 )
 from pages import Page
 from register_files import Refused
 
 from office.model import Pair
-from office.web import draws_lots, draws_sheet
+from office.web import draws_lots, draws_sheet, people
 from office.web.draws_drafts import Typed
 from office.web.screens import lots as screen
 
@@ -349,3 +349,57 @@ def test_lots_are_read_with_the_pairs_that_the_register_says(small: Machine) -> 
         assert draws_lots.ties_in(register, pairs) == {
             it: {"ELM": 1, "OAK": 2}[it[0]] if it[1] in (2, 3) else 0 for it in pairs}
         assert pairs == [(code, it) for code in ("ELM", "OAK") for it in range(1, 6)]
+
+
+def test_lots_that_were_taken_out_again_were_seen(small: Machine) -> None:
+    """A draw whose saved lots are empty again is given up for a reason, and each later one shows
+    it: who made a supervisor's account could otherwise read lots, empty the cells, and begin anew
+    until the lots are to their liking.
+    """
+    with small.office() as office:
+        first = begun(office)
+        brought(office, first, "lots")
+        sup, name = at_lots(office), "lot-OAK-1-0"
+        sup.post(f"/lots/{first}", {name: "5", f"was-{name}": ""})
+        sup.post(f"/lots/{first}", {name: "", f"was-{name}": "5"})
+        assert not any(office.parts.lots.sheet(first)[1].cells().values())
+        hal = Person(office, "hal", "head")
+        found = hal.step(first, "give-up")
+        assert found.status_code == 409 and "Type the reason for giving the draw up" in found.text
+        assert hal.step(first, "give-up", reason=MISTYPED).status_code == 303
+        page = hal.browser.get(f"/draws/{begun(office)}").text
+        assert "was begun before, and" in " ".join(page.split()) and MISTYPED in page
+
+
+@pytest.mark.parametrize("when", ["before", "after"])
+def test_a_made_up_supervisor_neither_sees_nor_draws_lots(small: Machine, when: str) -> None:
+    """Of a draw that was begun by who made the account, or before it was made: the lots of the
+    supervisor are neither shown to them before the seal, nor changed by them; after it they are.
+    """
+    with small.office() as office:
+        office.add("sup", "supervisor")
+        if when == "before":
+            office.parts.history.add("hal", "added", {"person": "sue"})
+        number = begun(office)
+        brought(office, number, "lots")
+        if when == "after":
+            office.parts.history.add("jane", "added", {"person": "sue"})
+        typed(office, number, lambda pair, at: 90_000_000 + lot_of(pair, at))
+        before, sue = office.parts.lots.sheet(number)[1].text(), at_lots(office, "sue")
+        for path in ("", "?page=1", "/seal", "/sheet.csv"):
+            page = sue.get(f"/lots/{number}{path}")
+            assert page.status_code == 403 and "90000" not in page.text, path
+            assert "Another supervisor draws and seals the lots" in page.text, path
+        name = "lot-OAK-1-0"
+        was = office.parts.lots.sheet(number)[1].cells()[("OAK", 1), 0]
+        page = sue.post(f"/lots/{number}", {name: "5", f"was-{name}": was})
+        assert page.status_code == 403 and "90000" not in page.text
+        assert sue.post(f"/lots/{number}/seed", {"seed": "1"}).status_code == 403
+        sheet = (io.BytesIO(b"OAK,1,5\n"), "a.csv")
+        assert sue.post(f"/lots/{number}/sheet", {"file": sheet}).status_code == 403
+        who = people.Person("sue", "supervisor")
+        with pytest.raises(Refused, match="somebody else draws the lots"):
+            office.parts.lots.save(who, number, {(("OAK", 1), 0): Typed(was, "5")})
+        assert office.parts.lots.sheet(number)[1].text() == before
+        sealed(office, number)
+        assert "90000" in sue.get(f"/lots/{number}/seal").text

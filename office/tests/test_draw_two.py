@@ -15,6 +15,7 @@ from draw_site import (
     brought, given_up, lot_of, machine_over, sealed, small_register, typed, version, waiting,
 )
 from pages import Page, press
+from register_files import Refused
 from served import do_over
 
 from office.web import copies, people
@@ -422,12 +423,16 @@ def test_a_supervisor_is_not_made_up(small: Machine, how: str) -> None:
         name = "sup" if how == "renewed" else "sue"
         digest = office.parts.lots.sheet(number)[1].digest()
         made = at_lots(office, name)
-        page = made.get(f"/lots/{number}/seal").text
-        assert "Seal the lots of draw 1</button>" not in page
-        assert "Another supervisor seals the lots, or the office gives the draw up" in page
+        page = made.get(f"/lots/{number}/seal")
+        assert page.status_code == 403 and f"{name} was " in page.text.lower()
+        said = "Another supervisor draws and seals the lots, or the office gives the draw up"
+        assert said in page.text
         given = {"seen": str(version(office, number)), "digest": digest}
         found = made.post(f"/lots/{number}/seal", given)
-        assert found.status_code == 409 and f"{name.title()} was " in found.text
+        assert found.status_code == 403 and said in found.text
+        with pytest.raises(Refused, match=f"{name} was .*: somebody else seals the lots"):
+            office.parts.lots.seal(
+                people.Person(name, "supervisor"), number, version(office, number), digest)
         assert office.parts.draws.get(number).state == "lots"
         if how == "added":
             sealed(office, number)

@@ -14,6 +14,7 @@ from .draws import Draws, case_of
 from .draws_lots import (
     MISSING, MOST_SEED, Cell, Sheet, by_seed, sheet_of, typed_lot,
 )
+from .draws_store import SAVED
 from .draws_terms import LOTS, SEALED, Draw
 from .people import Person
 
@@ -45,11 +46,14 @@ class Drafts:
             raise Refused("there are no pairs of this draw yet")
         return draw, sheet_of(self.store, number, draw.terms)
 
-    def to_change(self, number: int) -> tuple[Draw, Sheet]:
-        """The same, where the lots may be changed."""
+    def to_change(self, who: Person, number: int) -> tuple[Draw, Sheet]:
+        """The same, where this person may change the lots: whoever could not seal them would choose
+        them otherwise, for another supervisor to seal.
+        """
         draw, sheet = self.sheet(number)
         if draw.state != LOTS:
             raise Refused(CLOSED)
+        self.draws.see_second(who, case_of(draw), "somebody else draws the lots")
         return draw, sheet
 
     def save(self, who: Person, number: int, typed: Mapping[Cell, Typed]) -> int:
@@ -57,7 +61,7 @@ class Drafts:
         saved another lot at one of these since the page was shown, nothing is kept.
         """
         with self.lock:
-            draw, sheet = self.to_change(number)
+            draw, sheet = self.to_change(who, number)
             stored = sheet.cells()
             changed = {cell: typed_lot(it.text) for cell, it in typed.items()
                        if cell in stored and typed_lot(it.text) not in (it.was, stored[cell])}
@@ -77,7 +81,7 @@ class Drafts:
             (code, child), _ = min(stays)
             raise Refused(f"the lot of child {child} at {code} was sealed in the draw that this one"
                           " repeats, and stays as it is")
-        self.draws.record(who, "saved lots", draw, **about)
+        self.draws.record(who, SAVED, draw, **about)
         with self.store.writing() as db:
             if not db.execute("SELECT 1 FROM draw WHERE id=? AND state=?",
                               (draw.number, LOTS)).fetchone():
@@ -90,7 +94,7 @@ class Drafts:
     def take(self, who: Person, number: int, fill: int, lots: Mapping[Pair, int]) -> int:
         """Takes the lots of a sheet for one draw of the row, and returns how many changed."""
         with self.lock:
-            draw, sheet = self.to_change(number)
+            draw, sheet = self.to_change(who, number)
             if not 0 <= fill < draw.terms.fills:
                 raise Refused("there is no such draw in the row")
             stored = sheet.cells()
@@ -108,7 +112,7 @@ class Drafts:
         if not seed or not seed.isprintable() or len(seed) > MOST_SEED:
             raise Refused(f"a seed is a line of 1 to {MOST_SEED} characters")
         with self.lock:
-            draw, sheet = self.to_change(number)
+            draw, sheet = self.to_change(who, number)
             drawn = {(row.pair, at): str(by_seed(seed, draw.terms.first + at, row.pair))
                      for row in sheet.rows if not row.tie
                      for at, text in enumerate(row.typed) if not text}

@@ -18,8 +18,8 @@ from .people import Person
 from .step_store import StepStore
 from .store import Store
 
-# the first entry of a draw in the history
-BEGAN = "began a draw"
+# the first entry of a draw in the history, and that of each save of its lots
+BEGAN, SAVED = "began a draw", "saved lots"
 
 
 class DrawStore(StepStore[Draw]):
@@ -50,9 +50,14 @@ class DrawStore(StepStore[Draw]):
         return of_rows(row, self.steps_of(row["id"])) if row else None
 
     def has_lots(self, draw: Draw) -> bool:
-        """Whether a lot of a draw was saved."""
-        return self.store.row(
-            "SELECT 1 FROM lot WHERE draw=? AND text<>''", draw.number) is not None
+        """Whether a lot of a draw was ever saved: also where its cell is empty again, as somebody
+        has seen it.
+        """
+        if self.store.row("SELECT 1 FROM lot WHERE draw=? AND text<>''", draw.number):
+            return True
+        with self.history.lock:
+            entries = list(self.history.entries)
+        return any(it.what == SAVED and it.about.get("id") == draw.number for it in entries)
 
     def given_up_before(self, draw: Draw) -> list[Draw]:
         """The draws that were given up before it with lots, until one is held: those of the same

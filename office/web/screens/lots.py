@@ -16,7 +16,7 @@ from .. import draws_again, draws_second, draws_sheet, numbers
 from ..draws import case_of
 from ..draws_drafts import Typed
 from ..draws_lots import MISSING, MOST_SEED, MOST_TEXT, Cell, Sheet, errors_of_sheet
-from ..draws_terms import BEGUN, LOTS, Draw
+from ..draws_terms import LOTS, Draw
 from ..guard import needs, parts, person
 from ..people import LOTS as RIGHT
 
@@ -53,11 +53,15 @@ def show() -> Answer:
 
 
 def found_sheet(number: int) -> tuple[Draw, Sheet]:
-    """A draw and its lots, or the answer that there are none."""
+    """A draw and its lots; or the answer that there are none, or that they are not for the person.
+    """
     try:
-        return parts().lots.sheet(number)
+        draw, sheet = parts().lots.sheet(number)
     except Refused:
         flask.abort(404)
+    if said := not_own(draw):
+        flask.abort(403, said)
+    return draw, sheet
 
 
 def whole_page(number: int, reason: str = "", status: int = 200, said: str = "") -> Answer:
@@ -70,7 +74,6 @@ def whole_page(number: int, reason: str = "", status: int = 200, said: str = "")
         kept=kept_of(draw, sheet),
         digest="" if wrong else sheet.digest(), head=text.split("\n")[0],
         first=text.split("\n")[1:2], may_seal=draw.state == LOTS and not wrong,
-        not_own=not_own(draw),
     ), status
 
 
@@ -80,13 +83,11 @@ def kept_of(draw: Draw, sheet: Sheet) -> set[Cell]:
 
 
 def not_own(draw: Draw) -> str:
-    """Why the person is none who seals the lots of a draw, or ""."""
-    if draw.who(BEGUN) == person().name:
-        return "You have begun this draw: somebody else seals the lots."
+    """Why the person is none who draws the lots of a draw, and sees them before the seal; or ""."""
     said = draws_second.hindered(parts().history, person().name, case_of(draw)) if (
         draw.state == LOTS) else ""
-    return (f"{said}. Another supervisor seals the lots, or the office gives the draw up"
-            " and begins again.") if said else ""
+    return (f"{said}. Another supervisor draws and seals the lots, or the office gives the draw up"
+            " and begins again") if said else ""
 
 
 def sheet_page(
