@@ -11,8 +11,10 @@ UNSHOWN = re.compile("[\x00-\x1f\x7f-\x9f\u2028\u2029\u200e\u200f\u202a-\u202e\u
 CONTROL = re.compile("[\x00-\x1f\x7f-\x9f]")
 ORDINALS = ("first", "second", "third", "fourth", "fifth", "sixth", "seventh", "eighth", "ninth",
             "tenth")
-# with these a cell begins that a spreadsheet runs, also in their wide forms
-RUN = tuple("=+-@\t\r\n\uff1d\uff0b\uff0d\uff20")
+# with these a cell begins that a spreadsheet runs, also in their wide forms, and behind blanks and
+# what cannot be seen, which it may leave out
+UNSEEN = "\\s\u00ad\u200b-\u200f\u202a-\u202e\u2060-\u2069\ufeff"
+RUN = re.compile(f"[{UNSEEN}]*[=+\\-@\uff1d\uff0b\uff0d\uff20]|[\t\r\n]")
 
 
 def shown(text: str) -> str:
@@ -34,7 +36,7 @@ def cut(text: str) -> str:
 
 def for_spreadsheet(text: str) -> str:
     """A text that no spreadsheet takes for a formula."""
-    return "'" + text if text[:1] in RUN else text
+    return "'" + text if RUN.match(text) else text
 
 
 def cell_of(value: object) -> str:

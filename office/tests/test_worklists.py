@@ -453,12 +453,12 @@ def test_find(tmp_path: Path) -> None:
 
 
 def test_for_a_spreadsheet() -> None:
-    names = ["=1+1", "+a", "-b", "@c", "＝d", "Tŷ", "1=1"]
+    names = ["=1+1", "+a", "-b", "@c", "＝d", "Tŷ", "1=1", " =e", "\N{ZERO WIDTH SPACE}+f", "a -b"]
     rows: Rows = [["child", "name"]]
     found = worklists.csv_text(rows + [[1, it] for it in names])
     assert found.startswith("\ufeffchild,name\n")
     assert [it[1] for it in csv.reader(io.StringIO(found[1:]))][1:] == [
-        "'=1+1", "'+a", "'-b", "'@c", "'＝d", "Tŷ", "1=1"]
+        "'=1+1", "'+a", "'-b", "'@c", "'＝d", "Tŷ", "1=1", "' =e", "'\N{ZERO WIDTH SPACE}+f", "a -b"]
 
 
 def see_form(page: Any) -> None:
