@@ -21,7 +21,9 @@ from conftest import ROOT
 from pages import Page, press
 from register_files import Refused
 
-from office.web import guard, history, letters_whom, people, serve, store, uploads, wording
+from office.web import (
+    attempts, guard, history, letters_whom, people, serve, store, uploads, wording,
+)
 from office.web.screens import activity
 from office.web.screens import people as people_screen
 
@@ -416,6 +418,39 @@ def test_a_new_password_ends_the_other_sessions(office: Site) -> None:
     assert [it.get("/").status_code for it in (jane, other, bo)] == [200, 302, 200]
 
 
+@pytest.mark.parametrize("how", ["renewed", "locked", "removed"])
+def test_a_sign_in_that_is_under_way_does_not_outlive_its_password(
+    office: Site, monkeypatch: pytest.MonkeyPatch, how: str
+) -> None:
+    """Whoever has a stolen password could otherwise sign in all the time, and have a session, or a
+    password of their own, after a new one was drawn.
+    """
+    found, secret = office.parts.people, "a sea of grey boats"
+    jane, is_right = office.browser("jane"), found.is_right
+    acts: dict[str, Callable[[], object]] = {
+        "renewed": lambda: found.reset("jane"), "removed": lambda: found.remove("jane"),
+        "locked": lambda: found.lock("jane", True)}
+
+    def meanwhile(hashed: str, password: str) -> bool:
+        said = is_right(hashed, password)
+        acts[how]()
+        return said
+
+    kept = hash_of(office, "jane")
+    monkeypatch.setattr(found, "is_right", meanwhile)
+    given = {"present": office.passwords["jane"], "new": secret, "again": secret}
+    if how == "renewed":
+        page = jane.post("/password", given)
+        assert page.status_code == 403 and "was changed meanwhile" in page.text
+        assert not is_right(hash_of(office, "jane"), secret)
+        with office.parts.store.writing() as db:
+            db.execute("UPDATE person SET hash=?", (kept,))
+    eve = Browser(office.app, "192.0.2.9")
+    page = eve.sign_in("jane", office.passwords["jane"])
+    assert page.status_code == 403 and people.WRONG in page.text
+    assert not office.parts.store.rows("SELECT 1 FROM session WHERE person='jane'")
+
+
 def test_a_role_that_is_given_is_what_somebody_may(office: Site) -> None:
     """From the next sign-in on, which follows at once; and on record with the one before."""
     hal, kim = office.browser("hal", "head"), office.browser("kim", "reader")
@@ -576,7 +611,7 @@ def test_a_page_that_is_none_has_the_menu(tmp_path: pathlib.Path) -> None:
 def test_attempts_wait_longer_and_longer() -> None:
     """For a name that exists and for one that does not alike, and not for other addresses."""
     moment = [0.0]
-    found = people.Attempts(lambda: moment[0])
+    found = attempts.Attempts(lambda: moment[0])
     waits = []
     for _ in range(8):
         found.fail("jane 192.0.2.1", "192.0.2.1")
@@ -626,7 +661,7 @@ def test_attempts_at_the_same_time_are_not_free(
     for address, name in (("192.0.2.1", "jane0"), ("192.0.2.2", "nobody{}")):
         checked.clear()
         said = at_once(32, lambda it: found.sign_in(name.format(it), "wrong", address))
-        assert len(checked) == people.FREE_ATTEMPTS == said.count(people.WRONG) == 5
+        assert len(checked) == attempts.FREE_ATTEMPTS == said.count(people.WRONG) == 5
         late = ("Too many attempts failed.", "Many sign in now")
         assert sum(it.startswith(late) for it in said) == 27
     said = at_once(8, lambda it: found.sign_in(names[it], "right", "192.0.2.3"))
@@ -700,17 +735,17 @@ def test_a_wrong_present_password_waits_too(office: Site) -> None:
 def test_attempts_are_forgotten() -> None:
     """An office has one address: what failed there in a month would lock all out at each slip."""
     moment = [0.0]
-    found = people.Attempts(lambda: moment[0])
+    found = attempts.Attempts(lambda: moment[0])
     for _ in range(20):
         found.fail("192.0.2.1")
         moment[0] += found.wait("192.0.2.1")
     found.fail("192.0.2.1")
-    assert found.wait("192.0.2.1") == people.LONGEST_WAIT
+    assert found.wait("192.0.2.1") == attempts.LONGEST_WAIT
     # (who goes on trying gains nothing by the wait)
-    moment[0] += people.LONGEST_WAIT + people.FORGOTTEN_AFTER - 1
+    moment[0] += attempts.LONGEST_WAIT + attempts.FORGOTTEN_AFTER - 1
     found.fail("192.0.2.1")
-    assert found.wait("192.0.2.1") == people.LONGEST_WAIT
-    moment[0] += people.LONGEST_WAIT + people.FORGOTTEN_AFTER + 1
+    assert found.wait("192.0.2.1") == attempts.LONGEST_WAIT
+    moment[0] += attempts.LONGEST_WAIT + attempts.FORGOTTEN_AFTER + 1
     found.fail("192.0.2.1")
     assert found.wait("192.0.2.1") == 0
 
@@ -772,6 +807,18 @@ def test_a_name_that_exists_is_answered_as_one_that_does_not(office: Site) -> No
     assert said[0] == said[1] and "Too many attempts failed." in said[0][-1]
 
 
+def hash_of(office: Site, name: str) -> str:
+    """What is kept of a person's password."""
+    row = office.parts.store.row("SELECT hash FROM person WHERE name=?", name)
+    assert row
+    return str(row["hash"])
+
+
+def session_of(office: Site, name: str) -> str:
+    """The secret of a new session of somebody."""
+    return office.parts.people.begin(name, False, hash_of(office, name))
+
+
 def test_a_session_ends(office: Site) -> None:
     """By a sign-out, after half an hour without a request, and after some hours at most."""
     jane = office.browser("jane")
@@ -780,14 +827,14 @@ def test_a_session_ends(office: Site) -> None:
     assert office.parts.store.rows("SELECT 1 FROM session") == []
     moment = [1e9]
     office.parts.people.clock = lambda: moment[0]
-    secret = office.parts.people.begin("jane")
+    secret = session_of(office, "jane")
     # (20 times 1,799 seconds are 20 seconds less than ten hours)
     for _ in range(20):
         moment[0] += 1799
         assert office.parts.people.of_session(secret) is not None
     moment[0] += 21
     assert office.parts.people.of_session(secret) is None
-    other = office.parts.people.begin("jane")
+    other = session_of(office, "jane")
     moment[0] += people.IDLE_SECONDS + 1
     assert office.parts.people.of_session(other) is None
 
@@ -799,7 +846,7 @@ def test_a_session_ends_by_either_clock(office: Site, back: int) -> None:
     found = office.parts.people
     found.clock, found.steady = lambda: wall[0], lambda: steady[0]
     office.add("jane", "officer")
-    secret, idle = found.begin("jane"), found.begin("jane")
+    secret, idle = session_of(office, "jane"), session_of(office, "jane")
     assert found.of_session(secret) and found.of_session(idle)
     wall[0] -= back
     for _ in range(20):
@@ -866,7 +913,7 @@ def test_nobody_keeps_an_office_out(office: Site) -> None:
 def test_who_does_not_wait_keeps_nobody_else_waiting() -> None:
     """Two requests a second for a working day, behind the address of an office."""
     moment = [0.0]
-    found = people.Attempts(lambda: moment[0])
+    found = attempts.Attempts(lambda: moment[0])
     refused = 0
     for at in range(2 * 8 * 3600):
         moment[0] += 0.5

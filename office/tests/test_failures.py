@@ -10,7 +10,7 @@ from collections.abc import Iterator
 import pytest
 from applications import ORIGIN, ROUND, Browser, Site, office_over, town
 
-from office.web import failures, journal, people
+from office.web import attempts, failures, journal
 from office.web.failures import Failures
 
 
@@ -112,7 +112,8 @@ def test_wrong_passwords_are_counted_and_named(office: Site, taken: Taken) -> No
     for name, password in typed:
         assert eve.sign_in(name, password).status_code == 403
     assert counts(office) == {"password": 5, "wait": 2, "account": 0, "token": 0, "provider": 0}
-    assert [it["ADMISSIONS_ADDRESS"] for it in taken.lines] == ["192.0.2.9"] * people.FREE_ATTEMPTS
+    wanted = ["192.0.2.9"] * attempts.FREE_ATTEMPTS
+    assert [it["ADMISSIONS_ADDRESS"] for it in taken.lines] == wanted
     assert not any(it in str(taken.lines) for it in ("jane", "kim", "secret", "nothing"))
     assert len(office.parts.history.entries) == before
     assert jane.get("/").status_code == 200

@@ -1,10 +1,8 @@
 """Who may sign in, and do what: people with a password of their own, and programs with a token."""
-import collections
 import contextlib
 import dataclasses
 import hashlib
 import hmac
-import ipaddress
 import json
 import re
 import secrets
@@ -17,6 +15,7 @@ from register_files import Refused
 from office import rules, texts
 from office.turns import Busy
 
+from .attempts import EVERYWHERE, Attempts, network
 from .history import now
 from .store import Store
 
@@ -30,7 +29,7 @@ ROLES = {
     OFFICER: "reads and records everything, and confirms the draws of somebody else",
     SUPERVISOR: "draws the lots, and nothing else",
     READER: "reads the register, and nothing that it does not have: no applications before they are"
-            " stored, notes, files and history; and records nothing",
+            " stored, notes, files and Activity; and records nothing",
     ADMINISTRATOR: "says who may sign in, and sees no child",
 }
 # what a role may do
@@ -59,32 +58,13 @@ COMMON = ("password", "passwort", "passw0rd", "1234567890", "0123456789", "qwert
           "welcome", "iloveyou", "changeme", "administrator", "admissions", "abcdefghijkl")
 # a session ends after so many seconds without a request, and after so many at most
 IDLE_SECONDS, SESSION_SECONDS = 30 * 60, 10 * 3600
-# so many attempts that fail are free; each after them doubles the wait, up to the longest
-FREE_ATTEMPTS, LONGEST_WAIT = 5, 300
 HASHES_AT_ONCE = 4
 # so many sign-ins are looked at or wait at once, and hold a thread each; and beside them so many of
 # browsers in which the name has signed in before
 SIGN_INS_AT_ONCE, KNOWN_AT_ONCE = 8, 4
-# an office has one address for all: failures are forgotten so many seconds after the last wait
-FORGOTTEN_AFTER = 3600
-# for a name from all addresses many are free, and they are forgotten after a day
-EVERYWHERE, FREE_EVERYWHERE, FORGOTTEN_EVERYWHERE = "everywhere ", 100, 24 * 3600
 WRONG = "The name or the password is wrong."
 # a drawn password is read out and typed once: letters that look like no other, in groups
 LETTERS, GROUPS, IN_GROUP = "abcdefghjkmnpqrstuvwxyz", 5, 4
-
-
-def network(address: str) -> str:
-    """An address; of IPv6 its first 64 bits, since whoever has one of these has all of them."""
-    try:
-        found = ipaddress.ip_address(address)
-    except ValueError:
-        return address
-    return str(ipaddress.ip_network((found, 64), False)) if found.version == 6 else address
-
-
-class TooMany(Refused):
-    """An attempt that is not looked at, since an earlier one must be waited for."""
 
 
 def is_role(text: str) -> bool:
@@ -130,107 +110,6 @@ def form_of(mark: str, hashed: str) -> str:
     the person's password. So one of an earlier session is known until the password is another.
     """
     return f"{mark}.{hmac.new(hashed.encode(), mark.encode(), 'sha256').hexdigest()}"
-
-
-class Attempts:
-    """How often somebody tried a password that was wrong. The wait grows with each, for a name from
-    an address, for an address, and after many for a name from everywhere; whether a name exists
-    makes no difference. A browser in which the name has signed in before has a wait of its own, so
-    that nobody else can keep it out. Those at the same time count as if they failed until they have
-    ended: what is beyond the free ones waits for them.
-    """
-
-    def __init__(self, clock: Callable[[], float] = time.monotonic) -> None:
-        self.clock, self.lock = clock, threading.Condition(threading.RLock())
-        self.failed: dict[str, tuple[int, float]] = {}
-        self.open: collections.Counter[str] = collections.Counter()
-
-    def is_right(self, check: Callable[[], bool], *keys: str) -> bool:
-        """Whether an attempt is right, which is counted before it is checked; a refusal where
-        nothing may be tried now.
-        """
-        self.begin(*keys)
-        is_right = False
-        try:
-            is_right = check()
-        finally:
-            self.end(is_right, *keys)
-        return is_right
-
-    def begin(self, *keys: str) -> None:
-        """Begins an attempt, once those in progress leave one of the free ones."""
-        with self.lock:
-            while not (wait := self.wait(*keys)) and any(map(self.is_full, keys)):
-                self.lock.wait()
-            if wait:
-                self.poll(keys[0])
-                wait = self.wait(*keys)
-                raise TooMany(f"Too many attempts failed. Try again in {wait} seconds.")
-            self.open.update(keys)
-
-    def poll(self, key: str) -> None:
-        """Begins the wait of somebody anew who does not wait for its end: who asks all the time
-        would otherwise be the next one each time, and nobody else ever.
-        """
-        if self.wait(key):
-            count, _ = self.failed[key]
-            self.failed[key] = count, self.clock() + wait_after(key, count)
-
-    def is_full(self, key: str) -> bool:
-        """Whether another attempt would be beyond the free ones, if those in progress fail. After a
-        wait there is one at a time.
-        """
-        count, until = self.failed.get(key, (0, 0.0))
-        known = 0 if self.clock() - until > forgotten_after(key) else count
-        return self.open[key] >= max(1, free(key) - known)
-
-    def end(self, is_right: bool, *keys: str) -> None:
-        """Ends an attempt."""
-        with self.lock:
-            self.open.subtract(keys)
-            self.open = +self.open
-            if is_right:
-                self.succeed(keys[0])
-            else:
-                self.fail(*keys)
-            self.lock.notify_all()
-
-    def wait(self, *keys: str) -> int:
-        """For how many seconds nothing more may be tried."""
-        with self.lock:
-            ends = (self.failed.get(it, (0, 0.0))[1] for it in keys)
-            return max(0, int(max(ends) - self.clock() + 0.999))
-
-    def fail(self, *keys: str) -> None:
-        """Counts one that failed."""
-        with self.lock:
-            for key in keys:
-                count, until = self.failed.pop(key, (0, 0.0))
-                count = 1 if self.clock() - until > forgotten_after(key) else count + 1
-                self.failed[key] = count, self.clock() + wait_after(key, count)
-            for key in list(self.failed)[:-10_000]:
-                del self.failed[key]
-
-    def succeed(self, key: str) -> None:
-        """Forgets those of a name from an address."""
-        with self.lock:
-            self.failed.pop(key, None)
-
-
-def free(key: str) -> int:
-    """How many attempts are free of a wait."""
-    return FREE_EVERYWHERE if key.startswith(EVERYWHERE) else FREE_ATTEMPTS
-
-
-def forgotten_after(key: str) -> int:
-    """How many seconds after a wait its failures are forgotten."""
-    return FORGOTTEN_EVERYWHERE if key.startswith(EVERYWHERE) else FORGOTTEN_AFTER
-
-
-def wait_after(key: str, count: int) -> int:
-    """The seconds of a wait after so many failures."""
-    beyond = count - free(key)
-    return 0 if beyond < 0 else min(LONGEST_WAIT, 1 << min(beyond, 30))
 
 
 def see_password(name: str, password: str) -> None:
@@ -355,9 +234,12 @@ class People:
         see_password(person.name, new)
         if new == old:
             raise Refused("the new password is the present one")
+        new_hash = self.hasher.hash(new)
         with self.store.writing() as db:
-            db.execute("UPDATE person SET hash=?, must_change=0 WHERE name=?",
-                       (self.hasher.hash(new), person.name))
+            # (the old one may be of no more use since it was compared)
+            if not db.execute("UPDATE person SET hash=?, must_change=0 WHERE name=? AND hash=?",
+                              (new_hash, person.name, hashed)).rowcount:
+                raise Refused("the password was changed meanwhile, and is not changed now")
             db.execute("DELETE FROM session WHERE person=? AND form<>?",
                        (person.name, person.form))
 
@@ -385,7 +267,7 @@ class People:
         with self.one_of_few(bool(browser)):
             if not self.attempts.is_right(check, *((f"{name} by {browser}",) if browser else keys)):
                 raise Refused(WRONG)
-        return self.begin(name)
+        return self.begin(name, False, row["hash"] if row else "")
 
     @contextlib.contextmanager
     def one_of_few(self, is_known: bool) -> Iterator[None]:
@@ -405,20 +287,28 @@ class People:
         """The secret of a new session of somebody whom the authority's provider has signed in by an
         account, which stays the only one of that provider for this person.
         """
-        row = self.store.row("SELECT * FROM person WHERE name=? AND kind=?", name, PERSON)
-        if not row or row["is_locked"]:
-            raise Refused(f"{name} may not sign in here: ask who adds people.")
-        before = json.loads(row["account"] or "null")
-        if row["account"] != account:
-            if before and before[0] == json.loads(account)[0]:
-                raise Refused(f"{name} signed in by another account of the provider before: ask who"
-                              " adds people for a new password, and sign in by this account then.")
-            with self.store.writing() as db:
+        with self.store.writing() as db:
+            row = self.store.row("SELECT * FROM person WHERE name=? AND kind=?", name, PERSON)
+            if not row or row["is_locked"]:
+                raise Refused(f"{name} may not sign in here: ask who adds people.")
+            before = json.loads(row["account"] or "null")
+            if row["account"] != account:
+                if before and before[0] == json.loads(account)[0]:
+                    raise Refused(f"{name} signed in by another account of the provider before: ask"
+                                  " who adds people for a new password, and sign in by this account"
+                                  " then.")
+                # (one account of the provider that was given another name there is one person)
+                if other := self.store.row("SELECT name FROM person WHERE account=?", account):
+                    raise Refused(f"This account of the provider signed in as {other['name']}"
+                                  f" before, and {name} is another person here: ask who adds people"
+                                  f" to remove {other['name']}.")
                 db.execute("UPDATE person SET account=? WHERE name=?", (account, name))
-        return self.begin(name, True)
+            return self.begin(name, True, row["hash"])
 
-    def begin(self, name: str, is_outside: bool = False) -> str:
-        """Begins a session. Who was signed in outside needs no password of their own."""
+    def begin(self, name: str, is_outside: bool, hashed: str) -> str:
+        """Begins a session, unless the person is locked or gone, or what is kept of the password is
+        another one since it was compared. Who was signed in outside needs no password of their own.
+        """
         secret, moment = secrets.token_urlsafe(32), self.clock()
         steady = self.steady()
         late = [key for key, (_, last) in list(self.seen.items()) if steady - last > IDLE_SECONDS]
@@ -428,7 +318,9 @@ class People:
             for it in late:
                 db.execute("DELETE FROM session WHERE digest=?", (it,))
                 self.seen.pop(it, None)
-            hashed = db.execute("SELECT hash FROM person WHERE name=?", (name,)).fetchone()[0]
+            if not db.execute("SELECT 1 FROM person WHERE name=? AND hash=? AND is_locked=0",
+                              (name, hashed)).fetchone():
+                raise Refused(WRONG)
             form = form_of(secrets.token_urlsafe(18), hashed)
             db.execute("INSERT INTO session VALUES (?, ?, ?, ?, ?, ?)",
                        (digest(secret), name, form, moment, moment, int(is_outside)))

@@ -9,7 +9,7 @@ from werkzeug.wrappers import Response
 
 from office.turns import Busy
 
-from .. import authority, failures, guard, people
+from .. import attempts, authority, failures, guard, people
 from ..guard import PUBLIC, SIGNED_IN, needs, parts, person
 
 screen = flask.Blueprint("signing", __name__)
@@ -45,7 +45,7 @@ def sign_in() -> Answer:
             name, request.form.get("password", ""), guard.address(),
             browser if name in names else "")
     except Refused as error:
-        is_wait = isinstance(error, (people.TooMany, Busy))
+        is_wait = isinstance(error, (attempts.TooMany, Busy))
         guard.sign_in_failed(failures.WAIT if is_wait else failures.PASSWORD)
         return sign_in_page(to, str(error), name), status_of(error)
     parts().history.add(name, "signed in", {})
