@@ -6,7 +6,7 @@ from collections.abc import Collection, Iterable, Sequence
 
 from register_files import Refused
 
-from . import book, kinds, rules, sheet, texts
+from . import book, file_kinds, rules, sheet, texts
 from .model import Pair
 from .rules import LIMITS
 
@@ -36,7 +36,7 @@ def in_words(pairs: Iterable[Pair]) -> str:
 
 def decoded(name: str, data: bytes) -> str:
     """A text in UTF-8, without the byte order mark that spreadsheets write before it."""
-    if (said := kinds.of_bytes(data)) and said != kinds.NO_TEXT:
+    if (said := file_kinds.of_bytes(data)) and said != file_kinds.NO_TEXT:
         raise Refused(f"{name} is {said}: save it as CSV in UTF-8")
     try:
         text = data.decode("utf-8-sig")

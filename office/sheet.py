@@ -14,7 +14,7 @@ from xml.parsers import expat
 
 from register_files import Refused
 
-from . import inputs, kinds
+from . import file_kinds, inputs
 
 SEPARATORS = {",": "commas", ";": "semicolons", "\t": "tabs"}
 SPACE = "http://schemas.openxmlformats.org/spreadsheetml/2006/main"
@@ -55,7 +55,7 @@ def of_bytes(name: str, data: bytes, sheet: str | None, advice: str) -> Sheet:
     if data.startswith(b"\xd0\xcf\x11\xe0"):
         kind = "a workbook of the older kind (.xls) or has a password"
         raise Refused(f"{name} is {kind}: save it as .xlsx or as CSV UTF-8")
-    if not data.startswith((b"\xff\xfe", b"\xfe\xff")) and (said := kinds.of_bytes(data)):
+    if not data.startswith((b"\xff\xfe", b"\xfe\xff")) and (said := file_kinds.of_bytes(data)):
         raise Refused(f"{name} is {said}: a CSV or an .xlsx is needed")
     if sheet is not None:
         raise Refused(f"{name} is no workbook: leave the field Sheet empty")

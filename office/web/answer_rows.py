@@ -7,7 +7,7 @@ from collections.abc import Iterable, Sequence
 
 from register_files import Refused
 
-from office import fields, kinds, texts
+from office import fields, file_kinds, texts
 from office.sheet import Row
 
 from .answers import MOST_TYPED, Meant, Names, with_school, words_of
@@ -27,7 +27,7 @@ TITLES = {
     NAME: ("name", "child name", "child's name", "full name", "first name", "last name",
            "forename", "surname", "family name"),
     SCHOOL: ("school", "school code"),
-    ANSWER: kinds.REPLY_COLUMNS,
+    ANSWER: file_kinds.REPLY_COLUMNS,
 }
 COLUMNS = {texts.folded(title): part for part, titles in TITLES.items() for title in titles}
 MINUS = "-\u2212\u2013"
@@ -92,7 +92,7 @@ class Reader:
         """What rows mean. Those without an answer are accepts only where no row has an answer."""
         if not rows:
             raise Refused("there is nothing in it")
-        if other := kinds.of_columns(rows[0].cells):
+        if other := file_kinds.of_columns(rows[0].cells):
             raise Refused(f"it is {other}")
         titles = titles_of(rows[0].cells)
         below = rows[1:] if titles else rows

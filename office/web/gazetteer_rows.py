@@ -13,7 +13,7 @@ from typing import IO, cast
 
 from register_files import Refused
 
-from office import inputs, kinds, sheet
+from office import file_kinds, inputs, sheet
 
 from . import points
 from .points import Metres
@@ -87,7 +87,7 @@ def opened(path: pathlib.Path, name: str) -> Iterator[IO[bytes]]:
                 yield part
             return
         is_wide = start.startswith((b"\xff\xfe", b"\xfe\xff"))
-        if not is_wide and (said := kinds.of_bytes(start)):
+        if not is_wide and (said := file_kinds.of_bytes(start)):
             raise Refused(f"{name} is {said}: a CSV is needed, or a zip with one CSV in it")
         yield file
 

@@ -12,7 +12,7 @@ from werkzeug.datastructures import FileStorage
 from werkzeug.exceptions import RequestEntityTooLarge
 from werkzeug.formparser import FormDataParser
 
-from office import apart, inputs, kinds, model, sheet_apart
+from office import apart, file_kinds, inputs, model, sheet_apart
 from office.model import Register
 from office.sheet import Row
 
@@ -111,7 +111,7 @@ def register_of(given: FileStorage | None, called: str = NAME) -> Register:
     """
     data = bytes_of(given)
     if not data.startswith(REGISTER):
-        what = kinds.of_bytes(data) or "a text or another file"
+        what = file_kinds.of_bytes(data) or "a text or another file"
         raise Refused(f"{called} is no copy of a register: it is {what}")
     if len(data) > inputs.MOST_REGISTER_BYTES:
         raise Refused(f"{called} is larger than any register")
