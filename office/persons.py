@@ -1,13 +1,12 @@
 """Children as commands and files of applications have them: with each field that the rules list or
 the register shows, so that a field which is new in the program is repeated and compared like the
-others.
+others; and schools as commands have them.
 """
 from typing import Any
 
 from . import rules, texts
 from .fields import COLUMNS
-from .model import Application, Child
-
+from .model import Application, Child, School
 
 # the kinds of fields that are numbers
 NUMBERS = ("child", "flag", "number")
@@ -16,6 +15,12 @@ NUMBERS = ("child", "flag", "number")
 def command_of(name: str, child: Child) -> dict[str, Any]:
     """The command of this name with the data of a child: one that adds or amends it."""
     return {"cmd": name, **{it: child.data[it] for it in rules.COMMANDS[name]}, **child.data}
+
+
+def command_of_school(school: School) -> dict[str, Any]:
+    """The command that adds a school with the data that it has."""
+    return {"cmd": "add_school", "school": school.code, "name": school.name, "pan": school.pan,
+            "east": school.east, "north": school.north, "criteria": list(school.criteria)}
 
 
 def cells_of(child: Child, application: Application | None) -> dict[str, str]:

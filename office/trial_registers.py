@@ -74,16 +74,10 @@ def sent(program: Program, path: str, commands: Iterable[Command]) -> None:
     program.run("do", path, given=lines.encode())
 
 
-def school(it: School) -> Command:
-    """The command of a school."""
-    return {"cmd": "add_school", "school": it.code, "name": it.name, "pan": it.pan, "east": it.east,
-            "north": it.north, "criteria": list(it.criteria)}
-
-
 def make_first(program: Program, path: str, before: Register, schools: dict[str, School]) -> None:
     """A register with the data of one that had no round yet, and these schools."""
     program.run("init", path, before.phase, before.year, *before.holidays)
-    sent(program, path, map(school, schools.values()))
+    sent(program, path, map(persons.command_of_school, schools.values()))
     cells = [persons.cells_of(before.children[it], found)
              for it, found in before.applications.items()]
     rows = [[it[column] for column in fields.COLUMNS] for it in cells]

@@ -23,7 +23,7 @@ from applications import child, town
 from conftest import PROGRAM, ROOT, make
 
 from office import model, senders
-from office.web import effects, history, people
+from office.web import history, kinds, people
 from office.web.store import Store
 
 MOMENTS = 50
@@ -184,7 +184,7 @@ def see(room: Room, done: list[dict[str, Any]]) -> None:
     register = model.of_source(
         model.Server(senders.Http(f"http://127.0.0.1:{room.desk_port}")))
     for it in done:
-        assert effects.is_done(register, it), it
+        assert kinds.is_done(register, it), it
     once = [it for it in room.way.arrived if b'"cmd":"add_child"' in it]
     assert len(once) == len(set(once))
     entries = history.read(str(room.folder / "office" / "history.jsonl"))

@@ -10,8 +10,10 @@ from typing import Any
 import pytest
 from applications import Site, child, office_over
 
+from office import rules
 from office.model import Register
-from office.web.desk import FRESH_SECONDS, RESTS_ON, Command, seen_of
+from office.web.desk import FRESH_SECONDS, Command, seen_of
+from office.web.kinds import KINDS
 from office.web.people import Person
 
 BO, JANE = Person("bo", "head"), Person("jane", "officer")
@@ -108,7 +110,8 @@ def test_what_somebody_else_did_just_before_is_seen_for_each_command(
     office: Site, monkeypatch: pytest.MonkeyPatch
 ) -> None:
     """It was read after the decision for another child, so that the copy is at hand."""
-    assert set(MEANWHILE) == set(RESTS_ON) - {"round", "fill"}
+    assert set(MEANWHILE) == set(KINDS) - {"round", "fill"}
+    assert set(KINDS) == set(rules.COMMANDS)
     reads, desk = Reads(office, monkeypatch), office.parts.desk
     for name, (command, other) in MEANWHILE.items():
         seen = seen_of(desk.now(), command)
@@ -177,7 +180,7 @@ def rests_on(register: Register, without: Command) -> dict[tuple[str, Any, str],
     """What each command about each child and school rests on, but those of one command."""
     found = {}
     name = "child" if "child" in without else "school"
-    for kind, number, code in itertools.product(RESTS_ON, range(1, 40), "ABC"):
+    for kind, number, code in itertools.product(KINDS, range(1, 40), "ABC"):
         command = {"cmd": kind, "child": number, "school": code}
         is_child = kind not in ("add_school", "raise_pan")
         of = ("child", number) if is_child else ("school", code)

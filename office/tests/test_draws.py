@@ -29,7 +29,7 @@ from register_files import Refused
 from served import do_over
 
 from office.model import Pair
-from office.web import copies, draws_checks, draws_outcome, effects, people
+from office.web import copies, draws_checks, draws_outcome, kinds, people
 from office.web.draws_terms import Terms
 from office.web.rehearsal import Rehearsal
 
@@ -408,13 +408,13 @@ def test_three_fills_in_one_closure(small: Machine) -> None:
             [2, 3, "ELM", "OAK"], [3, 2, "ELM", "OAK"], [4, 4, "ELM", "OAK"]]
         command = {"cmd": "fill", "draw": 3, "school": "OAK", "day": "2025-04-07",
                    "lots": [8, 1, 2]}
-        assert effects.is_done(register, command)
+        assert kinds.is_done(register, command)
         others: list[dict[str, Any]] = [
             {"school": "ELM"}, {"day": "2025-04-08"}, {"lots": [8, 2, 1]}, {"draw": 5}]
         for other in others:
-            assert not effects.is_done(register, {**command, **other}), other
+            assert not kinds.is_done(register, {**command, **other}), other
         whole = {name: it for name, it in command.items() if name != "school"}
-        assert not effects.is_done(register, {**whole, "cmd": "round"})
+        assert not kinds.is_done(register, {**whole, "cmd": "round"})
 
 
 def test_nobody_else_records_while_it_is_closed(small: Machine) -> None:

@@ -11,14 +11,10 @@ from office import fields, file_kinds, texts
 from office.sheet import Row
 
 from .answers import MOST_TYPED, Meant, Names, with_school, words_of
+from .kinds import KINDS
 
 # the words of each answer: every other one is marked
-READ = {
-    "accept": ("accept", "accepts", "accepted", "yes"),
-    "decline": ("decline", "declines", "declined", "no"),
-    "leave_list": ("leave", "leave the list", "leave_list"),
-    "name_plan": ("plan", "name_plan"),
-}
+READ = {name: it.read for name, it in KINDS.items() if it.read}
 ANSWERS = {word: kind for kind, words in READ.items() for word in words}
 NUMBER, NAME, SCHOOL, ANSWER = "number", "name", "school", "answer"
 # the titles of columns

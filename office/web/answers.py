@@ -10,19 +10,16 @@ from typing import Any
 from office import model, texts
 from office.model import Register
 
-from . import wording
 from .desk import Desk, Seen
+from .kinds import KINDS
 
 Command = dict[str, Any]
 MOST_TYPED = 200
 DIGITS = re.compile(r"[0-9]+")
 # so many children are named where a name is that of several
 MOST_NAMED = 8
-FINAL = ("decline", "leave_list", "name_plan")
 # of a child that was put into a pile from a list
 NO_ANSWER_YET = "no answer yet"
-WORDS = {"accept": "accept", "decline": "decline", "leave_list": "leave the list",
-         "name_plan": "plan", "": "none"}
 
 
 @dataclasses.dataclass(frozen=True)
@@ -37,6 +34,11 @@ class Meant:
     school: str = ""
     name: str = ""
     trouble: str = ""
+
+    @property
+    def about(self) -> Command:
+        """The command, as far as child and school are known."""
+        return {"cmd": self.kind, "child": self.child or 0, "school": self.school}
 
 
 @dataclasses.dataclass(frozen=True)
@@ -59,12 +61,12 @@ class Entry:
         it = self.meant
         if it.child is None or not it.school or not it.kind or it.trouble:
             return None
-        return {"cmd": it.kind, "child": it.child, "school": it.school}
+        return it.about
 
     @property
     def is_final(self) -> bool:
         """Whether it can never be undone."""
-        return self.meant.kind in FINAL
+        return bool(self.meant.kind) and KINDS[self.meant.kind].is_final
 
     @property
     def is_by_number_alone(self) -> bool:
@@ -132,38 +134,6 @@ def answers_to(register: Register, entry: Entry) -> list[str]:
     return ["accept", "decline"] if has_offer else ["leave_list"]
 
 
-def of_place(register: Register, meant: Meant) -> str:
-    """Why a child's place does not fit an answer, or ""."""
-    place = register.places.get(meant.child or 0)
-    said = wording.place(register, place)
-    if place is None or place.kind == model.PLAN:
-        return f"there is no offer to answer: {said}"
-    if meant.school and place.school != meant.school:
-        return f"it is about {meant.school}: {said}"
-    if meant.kind == "accept" and place.kind == model.ACCEPTED:
-        return "the place is accepted already"
-    return ""
-
-
-def of_list(register: Register, meant: Meant) -> str:
-    """Why a child cannot leave a waiting list, or ""."""
-    application = register.applications.get(meant.child or 0)
-    it = application.at(meant.school) if application else None
-    waits = it is not None and it.state == model.WAITS
-    return "" if waits else f"the child does not wait at {meant.school}"
-
-
-def of_plan(register: Register, meant: Meant) -> str:
-    """Why a plan cannot be recorded, or ""."""
-    place = register.places.get(meant.child or 0)
-    if place and place.kind == model.PLAN:
-        return wording.place(register, place)
-    return "" if meant.school in register.schools else f"there is no school {meant.school}"
-
-
-AGAINST = {"accept": of_place, "decline": of_place, "leave_list": of_list, "name_plan": of_plan}
-
-
 def candidates(names: Names, meant: Meant) -> list[int]:
     """The children among whom a name does not decide."""
     return names.matches(meant.name) if meant.child is None else []
@@ -199,7 +169,9 @@ def conflicts(desk: Desk, names: Names, entry: Entry, others: Iterable[Entry]) -
         found.append(f"the name given is {texts.shown(meant.name)}")
     command = entry.command
     changed = desk.changed(register, command, Seen(entry.seen)) if command else ""
-    found.append(changed or (AGAINST[meant.kind](register, meant) if meant.kind else ""))
+    if not changed and meant.kind:
+        found.append(KINDS[meant.kind].against(register, meant.about))
+    found.append(changed)
     found.append(of_others(entry, others))
     return list(filter(None, found))
 

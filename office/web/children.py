@@ -12,58 +12,17 @@ from office import days, model, risks, rules
 from office.model import Child, Place, Register
 
 from . import wording
+from .kinds import ACTIONS, Kind
 
 Command = dict[str, Any]
-
-
-@dataclasses.dataclass(frozen=True)
-class Action:
-    """What can be recorded: its command, its title, the words of its button, what becomes of it;
-    whether it has a day, and whether it can never be undone.
-    """
-
-    command: str
-    title: str
-    button: str
-    becomes: str
-    is_dated: bool = False
-    is_final: bool = True
-
-
-ACTIONS = {
-    "accept": Action(
-        "accept", "Accept a place", "Accept {school} for {child}",
-        "The place is accepted. It can be declined later, but it can never be an open offer again.",
-        is_final=False),
-    "decline": Action(
-        "decline", "Decline a place", "Decline {school} for {child}",
-        f"The place becomes vacant. {wording.FOREVER} {wording.WRONG_DECLINE}"),
-    "remind": Action(
-        "remind", "Record a reminder", "Record the reminder of {child} about {school}",
-        "The offer may be withdrawn from {withdrawn} on, if it is not answered. A reminder cannot"
-        " be taken back.", True, False),
-    "lapse": Action(
-        "lapse", "Withdraw an offer", "Withdraw the offer of {school} from {child}",
-        f"The offer ends, and the place becomes vacant. {wording.FOREVER}", True),
-    "leave": Action(
-        "leave_list", "Leave a waiting list", "Take {child} off the list of {school}",
-        f"The child does not return to this list. {wording.FOREVER}"),
-    "plan": Action(
-        "name_plan", "Record an EHC plan", "Give {child} a place at {school} by a plan",
-        "The child is admitted, also above the admission number. Its application ends: it waits"
-        " nowhere any more, and a place elsewhere is vacant. A plan that is"
-        " recorded stays: it cannot be ended or changed. A copy of the register is made first:"
-        " nobody can read it for some seconds."),
-}
 
 
 @dataclasses.dataclass(frozen=True)
 class Question:
     """What is asked before it is recorded."""
 
-    action: Action
+    action: Kind
     command: Command
-    title: str
     button: str
     becomes: str
     warnings: tuple[str, ...]
@@ -115,17 +74,15 @@ def question(
     """The question of an action, or a refusal where it cannot be recorded now."""
     see_possible(register, number, name, code)
     action, child, school = ACTIONS[name], register.children[number], register.schools[code]
-    command: Command = {"cmd": action.command, "child": number, "school": code}
+    command: Command = {"cmd": action.name, "child": number, "school": code}
     warnings = list(warnings_of(action, register.places.get(number)))
     if action.is_dated:
         command["day"] = day.isoformat()
         warnings += day_warnings(register, command, day, today)
         warnings += last_day_warning(register.places[number], day)
     words = {"school": school.name, "child": child.name}
-    withdrawn = days.in_words(days.due_from(day))
-    return Question(
-        action, command, action.title, filled(action.button, words),
-        action.becomes.replace("{withdrawn}", withdrawn), tuple(warnings))
+    return Question(action, command, filled(action.button, words), action.becomes_on(day),
+                    tuple(warnings))
 
 
 def filled(text: str, words: Mapping[str, str]) -> str:
@@ -135,11 +92,11 @@ def filled(text: str, words: Mapping[str, str]) -> str:
     return words["school"].join(parts)
 
 
-def warnings_of(action: Action, place: Place | None) -> list[str]:
+def warnings_of(action: Kind, place: Place | None) -> list[str]:
     """What looks wrong in an action."""
-    if action.command == "decline" and place and place.kind == model.ACCEPTED:
+    if action.name == "decline" and place and place.kind == model.ACCEPTED:
         return ["The family had accepted this place."]
-    if action.command == "name_plan" and place:
+    if action.name == "name_plan" and place:
         return [f"The place at {place.school}, {wording.KINDS[place.kind]}, ends with it."]
     return []
 

@@ -17,8 +17,9 @@ from register_files import Refused
 from office import commands, days, model, senders, turns
 from office.model import Members, Register
 
-from . import effects
+from . import effects, kinds
 from .history import ANSWER, SENDS, SETTLED, Entry, History
+from .kinds import DRAWS, KINDS
 from .people import Person
 
 Command = dict[str, Any]
@@ -28,8 +29,6 @@ FRESH_SECONDS = 2.0
 AGAIN_SECONDS = 1.0
 # so many characters of a line that is no command are on record
 MOST_LINE = 1000
-# these are held on a screen of their own, with a second person
-DRAWS = ("round", "fill")
 # the child or the school that a request is about, by the name of its field; or any of them
 Subject = tuple[str, int | str]
 ANY: Subject = ("", "")
@@ -62,7 +61,8 @@ class Seen:
 
 def seen_of(register: Members, command: Command) -> Seen:
     """What a command rests on, of a register."""
-    return Seen(json.dumps(RESTS_ON[command["cmd"]](register, command), sort_keys=True))
+    rests_on = KINDS[command["cmd"]].rests_on
+    return Seen(json.dumps(rests_on(register, command), sort_keys=True))
 
 
 def seen_by(command: Command, row: dict[str, Any] | None) -> Seen:
@@ -73,51 +73,6 @@ def seen_by(command: Command, row: dict[str, Any] | None) -> Seen:
     is_child = "child" in command
     return seen_of(model.of_rows("the register", [] if is_child else rows,
                                  rows if is_child else []), command)
-
-
-def place_in(register: Members, command: Command) -> Any:
-    """The place of the command's child."""
-    place = register.places.get(command["child"])
-    return [place.school, place.kind, str(place.day), str(place.reminded)] if place else None
-
-
-def data_in(register: Members, command: Command) -> Any:
-    """The data of the command's child."""
-    child = register.children.get(command["child"])
-    return child.data if child else None
-
-
-def application_in(register: Members, command: Command) -> Any:
-    """The data, the place and the application of the command's child."""
-    found = register.applications.get(command["child"])
-    return [data_in(register, command), place_in(register, command),
-            [str(found.day), list(found.preferences)] if found else None]
-
-
-def wait_in(register: Members, command: Command) -> Any:
-    """Whether the command's child waits at the school."""
-    found = register.applications.get(command["child"])
-    state = found.at(command["school"]) if found else None
-    return state.state if state else None
-
-
-def school_in(register: Members, command: Command) -> Any:
-    """The admission number of the command's school."""
-    school = register.schools.get(command["school"])
-    return school.pan if school else None
-
-
-def draws_in(register: Members, _command: Command) -> Any:
-    """How many draws there are."""
-    return len(register.draws)
-
-
-RESTS_ON: dict[str, Callable[[Members, Command], Any]] = {
-    "add_school": school_in, "raise_pan": school_in,
-    "add_child": data_in, "amend": data_in, "apply": application_in,
-    "accept": place_in, "decline": place_in, "remind": place_in, "lapse": place_in,
-    "name_plan": place_in, "leave_list": wait_in, "round": draws_in, "fill": draws_in,
-}
 
 
 def subject(about: dict[str, Any]) -> Subject:
@@ -131,15 +86,6 @@ def subject(about: dict[str, Any]) -> Subject:
             if name in command:
                 return name, command[name]
     return ANY
-
-
-# what somebody recorded, in a sentence; accept and decline are as they are
-NAMES = {
-    "add_child": "the child", "amend": "a correction", "apply": "an application",
-    "remind": "a reminder", "lapse": "a withdrawal of the offer",
-    "leave_list": "a departure from a list", "name_plan": "a plan", "round": "a round",
-    "fill": "a fill",
-}
 
 
 def line_of(command: Command) -> bytes:
@@ -358,8 +304,8 @@ class Desk:
         last = next((it for it in done if is_about(register, it, number)), None)
         if last is None:
             return f"Child {number} has changed meanwhile."
-        name = last.about["command"]["cmd"]
-        return f"Child {number}: {last.who} recorded {NAMES.get(name, name)} at {local(last.at)}."
+        noun = KINDS[last.about["command"]["cmd"]].noun
+        return f"Child {number}: {last.who} recorded {noun} at {local(last.at)}."
 
     def exchange(self, who: Person, about: dict[str, Any], send: Callable[[], bytes]) -> Result:
         """Sends a request that is on record before, and records the answer."""
@@ -438,5 +384,5 @@ class Desk:
             return False
         register = self.now()
         if "command" in entry.about:
-            return effects.is_done(register, entry.about["command"])
+            return kinds.is_done(register, entry.about["command"])
         return effects.is_imported(register, entry.about["import"])

@@ -8,9 +8,9 @@ from collections.abc import Callable
 from office.fields import trimmed
 from office.model import Register
 
-from . import effects
-from .desk import DRAWS, local
+from .desk import local
 from .history import Entry
+from .kinds import DRAWS, is_done
 from .parts import Parts
 
 LATER = "Record nothing, and tell whoever maintains the system."
@@ -27,7 +27,7 @@ def has(register: Register, entry: Entry) -> bool:
         return True
     if command["cmd"] in DRAWS:
         return len(register.draws) >= int(command["draw"])
-    return effects.is_done(register, command)
+    return is_done(register, command)
 
 
 def in_words(parts: Parts, read: Callable[[], Register]) -> tuple[Register, str]:

@@ -12,7 +12,7 @@ from register_files import Refused
 from office import lot_sheets, texts
 from office.model import Pair, Register
 
-from . import draws_again, draws_checks, draws_second, effects
+from . import draws_again, draws_checks, draws_second, kinds
 from .copies import Copies, is_same
 from .desk import Desk
 from .draws_checks import Check
@@ -184,7 +184,7 @@ class Draws(DrawStore):
         count = held_in(register, draw)
         is_rehearsed = 0 <= count < len(found.registers) and (
             is_same(register, found.registers[count])) and (
-            all(effects.is_done(register, it) for it in found.commands[:count]))
+            all(kinds.is_done(register, it) for it in found.commands[:count]))
         if not is_rehearsed:
             said = GIVE_UP if draw.state in UNSENT else RESTORE
             raise Differs(f"the register is not as it was rehearsed. {said}")

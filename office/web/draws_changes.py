@@ -10,6 +10,7 @@ from office.model import Register
 from . import effects, records
 from .draws_terms import Terms
 from .history import Entry, History
+from .kinds import WHOLE
 
 # of the data of a child all but its name
 FIELDS = tuple(it for it in rules.COMMANDS["amend"] if it not in ("child", "name"))
@@ -59,7 +60,7 @@ def all_of(entries: Iterator[Entry]) -> Iterator[tuple[str, Change]]:
             said = records.in_words(command, None)
         if said and is_stored:
             yield (code or "", Change(child, said, f"{it.who}{records.first_by(it)}", it.at))
-        if name in records.WHOLE:
+        if name in WHOLE:
             data[child] = command
         elif name in ("add_school", "raise_pan"):
             numbers[code] = command["pan"]

@@ -1,19 +1,14 @@
 """Whether a register is as a command leaves it: what a request without an answer came to."""
 import csv
 import io
-from collections.abc import Callable
+from collections.abc import Callable, Mapping
 from typing import Any
 
 from office import persons, rules
 from office.fields import trimmed
-from office.model import ACCEPTED, PLAN, WAITS, Place, Register, School
+from office.model import WAITS, Place, Register
 
-Command = dict[str, Any]
-
-
-def is_done(register: Register, command: Command) -> bool:
-    """Whether a register is as after this command."""
-    return DONE[command["cmd"]](register, command)
+Command = Mapping[str, Any]
 
 
 def place_of(register: Register, command: Command) -> Place | None:
@@ -32,7 +27,8 @@ def has_data(register: Register, command: Command) -> bool:
 def normal(command: Command) -> Command:
     """A command with each field that may be left out, and with sorted flags, as they are stored."""
     fields = rules.COMMANDS[command["cmd"]].values()
-    found: Command = {**{it.name: it.omitted for it in fields if it.is_optional}, **command}
+    found: dict[str, Any] = {
+        **{it.name: it.omitted for it in fields if it.is_optional}, **command}
     if isinstance(found.get("flags"), list):
         found["flags"] = sorted(set(found["flags"]))
     return found
@@ -59,24 +55,18 @@ def is_reminded(register: Register, command: Command) -> bool:
         place.reminded.isoformat() == command["day"])
 
 
-def has_kind(kind: str) -> Callable[[Register, Command], bool]:
-    """Whether the child has its place at the school in this way."""
+def has_kind(kind: str | None) -> Callable[[Register, Command], bool]:
+    """Whether the child has its place at the school in this way; for None, whether it has none."""
     def found(register: Register, command: Command) -> bool:
         place = place_of(register, command)
-        return place is not None and place.kind == kind
+        return (place.kind if place else None) == kind
     return found
 
 
 def has_school(register: Register, command: Command) -> bool:
     """Whether a school has the data of a command that adds it."""
     school = register.schools.get(command["school"])
-    return school is not None and command_of(school) == command
-
-
-def command_of(school: School) -> Command:
-    """The command that adds a school with the data that it has."""
-    return {"cmd": "add_school", "school": school.code, "name": school.name, "pan": school.pan,
-            "east": school.east, "north": school.north, "criteria": list(school.criteria)}
+    return school is not None and persons.command_of_school(school) == command
 
 
 def has_pan(register: Register, command: Command) -> bool:
@@ -115,20 +105,3 @@ def is_imported(register: Register, rows: str) -> bool:
         names.get(trimmed(it.get("child") or "")) == trimmed(it.get("name") or "")
         for it in found
     )
-
-
-DONE: dict[str, Callable[[Register, Command], bool]] = {
-    "add_school": has_school,
-    "raise_pan": has_pan,
-    "add_child": has_data,
-    "amend": has_data,
-    "apply": has_applied,
-    "accept": has_kind(ACCEPTED),
-    "name_plan": has_kind(PLAN),
-    "decline": lambda register, it: place_of(register, it) is None,
-    "lapse": lambda register, it: place_of(register, it) is None,
-    "leave_list": has_left,
-    "remind": is_reminded,
-    "round": is_held,
-    "fill": is_held,
-}

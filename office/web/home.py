@@ -13,6 +13,7 @@ from office.model import Register, School
 from . import pictures
 from .draws_terms import Draw
 from .history import ANSWER, SENDS, SETTLED, Entry
+from .kinds import KINDS
 from .letters_whom import OFFERS, PART
 from .notices import LAPSE, REMIND
 from .pictures import Span
@@ -238,15 +239,6 @@ def of_people(rows: Sequence[sqlite3.Row]) -> Iterator[Task]:
                    texts.count(len(locked), "person", "people"), READY, "people.show")
 
 
-# what was sent to the register, by the kind of a command
-SENT = {
-    "accept": "Recorded answers", "decline": "Recorded answers", "remind": "Recorded reminders",
-    "lapse": "Withdrew offers", "leave_list": "Took children off waiting lists",
-    "name_plan": "Recorded EHC plans", "apply": "Recorded applications",
-    "add_child": "Added children",
-    "amend": "Corrected details", "add_school": "Added schools", "raise_pan": "Raised numbers",
-    "round": "Held a round", "fill": "Held fills",
-}
 # entries that are no work, and how many are looked at and shown
 NO_WORK = (ANSWER, SETTLED, "signed in", "signed out", "refused", "records a pile")
 LOOKED_AT, SHOWN = 500, 5
@@ -269,7 +261,8 @@ def line_of(it: Entry) -> tuple[str, str, str]:
     """What is said of an entry, by whom it is, and its day: entries with the same are one line."""
     if it.what != SENDS:
         return it.what[:1].upper() + it.what[1:], it.who, it.at[:10]
-    title = SENT.get(it.about.get("command", {}).get("cmd", ""), "Sent a line to the register")
+    kind = KINDS.get(it.about.get("command", {}).get("cmd", ""))
+    title = kind.deeds if kind else "Sent a line to the register"
     return "Stored applications" if "import" in it.about else title, it.who, it.at[:10]
 
 

@@ -5,13 +5,11 @@ from register_files import Refused
 
 from office import texts
 
-from .desk import NAMES
 from .history import History
+from .kinds import NOTICES
 from .letters_sets import Set, Sets
 from .people import Person
 
-# what is recorded of a child after the letter from which its days count
-NOTICES = ("remind", "lapse")
 MOST_REASON = 200
 
 
@@ -41,7 +39,7 @@ def noticed(history: History, children: set[int], since: str) -> str:
     for it in history.done():
         command = it.about.get("command", {})
         if it.at > since and command.get("cmd") in NOTICES and command.get("child") in children:
-            return f"{NAMES[command['cmd']]} was recorded for child {command['child']} since"
+            return f"{NOTICES[command['cmd']].noun} was recorded for child {command['child']} since"
     return ""
 
 

@@ -7,8 +7,8 @@ from office import days
 from office.model import Register
 
 from . import answers
-from .answers import WORDS
 from .history import History
+from .kinds import ANSWERS
 from .letters_whom import Lists, about_of
 from .piles import DONE
 from .store import Store
@@ -19,7 +19,7 @@ def waiting(store: Store) -> dict[int, str]:
     rows = store.rows("SELECT child, person, kind FROM answer WHERE state<>? AND child IS NOT NULL"
                       " ORDER BY number", DONE)
     return {it["child"]: f"{it['person']} has an answer for this child in a pile"
-            f" ({WORDS[it['kind']] if it['kind'] else 'not understood'})" for it in rows}
+            f" ({ANSWERS[it['kind']] if it['kind'] else 'not understood'})" for it in rows}
 
 
 class Marks:

@@ -18,6 +18,7 @@ from office.model import Register
 from .copies import Copies
 from .desk import LOST, UNSENT, Desk, Result, Seen, seen_of
 from .history import SENDS, History, now
+from .kinds import NOTICES
 from .notice_marks import Marks, waiting
 from .people import Person
 from .piles import DONE, SENDING, WAITS
@@ -26,9 +27,6 @@ from .safeguard import copied
 from .store import Store
 
 REMIND, LAPSE = "remind", "lapse"
-# the worklist of each kind
-LISTS = {REMIND: "remind-due", LAPSE: "lapse-due"}
-TITLES = {REMIND: "records reminders", LAPSE: "records withdrawals"}
 FAILED = "failed"
 Command = dict[str, Any]
 
@@ -95,7 +93,7 @@ def due(register: Register, kind: str, day: datetime.date) -> list[Due]:
     """What is due on a day."""
     options = {"day": day}
     worklists.see_day(register, day)
-    header, *rows = worklists.rows_of(register, LISTS[kind], options)
+    header, *rows = worklists.rows_of(register, NOTICES[kind].due, options)
     found = []
     for row in rows:
         cells = dict(zip(map(str, header), row))
@@ -155,7 +153,7 @@ class Notices:
             if same:
                 return int(same["id"])
             self.see_none_kept(kind, [it.child for it in chosen])
-            self.history.add(who.name, TITLES[kind], {
+            self.history.add(who.name, f"records {NOTICES[kind].one}s", {
                 "day": day.isoformat(), "children": [it.child for it in chosen]})
             with self.store.writing() as db:
                 number = db.execute(
@@ -201,8 +199,8 @@ class Notices:
             self.settle(number)
             row = self.get(number)
             if row.copy is None:
-                what = "reminders" if row.kind == REMIND else "withdrawals"
-                copy = copied(self.desk, self.copies, f"before {what} of {row.day}", who)
+                purpose = f"before {NOTICES[row.kind].one}s of {row.day}"
+                copy = copied(self.desk, self.copies, purpose, who)
                 self.change(number, "copy=?", copy)
             self.change(number, "said=?", "")
             for it in row.notices:

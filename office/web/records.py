@@ -2,7 +2,7 @@
 the draws in which the child took part.
 """
 import dataclasses
-from collections.abc import Callable, Iterable, Iterator, Mapping, Sequence
+from collections.abc import Iterable, Iterator, Mapping, Sequence
 from typing import Any
 
 from office import commands, days, rules, texts
@@ -10,12 +10,10 @@ from office.model import Register
 
 from . import effects, lineage
 from .history import ANSWER, RESTORED, SENDS, SETTLED, Entry, History, says_done
+from .kinds import DRAWS, KINDS, WHOLE, day_in
 from .wording import draw_in_words, label, moment, sentence
 
 Command = Mapping[str, Any]
-DRAWS = ("round", "fill")
-# with the data of a child
-WHOLE = ("add_child", "amend")
 
 
 @dataclasses.dataclass(frozen=True)
@@ -36,32 +34,12 @@ class Record:
         return "T" in self.at
 
 
-def day_in(command: Command) -> str:
-    """The day of a command."""
-    found = days.read(str(command.get("day", "")))
-    return days.in_words(found) if found else str(command.get("day", ""))
-
-
-WORDS: dict[str, Callable[[Command], str]] = {
-    "accept": lambda it: f"accepted the place at {it['school']}",
-    "decline": lambda it: f"declined the place at {it['school']}",
-    "remind": lambda it: f"reminded on {day_in(it)} of the offer of {it['school']}",
-    "lapse": lambda it: f"offer of {it['school']} withdrawn on {day_in(it)}",
-    "leave_list": lambda it: f"left the waiting list of {it['school']}",
-    "name_plan": lambda it: f"plan that names {it['school']}",
-    "apply": lambda it: f"application of {day_in(it)}: {', '.join(it['preferences'])}",
-}
-
-
 def in_words(command: Command, before: Command | None) -> str:
     """What a command records of a child, with what it changes of the data that were known before.
     """
-    name = command["cmd"]
-    if name in WORDS:
-        return WORDS[name](command)
-    if name == "amend" and before:
+    if command["cmd"] == "amend" and before:
         return "data corrected: " + ("; ".join(changes(before, command)) or "nothing changed")
-    return "child added" if name == "add_child" else "data corrected"
+    return KINDS[command["cmd"]].words(command)
 
 
 def changes(
@@ -200,10 +178,9 @@ def last_of(history: History, who: str, number: int) -> str:
 
 def ended_by(history: History, number: int, code: str) -> str:
     """How a child lost a school: declined, its offer withdrawn, or left, as the history has it."""
-    kinds = {"decline": "declined", "lapse": "offer withdrawn", "leave_list": "left"}
     for it in history.done():
         command = it.about.get("command", {})
         if (command.get("child"), command.get("school")) == (number, code):
-            if command["cmd"] in kinds:
-                return kinds[command["cmd"]]
+            if ended := KINDS[command["cmd"]].ended:
+                return ended
     return ""

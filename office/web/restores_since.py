@@ -3,14 +3,14 @@ than the copy.
 """
 import collections
 import dataclasses
-from collections.abc import Callable, Iterator, Mapping, Sequence
+from collections.abc import Iterator, Mapping, Sequence
 
 from office import persons, texts
 from office.model import Register
 
 from . import effects, lineage, records, wording
 from .history import SENDS, Entry, History, says_done
-from .records import DRAWS, Command
+from .kinds import DRAWS, KINDS
 
 BY_DRAW = "A draw is held again on the screen of draws."
 BY_HAND = "The application knows no command of it."
@@ -35,15 +35,6 @@ def why_not(entry: Entry) -> str:
     return BY_DRAW if entry.about.get("command", {}).get("cmd") in DRAWS else ""
 
 
-WORDS: dict[str, Callable[[Command], str]] = {
-    "add_school": lambda it: f"school {it['school']} {it['name']} added, with"
-                             f" {texts.count(it['pan'], 'place')}",
-    "raise_pan": lambda it: f"admission number of {it['school']} raised to {it['pan']}",
-    "round": lambda it: f"draw {it['draw']}: round of {records.day_in(it)}",
-    "fill": lambda it: f"draw {it['draw']}: fill at {it['school']} of {records.day_in(it)}",
-}
-
-
 def in_words(entry: Entry, names: dict[int, str]) -> str:
     """What an entry recorded, with the child's name where it is known."""
     if "import" in entry.about:
@@ -52,8 +43,8 @@ def in_words(entry: Entry, names: dict[int, str]) -> str:
     if "line" in entry.about:
         return f"a line that is no command: {texts.visible(entry.about['line'])}"
     command = entry.about["command"]
-    if command["cmd"] in WORDS:
-        return WORDS[command["cmd"]](command)
+    if "child" not in command:
+        return KINDS[command["cmd"]].words(command)
     number = command["child"]
     name = names.get(number) or str(command.get("name", ""))
     return f"child {number} {name}: {records.in_words(command, None)}"
@@ -103,7 +94,7 @@ def facts_of_school(register: Register, code: str) -> dict[str, str]:
     found = register.schools.get(code)
     return {} if found is None else {
         wording.label(name): texts.cell_of(value)
-        for name, value in effects.command_of(found).items() if name != "cmd"}
+        for name, value in persons.command_of_school(found).items() if name != "cmd"}
 
 
 def of_children(now: Register, then: Register) -> Iterator[Difference]:

@@ -11,7 +11,6 @@ from office.model import School
 from office.rules import LIMITS
 from office.sheet import Row
 
-from .effects import command_of
 from .wording import label
 
 Command = dict[str, Any]
@@ -115,7 +114,7 @@ def read(cells: Cells, words: Mapping[int, str]) -> tuple[Command | None, dict[s
 
 def cells_of(school: School) -> Cells:
     """A school of a register as cells."""
-    command = command_of(school)
+    command = persons.command_of_school(school)
     return {it: texts.cell_of(command[it]) for it in COLUMNS}
 
 
@@ -128,7 +127,7 @@ def lines_of(
     found = []
     for number, cells, command, wrong in read_lines:
         there = known.get(command["school"]) if command else None
-        is_there = there is not None and command_of(there) == command
+        is_there = there is not None and persons.command_of_school(there) == command
         if command and there and not is_there:
             other = differences(there, command)
             wrong = {"school": f"the register has this school with other data: {other}"}
@@ -151,7 +150,7 @@ def see_count(lines: list[Line], known: Mapping[str, School]) -> None:
 
 def differences(school: School, command: Command) -> str:
     """How a school of the register differs from a command that adds it."""
-    present = command_of(school)
+    present = persons.command_of_school(school)
     return "; ".join(f"{label(it)} {texts.cell_of(present[it]) or 'none'} there,"
                      f" {texts.cell_of(command[it]) or 'none'} here"
                      for it in COLUMNS if present[it] != command[it])
@@ -164,7 +163,7 @@ def notes_of(
     """What looks wrong in a school, though it can be stored."""
     if len(set(command["criteria"])) < len(command["criteria"]):
         yield "a criterion is there twice"
-    schools = [command_of(it) for it in known.values()]
+    schools = [persons.command_of_school(it) for it in known.values()]
     all_others = [it for it in (*schools, *(other for _, _, other, _ in others if other))
                   if it["school"] != command["school"]]
     if all_others and min(metres_between(command, it) for it in all_others) > across.FAR_METRES:

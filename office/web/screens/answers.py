@@ -13,8 +13,9 @@ from office.model import Register
 
 from .. import answer_rows, answers, guard, handovers, numbers, piles, uploads
 from ..answer_rows import Reader
-from ..answers import WORDS, Entry, Names
+from ..answers import Entry, Names
 from ..guard import needs, parts, person
+from ..kinds import ANSWERS
 from ..people import RECORD
 from ..piles import DONE, Piles, Shown
 from ..wording import WRONG_DECLINE, sentence
@@ -59,7 +60,7 @@ def page(said: str = "", status: int = 200, pasted: str = "", typed: str = "") -
         "answers.html", shown=shown, ready=ready, digest=digest_of(ready),
         done=done[-MOST_RECORDED:], recorded=len(done),
         wrong_decline=WRONG_DECLINE, marked=sum(bool(it.conflicts) for it in shown),
-        names=names, words=WORDS, read=answer_rows.READ, said=said,
+        names=names, words=ANSWERS, read=answer_rows.READ, said=said,
         is_bad=status != 200 or bool(failed), pasted=pasted,
         typed=typed, is_added="added" in flask.request.args, is_running=found.is_running(who),
         is_away=register is None, waiting=found.of(who) if register is None else [],
@@ -162,7 +163,7 @@ def remove_all(which: str, seen: str) -> Answer:
         found.remove(who, (it.entry.number for it in shown))
         return back()
     said = "The pile has changed since it was shown. Nothing was removed: look at it again."
-    items = [f"{it.entry.meant.typed}: {WORDS[it.entry.meant.kind]} {it.name}".rstrip()
+    items = [f"{it.entry.meant.typed}: {ANSWERS[it.entry.meant.kind]} {it.name}".rstrip()
              for it in shown]
     return flask.render_template(
         "remove_all.html", said=said if seen else "", items=items, where="pile",
@@ -210,7 +211,7 @@ def ask() -> Answer:
         "record_answers.html", ready=ready, final=final, digest=digest_of(ready),
         bare=[it for it in accepts if it.entry.is_by_number_alone],
         named=[it for it in accepts if not it.entry.is_by_number_alone],
-        schools=schools, words=WORDS, wrong_decline=WRONG_DECLINE,
+        schools=schools, words=ANSWERS, wrong_decline=WRONG_DECLINE,
         places={it.entry.number: register.places.get(it.entry.meant.child or 0) for it in final})
 
 

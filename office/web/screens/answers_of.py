@@ -6,8 +6,8 @@ from register_files import Refused
 from werkzeug.wrappers import Response
 
 from .. import guard, handovers
-from ..answers import WORDS
 from ..guard import needs, parts, person
+from ..kinds import ANSWERS
 from ..people import NAME, RECORD
 from ..wording import sentence
 from .answers import all_piles, digest_of
@@ -24,7 +24,7 @@ def page(owner: str, said: str = "") -> Answer:
     shown = found.shown(owner, register)
     body = flask.render_template(
         "answers_of.html", owner=owner, why=handovers.why_away(parts().store, owner), shown=shown,
-        words=WORDS, said=said, digest=digest_of(shown), is_running=found.is_running(owner))
+        words=ANSWERS, said=said, digest=digest_of(shown), is_running=found.is_running(owner))
     return body, 409 if said else 200
 
 

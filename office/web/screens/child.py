@@ -14,9 +14,10 @@ from .. import (
     children, corrections, explanations, flags, pictures, reasons, records, staging_points, wording,
 )
 from ..asked import Typed
-from ..children import ACTIONS, FIELDS, Question
+from ..children import FIELDS, Question
 from ..desk import Seen, seen_of
 from ..guard import needs, parts, person
+from ..kinds import ACTIONS
 from ..people import NOTES, READ, RECORD
 from ..piles import BEFORE_PLANS
 from ..points import TYPED, Point
@@ -192,7 +193,7 @@ def record(number: int, name: str) -> Answer:
     form = flask.request.form
     action, day = ACTIONS[name], wording.day_of(form.get("day", ""))
     command: dict[str, Any] = {
-        "cmd": action.command, "child": number, "school": form.get("school", "")}
+        "cmd": action.name, "child": number, "school": form.get("school", "")}
     if action.is_dated:
         if day is None or day > today() or form.get("what") == "show":
             return ask_page(number, name)

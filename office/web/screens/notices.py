@@ -16,6 +16,7 @@ from office.model import Register
 from .. import children, choices, letters_rows, notices, numbers, tables, wording
 from ..asked import Typed
 from ..guard import needs, parts, person
+from ..kinds import NOTICES
 from ..notice_marks import Marks
 from ..notices import LAPSE, REMIND, Due, Notice, Notices
 from ..people import READ, RECORD, Person
@@ -27,8 +28,6 @@ screen = flask.Blueprint("notices", __name__, url_prefix="/notices")
 Answer = str | Response | tuple[str, int]
 KINDS = f"any({REMIND}, {LAPSE})"
 WAIT_SECONDS = 4.0
-WHAT = {REMIND: ("reminder", "reminders"), LAPSE: ("withdrawal", "withdrawals")}
-TITLES = {REMIND: "Reminders", LAPSE: "Withdrawals of offers"}
 CHANGED = "What was shown has changed meanwhile. Nothing was recorded: look at it again."
 UNREAD = "Nothing was recorded: read what looks wrong, and say that it is right."
 
@@ -63,12 +62,12 @@ def show() -> Answer:
     """What is due today, and the rows that were recorded."""
     register: Register = parts().desk.register()
     counts = {}
-    for kind in TITLES:
+    for kind in NOTICES:
         try:
             counts[kind] = len(notices.due(register, kind, today()))
         except Refused:
             counts[kind] = 0
-    return flask.render_template("notices.html", counts=counts, titles=TITLES, what=WHAT,
+    return flask.render_template("notices.html", counts=counts, kinds=NOTICES,
                                  found=rows().listed())
 
 
@@ -106,7 +105,7 @@ def choose_page(
     due = [Box(it, it.child not in kept and (is_ticked(tick, it, marks) if picked is None
                                              else str(it.child) in picked)) for it in found]
     return flask.render_template(
-        "notices_choose.html", kind=kind, list=notices.LISTS[kind], title=TITLES[kind],
+        "notices_choose.html", kind=kind, list=NOTICES[kind].due, title=NOTICES[kind].row,
         typed=typed, wrong=wrong, said=said, is_bad=status != 200, kept=kept, marks=marks,
         day=wording.weekday(day) if day else "", many=len(due),
         page=choices.page_of(due, number, lambda it: it.due.child if it.is_ticked else None)
@@ -141,8 +140,8 @@ def not_due(register: Register, kind: str, gone: list[int]) -> str:
     names = [f"{it}, {register.children[it].name}" if it in register.children else str(it)
              for it in gone]
     who = f"child {names[0]}, is" if len(gone) == 1 else f"children {'; '.join(names)}; are"
-    what = "a reminder" if kind == REMIND else "a withdrawal"
-    return (f"{who} not due any more: somebody has recorded an answer or {what} meanwhile."
+    return (f"{who} not due any more: somebody has recorded an answer or a {NOTICES[kind].one}"
+            " meanwhile."
             " Nothing was recorded, and all others that you ticked still are")
 
 
@@ -214,12 +213,11 @@ def question(kind: str, key: str, form: Typed | None) -> Answer:
             return recorded(kind, key, day, chosen, given)
     warnings = children.day_warnings(
         register, notices.command_of(kind, chosen[0].child, chosen[0].school, day), day, today())
-    one, several = WHAT[kind]
     return flask.render_template(
         "notices_ask.html", kind=kind, chosen=chosen, marks=marks, digest=digest, key=key,
         weekday=wording.weekday(day), warnings=warnings, said=said, register=register,
-        is_wrong=is_wrong, becomes=becomes(kind, day),
-        button=f"Record {texts.count(len(chosen), one, several)} of {days.in_words(day)}",
+        is_wrong=is_wrong, becomes=NOTICES[kind].becomes_on(day),
+        button=f"Record {texts.count(len(chosen), NOTICES[kind].one)} of {days.in_words(day)}",
     ), 409 if said else 200
 
 
@@ -234,12 +232,6 @@ def recorded(
         return choose_page(kind, given, 1, sentence(str(error)), 409)
     rows().record(person(), number, WAIT_SECONDS)
     return to_row(number)
-
-
-def becomes(kind: str, day: datetime.date) -> str:
-    """What becomes of it."""
-    action = children.ACTIONS[kind]
-    return action.becomes.replace("{withdrawn}", days.in_words(days.due_from(day)))
 
 
 def known_row(key: str) -> int | None:
@@ -282,7 +274,7 @@ def one(number: int) -> Answer:
     }, row.notices)
     made = letters_rows.of_row(letters.sets(), number)
     return flask.render_template(
-        "notices_row.html", row=row, title=TITLES[row.kind], what=WHAT[row.kind], names=names,
+        "notices_row.html", row=row, kind=NOTICES[row.kind], names=names,
         table=table, pages=tables.pages("notices.one", number=number),
         page=tables.paged(table.rows, flask.request.args.get("page", "")),
         done=row.count(DONE), is_running=is_running,
