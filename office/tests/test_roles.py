@@ -199,15 +199,18 @@ def test_files_of_several_children_are_on_record(office: Site) -> None:
     """Each with who took it; one that is taken again and again does not fill the disk."""
     jane, alpha = office.browser("jane", OFFICER), office.browser("alpha", SCHOOL)
     portal = office.program("portal")
-    for get, path in ((portal.get, "/register"), (jane.get, "/lists/children/workbook"),
-                      (jane.get, "/lists/children/csv")):
+    answers = ("/register", "/draw/1", "/round/1", "/pairs", "/pairs/A", "/school/A/waiting")
+    for get, path in (*((portal.get, it) for it in answers),
+                      (jane.get, "/lists/children/workbook"), (jane.get, "/lists/children/csv")):
         for _ in range(2):
             assert get(path).status_code == 200, path
     assert alpha.get("/schools/A/workbook").status_code == 200
+    # (of one child nothing is on record, nor of a round that is not there)
+    assert portal.get("/child/1").status_code == 200 and portal.get("/round/9").status_code == 404
     assert jane.get("/lists/children").status_code == 200
     found = [(it.who, it.about["of"]) for it in office.parts.history.entries
              if it.what == "took a file"]
-    assert found == [("portal", "/register"), ("jane", "/lists/children/workbook"),
+    assert found == [*(("portal", it) for it in answers), ("jane", "/lists/children/workbook"),
                      ("jane", "/lists/children/csv"), ("alpha", "/schools/A/workbook")]
 
 

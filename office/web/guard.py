@@ -51,10 +51,11 @@ FOR_PROGRAMS = ("this is for other programs, which send a token: the head of the
                 " program on the screen People")
 # what a program may ask for beside it: that it is known, before the site reads what it sends
 OF_BOTH = "signing.signed_in"
-# files that have more than one child, which are on record: each by a person once an hour
-EXPORTS = ("register.register", "lists.csv", "lists.workbook", "schools.workbook",
-           "trials.workbook", "trials.pdf")
-EXPORT_SECONDS = 3600
+# what has more than one child, and is taken away, is on record: each by a person or a program once
+# an hour; of the register's own answers also those that begin so
+EXPORTS = ("register.register", "register.draw", "register.pairs", "register.waiting", "lists.csv",
+           "lists.workbook", "schools.workbook", "trials.workbook", "trials.pdf")
+ROUNDS, EXPORT_SECONDS = "/round/", 3600
 # what somebody may do whose password was drawn by somebody else
 BEFORE_CHANGE = ("signing.password", "signing.sign_out", "signing.signed_in")
 # what was typed is kept over the end of a session up to this size, and on these pages never
@@ -270,7 +271,8 @@ def refused(found: Person, reason: str = "") -> None:
 def record_export(response: flask.Response) -> flask.Response:
     """Records, before it is sent, that somebody takes a file of more than one child."""
     request, recent = flask.request, cast(Recent, flask.current_app.extensions["exports"])
-    if request.endpoint in EXPORTS and response.status_code == 200 and (
+    is_export = request.endpoint in EXPORTS or request.path.startswith(ROUNDS)
+    if is_export and response.status_code == 200 and (
             recent.is_new(person().name, request.path)):
         record("took a file", of=request.path)
     return response
