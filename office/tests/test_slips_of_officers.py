@@ -27,6 +27,7 @@ test of their own elsewhere are named here too, so that this is the whole list.
 | A name with a slip, typed into Find | here |
 | A day in the order of another country | test_child, test_staging: days of a file |
 | A reminder or a withdrawal on a day far away | test_child: warned of |
+| What is final, sent again after a session or by a colleague | here |
 | Attempts of a wrong password | test_application |
 | A reload of the page that shows a new password | here |
 | An error that stands far from its field | test_schools, test_child, test_staging |
@@ -210,6 +211,29 @@ def test_an_empty_or_a_wrong_file_adds_nothing_and_is_said(
     assert found.status_code in (400, 409)
     said = Page(found.text).said()
     assert said.startswith(("Not added: ", "Nothing was added: ")), said
+
+
+def test_what_is_final_names_whom_it_concerns_when_it_is_sent_again(office: Site) -> None:
+    """After the end of a session, and where a colleague has signed in meanwhile in that browser: no
+    button says no more than that something is sent.
+    """
+    jane, bo = emptied(office, "jane"), emptied(office, "bo")
+    question = Page(jane.get("/children/30/decline").text)
+    whole = Page(press(jane, PAGE, enter(jane, "31-"), "Record 1 answer").text)
+    jane.post("/sign-out")
+    button = "Decline Beta for Child Number30"
+    for browser, status in ((jane, 401), (bo, 403)):
+        for page, path, words in ((question, "/children/30/decline", button), (
+                whole, PAGE, "Record 1 answer, with that of Child Number31")):
+            late = press(browser, path, page, words)
+            assert late.status_code == status and Page(late.text).buttons() == [words]
+    assert not of(office, 30) and not of(office, 31)
+    assert jane.sign_in("jane", office.passwords["jane"]).status_code == 303
+    stale = Page(press(bo, "/children/30/decline", question, button).text)
+    # (a page in tests has no values of text areas)
+    typed = {it: question.form(button).values[it] for it in ("seen", "school")}
+    done = press(bo, "", stale, button, **typed)
+    assert done.status_code == 303 and kind(office, 30) is None
 
 
 def test_a_reload_draws_no_second_password(office: Site) -> None:

@@ -60,6 +60,8 @@ ROUNDS, EXPORT_SECONDS = "/round/", 3600
 BEFORE_CHANGE = ("signing.password", "signing.sign_out", "signing.signed_in")
 # what was typed is kept over the end of a session up to this size, and on these pages never
 MOST_TYPED, MOST_SECRET = 1_000_000, 100
+# of the words of a button that confirms something, by which it is sent again
+MOST_CONFIRMED = 300
 SECRET = ("signing.sign_in", "signing.password")
 # of those without a session one body is read at a time; another one meanwhile is not read
 NOBODY = threading.Lock()
@@ -207,7 +209,7 @@ def typed_again(status: int, reason: str) -> AnyResponse | None:
         return None
     return flask.make_response(flask.render_template(
         "again.html", reason=reason, typed=typed, has_files=bool(request.files), form=form,
-        label=wording.label), status)
+        label=wording.label, confirmed=request.form.get("confirmed", "")[:MOST_CONFIRMED]), status)
 
 
 def see() -> AnyResponse | None:
