@@ -551,6 +551,18 @@ def test_what_moved_a_class_or_a_limit_is_named(small: Machine) -> None:
         assert re.fullmatch(r"\d+ \w+ \d{4}, \d\d:\d\d", rows_shown[0][4])
 
 
+def test_a_step_that_is_sent_again_after_a_session_is_named(small: Machine) -> None:
+    """By the words of its button: who presses it has no page of the draw any more."""
+    with small.office() as office:
+        hal, _ = office_of_two(office)
+        path = f"/draws/{begun(office)}"
+        page = Page(hal.browser.get(path).text)
+        button = next(it for it in page.buttons() if it.startswith("Close "))
+        hal.browser.post("/sign-out")
+        late = press(hal.browser, path, page, button)
+        assert late.status_code == 401 and Page(late.text).buttons() == [button]
+
+
 def test_a_change_of_a_person_is_asked_first(small: Machine) -> None:
     """By name, with what it does to the draw in progress: nothing is done before that is shown, nor
     once it has changed.
