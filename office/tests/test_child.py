@@ -180,10 +180,33 @@ def test_a_withdrawal_needs_a_reminder(office: Site, monkeypatch: pytest.MonkeyP
     late = press(jane, path, page, "Withdraw the offer of Beta from Cyd <b>Cole</b>")
     assert late.status_code == 400 and 3 in office.parts.desk.now().places
     monkeypatch.setattr(screen, "today", lambda: datetime.date(2025, 4, 2))
-    found = press(jane, path, page, "Withdraw the offer of Beta from Cyd <b>Cole</b>")
+    late = press(jane, path, page, "Withdraw the offer of Beta from Cyd <b>Cole</b>")
+    assert late.status_code == 409 and 3 in office.parts.desk.now().places
+    assert Page(late.text).said() == (
+        "Nothing was recorded: read what looks wrong, and say that it is right.")
+    assert "The letter of the reminder of 18 March 2025 is not recorded as sent." in late.text
+    found = press(jane, path, page, "Withdraw the offer of Beta from Cyd <b>Cole</b>", read="yes")
     assert found.status_code == 303 and 3 not in office.parts.desk.now().places
     # (as the button and the letters call it)
     assert Page(jane.get("/children/3").text).tables["list"][2][1] == "offer withdrawn"
+
+
+def test_no_offer_is_withdrawn_whose_answer_waits_in_a_pile(
+    office: Site, monkeypatch: pytest.MonkeyPatch,
+) -> None:
+    """Of anybody, also where it came after the question: as where many are withdrawn at once."""
+    jane, bo = office.browser("jane"), office.browser("bo")
+    act(jane, "/children/3/remind", "Record the reminder of Cyd <b>Cole</b> about Beta")
+    monkeypatch.setattr(screen, "today", lambda: datetime.date(2025, 4, 2))
+    page = Page(jane.get("/children/3/lapse?day=2 April 2025").text)
+    bo.get("/answers/")
+    assert bo.post("/answers/", {"entry": "3"}).status_code == 303
+    late = press(jane, "/children/3/lapse", page, "Withdraw the offer of Beta from Cyd <b>Cole</b>",
+                 read="yes")
+    assert late.status_code == 409 and 3 in office.parts.desk.now().places
+    said = "bo has an answer for this child in a pile (accept)"
+    assert Page(late.text).said() == f"B{said[1:]}. Nothing was recorded."
+    assert f"B{said[1:]}." in jane.get("/children/3/lapse?day=2 April 2025").text
 
 
 def test_the_last_day_of_an_answer_is_said_before_a_reminder_and_a_withdrawal(
@@ -199,8 +222,9 @@ def test_the_last_day_of_an_answer_is_said_before_a_reminder_and_a_withdrawal(
         if name == "remind":
             act(jane, "/children/3/remind", "Record the reminder of Cyd <b>Cole</b> about Beta")
             monkeypatch.setattr(screen, "today", lambda: datetime.date(2025, 4, 2))
-    found = act(jane, "/children/3/lapse?day=1 April 2025",
-                "Withdraw the offer of Beta from Cyd <b>Cole</b>")
+    found = press(jane, "/children/3/lapse", Page(jane.get(
+        "/children/3/lapse?day=1 April 2025").text),
+        "Withdraw the offer of Beta from Cyd <b>Cole</b>", read="yes")
     assert found.status_code == 303 and 3 not in office.parts.desk.now().places
 
 
@@ -256,7 +280,7 @@ def test_a_day_that_was_typed_is_shown_before_it_is_sent(
     assert page.by_id["on"] == "Day: Thursday, 3 April 2025" and page.said() == ""
     found = press(jane, path, page, button, day="no day")
     assert found.status_code == 400 and sent(office) == before
-    found = press(jane, path, page, button)
+    found = press(jane, path, page, button, read="yes")
     assert found.status_code == 303
     assert sent(office)[len(before):] == [
         {"cmd": name, "child": 3, "school": "B", "day": "2025-04-03"}]

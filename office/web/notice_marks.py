@@ -13,6 +13,8 @@ from .letters_whom import Lists, about_of
 from .piles import DONE
 from .store import Store
 
+UNREAD = "Nothing was recorded: read what looks wrong, and say that it is right."
+
 
 def waiting(store: Store) -> dict[int, str]:
     """The children whose answer waits in a pile, with whose it is and which."""

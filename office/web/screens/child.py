@@ -18,6 +18,8 @@ from ..children import FIELDS, Question
 from ..desk import Seen, seen_of
 from ..guard import needs, parts, person
 from ..kinds import ACTIONS
+from ..notice_marks import UNREAD, Marks
+from ..notices import LAPSE, REMIND
 from ..people import NOTES, READ, RECORD
 from ..piles import BEFORE_PLANS
 from ..points import TYPED, Point
@@ -161,9 +163,26 @@ def ask(number: int, name: str) -> Answer:
     return ask_page(number, name)
 
 
+def marks_of(register: Register, name: str) -> Marks | None:
+    """What is said beside children whose offer is reminded of or withdrawn, also in rows."""
+    return Marks(parts().store, parts().history, register) if name in (REMIND, LAPSE) else None
+
+
+def against(register: Register, number: int, name: str) -> str:
+    """Why an offer is not withdrawn now, or "": its answer waits in a pile; or nobody has said that
+    it is right without a reminder that was sent.
+    """
+    marks = marks_of(register, name) if name == LAPSE else None
+    if marks and (said := marks.waiting.get(number)):
+        return sentence(f"{said}. Nothing was recorded")
+    is_read = flask.request.form.get("read") == "yes"
+    return UNREAD if marks and marks.unsent(number) and not is_read else ""
+
+
 def ask_page(number: int, name: str, said: str = "", status: int = 200) -> Answer:
     """The question, with the child as it is now."""
     register = child_in(number)
+    marks = marks_of(register, name)
     given = flask.request.values.get("school", "")
     code = children.school_of(register, number, name, given)
     day, typed, wrong = day_typed()
@@ -181,6 +200,8 @@ def ask_page(number: int, name: str, said: str = "", status: int = 200) -> Answe
     schools = [(it.code, f"{it.code} {it.name}") for it in register.schools.values()]
     return flask.render_template(
         "ask.html", **shown(register, number), action=ACTIONS[name], question=found, seen=seen,
+        marks=marks.of(number) if marks and found else (),
+        is_unsent=bool(name == LAPSE and marks and marks.unsent(number)),
         code=code, day=day, typed=typed, wrong=wrong, said=said, schools=schools,
         to=flask.url_for("child.record", number=number, name=name),
         weekday=wording.weekday(day)), 400 if wrong and status == 200 else status
@@ -202,6 +223,8 @@ def record(number: int, name: str) -> Answer:
                             " and not shown before. What becomes of it with this day is below.",
                             409)
         command["day"] = day.isoformat()
+    if reason := against(child_in(number), number, name):
+        return ask_page(number, name, reason, 409)
     seen = Seen(form.get("seen", ""))
     try:
         if name == "plan" and not parts().desk.changed(child_in(number), command, seen):

@@ -17,7 +17,7 @@ from .. import children, choices, letters_rows, notices, numbers, tables, wordin
 from ..asked import Typed
 from ..guard import needs, parts, person
 from ..kinds import NOTICES
-from ..notice_marks import Marks
+from ..notice_marks import UNREAD, Marks
 from ..notices import LAPSE, REMIND, Due, Notice, Notices
 from ..people import READ, RECORD, Person
 from ..piles import DONE
@@ -29,7 +29,6 @@ Answer = str | Response | tuple[str, int]
 KINDS = f"any({REMIND}, {LAPSE})"
 WAIT_SECONDS = 4.0
 CHANGED = "What was shown has changed meanwhile. Nothing was recorded: look at it again."
-UNREAD = "Nothing was recorded: read what looks wrong, and say that it is right."
 
 
 @dataclasses.dataclass(frozen=True)
