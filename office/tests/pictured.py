@@ -210,7 +210,7 @@ def pictures(office: Site) -> Iterator[Picture]:
     one = waits(office)
     yield Picture(START, "/", part="body")
     yield Picture("child", f"/children/{one}")
-    yield Picture("waiting-list", "/schools/A")
+    yield Picture("waiting-list", "/schools/A/waiting")
     yield Picture("worklist", f"/notices/remind?day={DAY}")
     yield Picture("amend", f"/children/{one}/correct")
     yield Picture("question", f"/children/{one}/decline")

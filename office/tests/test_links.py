@@ -110,7 +110,8 @@ def test_each_role_finds_what_is_its_own(office: Site) -> None:
     for path in ("/activity/", "/applications/"):
         assert path not in reader and path in officer, path
     assert "/children/3/notes" in officer and "/people/" in head and "/people/" not in officer
-    assert school <= {"/", "/schools/A", "/schools/A/workbook", "/password", "/help"}
+    assert school == {"/", "/password", "/help", "/schools/A", *(
+        f"/schools/A/{it}" for it in ("waiting", "intake", "workbook"))}
 
 
 def test_the_head_of_a_school_reads_its_own_school_alone(office: Site) -> None:
@@ -118,7 +119,7 @@ def test_the_head_of_a_school_reads_its_own_school_alone(office: Site) -> None:
     alpha = office.browser("school-a", "school-A")
     page = alpha.get("/").location
     assert page == "/schools/A"
-    text = alpha.get(page).text
+    text = "".join(alpha.get(f"{page}{it}").text for it in ("", "/waiting", "/intake"))
     for name in ("Ben Bell", "Cyd &lt;b&gt;Cole", "Dai O&#39;Dare"):
         assert name in text
     assert "Beta" not in text and "/children/" not in text and "Ada Abel" not in text

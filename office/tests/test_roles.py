@@ -53,6 +53,7 @@ OTHERS: dict[tuple[str, str], set[str]] = {
     **{(f"season_end.{it}", "POST"): {HEAD, OFFICER} for it in ("confirm", "go_on", "take_back")},
     ("restores.second", "POST"): {HEAD, OFFICER},
     ("schools.one", "GET"): READS | {SCHOOL}, ("schools.workbook", "GET"): READS | {SCHOOL},
+    ("schools.waiting", "GET"): READS | {SCHOOL}, ("schools.held", "GET"): READS | {SCHOOL},
     ("schools.raise_number", "GET"): RECORDS,
 }
 VALUES = {"number": 1, "name": "accept", "code": "A", "kind": "csv", "draw": 1, "reader": "family",

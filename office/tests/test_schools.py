@@ -1,4 +1,5 @@
 """Schools, flags and the lists of a school in the application."""
+import html
 import io
 import json
 import pathlib
@@ -514,20 +515,27 @@ def test_all_schools_are_shown(held: Site) -> None:
 
 def test_a_school_has_its_intake_its_list_and_its_last_offers(held: Site) -> None:
     """Children 1 and 2 live nearest to A, 3 has B, and 4 nothing; A's lots are 1 to 4."""
-    page = Page(held.browser("rita", "reader").get("/schools/A").text)
-    assert page.tables["intake"][1:] == [
-        ["1", "Ada Abel", "offered", "3 March 2025"], ["2", "Ben Bell", "offered", "3 March 2025"]]
-    assert page.tables["waiting"][1:] == [
-        ["1", "3", "Cyd <b>Cole</b>", "ranked by distance alone", "300"],
-        ["2", "4", "Dai O'Dare", "ranked by distance alone", "400"]]
-    assert page.tables["last"][1:] == [
-        ["round 1", "3 March 2025", "2", "2", "ranked by distance alone", "200", "2"]]
-    assert "<b>Cole" not in page.text
-    assert page.tables["classes"][1:] == [["ranked by distance alone", "2", "2", "200"]]
-    homes = re.findall(
-        '<a href="/children/([0-9])"[^>]*><path class="home far ([a-z]*)"', page.text)
+    rita = held.browser("rita", "reader")
+
+    def table(name: str, path: str = "") -> list[list[str]]:
+        return Page(rita.get(f"/schools/A{path}").text).tables[name][1:]
+
+    alone = "ranked by distance alone"
+    assert table("intake", "/intake") == [
+        ["1", "Ada Abel", "offered", "3 March 2025", alone, "100"],
+        ["2", "Ben Bell", "offered", "3 March 2025", alone, "200"]]
+    assert table("waiting", "/waiting") == [
+        ["1", "3", "Cyd <b>Cole</b>", alone, "300", "Beta, second preference offered",
+         "31 October 2024"],
+        ["2", "4", "Dai O'Dare", alone, "400", "none", "31 October 2024"]]
+    assert table("last") == [["round 1", "3 March 2025", "2", "2", alone, "200", "2"]]
+    text = rita.get("/schools/A").text
+    assert "<b>Cole" not in text + rita.get("/schools/A/waiting").text
+    assert table("classes") == [["looked after, or previously looked after", "0", "0", ""],
+                                [alone, "2", "2", "200"]]
+    homes = re.findall('<a href="/children/([0-9])"[^>]*><path class="home far ([a-z]*)"', text)
     assert sorted(homes) == [("1", "has"), ("2", "has"), ("3", "waits"), ("4", "waits")]
-    assert "2 children have a place, and 2 wait." in page.text
+    assert "2 children have a place, and 2 wait." in text
     desk = held.parts.desk
     hal = Person("hal", "head")
     for command in ({"cmd": "accept", "child": 1, "school": "A"},
@@ -536,29 +544,26 @@ def test_a_school_has_its_intake_its_list_and_its_last_offers(held: Site) -> Non
                     {"cmd": "raise_pan", "school": "A", "pan": 3},
                     {"cmd": "fill", "draw": 2, "school": "A", "day": "2025-03-20", "lots": [7]}):
         assert desk.send(hal, command, draw=True).is_done, command
-    page = Page(held.browser("rita").get("/schools/A").text)
-    assert page.tables["intake"][1:] == [
-        ["1", "Ada Abel", "accepted", "3 March 2025"],
-        ["3", "Cyd <b>Cole</b>", "offered", "20 March 2025"],
-        ["4", "Dai O'Dare", "by a plan", ""]]
-    assert page.tables["last"][1:] == [
-        ["round 1", "3 March 2025", "2", "2", "ranked by distance alone", "200", "2"],
-        ["fill of A (draw 2)", "20 March 2025", "1", "3", "ranked by distance alone", "300", "7"]]
-    assert page.tables["classes"][1:] == [["by an EHC plan", "1", "0", ""],
-                                          ["ranked by distance alone", "2", "0", "300"]]
+    assert table("intake", "/intake") == [
+        ["1", "Ada Abel", "accepted", "3 March 2025", alone, "100"],
+        ["3", "Cyd <b>Cole</b>", "offered", "20 March 2025", alone, "300"],
+        ["4", "Dai O'Dare", "by a plan", "", "", ""]]
+    assert table("last") == [
+        ["round 1", "3 March 2025", "2", "2", alone, "200", "2"],
+        ["fill of A (draw 2)", "20 March 2025", "1", "3", alone, "300", "7"]]
+    assert [it for it in table("classes") if it[1:3] != ["0", "0"]] == [
+        ["by an EHC plan", "1", "0", ""], [alone, "2", "0", "300"]]
 
 
 def test_a_table_is_put_in_order_by_links(held: Site) -> None:
-    """By a column, and by the same once more the other way; the other tables stay as they are."""
+    """By a column, and by the same once more the other way; what was filtered stays so."""
     jane = held.browser("jane")
-    path = next(it for it in re.findall('href="([^"]*)"', jane.get("/schools/A").text)
-                if "order=waiting.metres" in it)
+    links = re.findall('href="([^"]*)"', jane.get("/schools/A/waiting?words=d").text)
+    path = html.unescape(next(it for it in links if "order=metres" in it))
     for orders, numbers in (("ascending", ["3", "4"]), ("descending", ["4", "3"])):
         text = jane.get(path).text
-        page = Page(text)
-        assert [it[1] for it in page.tables["waiting"][1:]] == numbers
-        assert [it[0] for it in page.tables["intake"][1:]] == ["1", "2"]
-        path = re.findall(f'aria-sort="{orders}"><a href="([^"]*)"', text)[0]
+        assert [it[1] for it in Page(text).tables["waiting"][1:]] == numbers
+        path = html.unescape(re.findall(f'aria-sort="{orders}"><a href="([^"]*)"', text)[0])
     names = ["Alpha", "Beta"]
     for order, found in (("vacant", names), ("name.down", names[::-1]), ("x", names),
                          ("criteria", names), (".down", names)):
@@ -576,15 +581,16 @@ def test_a_table_is_put_in_order_by_links(held: Site) -> None:
 def test_a_head_sees_the_own_school_alone(held: Site) -> None:
     """With names, without a link to a child or to what changes anything."""
     ann = held.browser("ann", "school-A")
-    assert ann.get("/").location == "/schools/A"
-    page = Page(ann.get("/schools/A").text)
-    assert page.tables["waiting"][1][2] == "Cyd <b>Cole</b>"
-    # (homes are for the office)
-    assert "How the places are filled" in page.text and 'class="home' not in page.text
-    assert "/children/" not in page.text and "raise" not in page.text
-    assert page.buttons() == []
+    text = "".join(ann.get(f"/schools/A{it}").text for it in ("", "/waiting", "/intake"))
+    assert "Cyd &lt;b&gt;Cole" in text and "Ada Abel" in text
+    # (homes, and places at other schools, are for the office)
+    assert "How the places are filled" in text and 'class="home' not in text
+    assert "/children/" not in text and "raise" not in text and "Beta" not in text
+    assert "/schools/A/offer" not in text and "/schools/A/moves" not in text
+    assert set(Page(text).buttons()) == {"Filter"}
     assert ann.get("/schools/A/workbook").status_code == 200
     for path in ("/schools/B", "/schools/B/workbook", "/schools/", "/schools/A/raise",
+                 "/schools/B/waiting", "/schools/B/intake", "/schools/A/moves", "/schools/A/offer",
                  "/schools/ZZ", "/schools/new/", "/flags/"):
         assert ann.get(path).status_code == 403, path
 

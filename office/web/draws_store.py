@@ -81,11 +81,15 @@ class DrawStore(StepStore[Draw]):
         """The number of the copy from before a draw of the register, if it was held here, and was
         audited.
         """
+        return self.copies_of(draw)[0]
+
+    def copies_of(self, draw: model.Draw) -> tuple[int | None, int | None]:
+        """The numbers of the copies from before and after such a draw."""
         row = self.store.row(
-            "SELECT copy_before FROM draw WHERE first<=? AND ?<first+fills AND school IS ?"
-            " AND day=? AND state IN (?, ?) ORDER BY id DESC", draw.number, draw.number,
+            "SELECT copy_before, copy_after FROM draw WHERE first<=? AND ?<first+fills AND school"
+            " IS ? AND day=? AND state IN (?, ?) ORDER BY id DESC", draw.number, draw.number,
             draw.school, draw.day.isoformat(), *HELD)
-        return row["copy_before"] if row else None
+        return (row["copy_before"], row["copy_after"]) if row else (None, None)
 
     def closed(self) -> str:
         """Why nobody else may send now, or ""."""

@@ -16,6 +16,7 @@ from .draws_following import Following
 from .failures import Failures
 from .held_again import HeldAgain
 from .history import History
+from .list_moves import OfCopies
 from .notes import Notes
 from .people import People
 from .restores import Restores
@@ -63,6 +64,7 @@ class Parts:
         sender.called = "the register"
         self.desk = Desk(sender, self.history)
         self.copies = Copies(config.folder / "requests", config.copies, self.store, self.desk)
+        self.positions = OfCopies(self.copies)
         self.draws = Draws(self.store, self.history, self.desk, self.copies)
         self.lots = Drafts(self.draws)
         self.following = Following(self.draws)

@@ -274,13 +274,14 @@ class Home(NamedTuple):
 
 
 class Circle(NamedTuple):
-    """A distance around a school: its metres and words, and whether it is a criterion or the last
-    place.
+    """A distance around a school: its metres and words, whether it is a criterion or the last
+    place, and what it means.
     """
 
     metres: int
     words: str
     kind: str
+    meaning: str
 
 
 # each class of children has a shape besides its colour
@@ -333,3 +334,37 @@ def mark(ground: Ground, home: Home) -> str:
     drawn = (f'<path class="home {home.kind} {home.state}" d="{SHAPES[home.kind]}"'
              f' transform="translate({x:.1f} {y:.1f})"><title>{escape(home.hint)}</title></path>')
     return f'<a href="{escape(home.href)}" tabindex="-1">{drawn}</a>' if home.href else drawn
+
+
+def movement(
+    name: str, title: str, text: str, moments: Sequence[str],
+    tracks: Sequence[Sequence[int | None]],
+) -> Markup:
+    """How far a waiting list moved: a line for some of the first positions, with the position at
+    each moment; 0 is a place, and None is no position any more. For the office alone.
+    """
+    width, high, top, low, left, right = 960.0, 280.0, 18.0, 28.0, 60.0, 90.0
+    most = max(it for track in tracks for it in track if it)
+    step = (width - left - right) / max(len(moments) - 1, 1)
+
+    def at(place: int, position: int) -> tuple[float, float]:
+        return left + place * step, top + high * math.sqrt(position / most)
+
+    parts = [line(left, top, width - right, top, "axis"),
+             label(width - right + 10, top + 5, "place", "strong")]
+    for place, words in enumerate(moments):
+        x, _ = at(place, 0)
+        side = "start" if not place else "end" if place == len(moments) - 1 else "middle"
+        parts += [line(x, top, x, top + high, "grid"),
+                  label(x - (10 if side == "start" else 0), top + high + low - 6, words, "quiet",
+                        side)]
+    for track in tracks:
+        stops = [(*at(place, it), it) for place, it in enumerate(track) if it is not None]
+        points = " ".join(f"{x:.1f},{y:.1f}" for x, y, _ in stops)
+        parts.append(f'<polyline class="track" points="{points}"/>')
+        parts += [f'<circle class="{"stop" if it else "stop offered"}" cx="{x:.1f}" cy="{y:.1f}"'
+                  ' r="4"/>' for x, y, it in stops]
+        parts.append(label(left - 10, stops[0][1] + 5, str(stops[0][2]), "", "end"))
+        if track[-1]:
+            parts.append(label(stops[-1][0] + 10, stops[-1][1] + 5, str(track[-1]), "strong"))
+    return svg(name, width, top + high + low, title, text, parts, "moves")

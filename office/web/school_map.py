@@ -3,7 +3,7 @@ places are filled.
 """
 import dataclasses
 import math
-from collections.abc import Mapping
+from collections.abc import Mapping, Sequence
 from typing import Any
 
 from office import criteria, model, texts
@@ -11,6 +11,7 @@ from office.model import Register, School
 
 from . import pictures
 from .pictures import Circle, Home
+from .wording import draw_in_words
 
 # classes of the pictures: the child is looked after, or meets no criterion
 CARE, FAR = "care", "far"
@@ -64,7 +65,8 @@ def filled(register: Register, code: str, flags: Mapping[int, str]) -> list[Fill
         else:
             by_class.setdefault(it.number, []).append((state, it.metres))
     found = [Filled(PLAN, CARE, plans, 0, None)] if plans else []
-    for number, rows in sorted(by_class.items()):
+    for number in range(len(school.criteria) + 2) if by_class else ():
+        rows = by_class.get(number, [])
         metres = [it for state, it in rows if state == "has"]
         is_private = criteria.is_private(school, number)
         found.append(Filled(
@@ -88,19 +90,24 @@ def homes(register: Register, code: str, address: Mapping[int, str]) -> list[Hom
 def circles(register: Register, code: str) -> list[Circle]:
     """The distances that decide: of the criteria, and of the last place of the last draw."""
     school = register.schools[code]
-    found = [Circle(int(it.partition(":")[2]), f"{int(it.partition(':')[2]):,} metres", "criterion")
-             for it in school.criteria if it.startswith("within:")]
+    found = [Circle(metres, f"{metres:,} metres", "criterion",
+                    f"a criterion of the school: {metres:,} metres")
+             for metres in (int(it.partition(":")[2]) for it in school.criteria
+                            if it.startswith("within:"))]
     draw = next((it for it in reversed(register.draws) if it.school in (None, code)), None)
     last = register.drawn(draw.number).cutoffs.get(code) if draw else None
-    if last and not criteria.is_private(school, last.number):
-        found.append(Circle(last.metres, f"last place: {last.metres:,} metres", "last"))
+    if draw and last and not criteria.is_private(school, last.number):
+        words = f"last place: {last.metres:,} metres"
+        found.append(Circle(last.metres, words, "last",
+                            f"the last place of {draw_in_words(draw)}: {last.metres:,} metres"))
     return found
 
 
-def drawn(register: Register, code: str, address: Mapping[int, str]) -> tuple[Any, str]:
+def drawn(
+    register: Register, code: str, address: Mapping[int, str], rings: Sequence[Circle],
+) -> tuple[Any, str]:
     """The map, and what it says in one sentence."""
     school, found = register.schools[code], homes(register, code, address)
-    rings = circles(register, code)
     has = sum(it.state == "has" for it in found)
     says = (f"{texts.count(has, 'child has', 'children have')} a place, and"
             f" {texts.count(len(found) - has, 'waits', 'wait')}.")

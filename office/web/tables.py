@@ -17,8 +17,8 @@ from . import numbers
 Row = TypeVar("Row")
 UP, DOWN = "ascending", "descending"
 NUMBER = re.compile(r"[0-9]{1,15}(?:\.[0-9]{1,6})?")
-# so many rows are on a page of the screen; on paper all of them are
-PAGE = 500
+# so many rows are on a page of the screen, or fewer beside other things; on paper all of them are
+PAGE, SHORT = 500, 25
 
 
 @dataclasses.dataclass(frozen=True)
@@ -102,10 +102,10 @@ class Paged(Generic[Row]):
     count: int
 
 
-def paged(rows: Sequence[Row], asked: str) -> Paged[Row]:
+def paged(rows: Sequence[Row], asked: str, most: int = PAGE) -> Paged[Row]:
     """A page of a table; all of its rows where that is asked."""
-    count = max(1, math.ceil(len(rows) / PAGE))
+    count = max(1, math.ceil(len(rows) / most))
     if asked == "all":
         return Paged(rows, 0, count)
     number = min(max(numbers.read(asked, 1), 1), count)
-    return Paged(rows[(number - 1) * PAGE:number * PAGE], number, count)
+    return Paged(rows[(number - 1) * most:number * most], number, count)

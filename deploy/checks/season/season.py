@@ -107,12 +107,13 @@ def other_screens(office: Office) -> None:
     for path in ("/schools/", f"/schools/{SCHOOL}", f"/find?q={placed}",
                  f"/children/{placed}", f"/children/{placed}/correct", "/lists/", "/lists/list",
                  "/lists/children", "/lists/vacancies", "/activity/", "/applications/add/",
-                 "/applications/duplicates", "/applications/withdrawn", f"/schools/{SCHOOL}/raise"):
+                 "/applications/duplicates", "/applications/withdrawn", f"/schools/{SCHOOL}/raise",
+                 *(f"/schools/{SCHOOL}/{it}" for it in ("waiting", "moves", "offer"))):
         hal.open(path)
     rita.open("/")
     rita.see("Children without a place")
     abbey = office.people[ABBEY]
-    abbey.open("/")
+    abbey.open(f"/schools/{SCHOOL}/intake")
     intake = {int(row[0]) for row in abbey.rows("#intake")}
     office.report.same(intake, {it for it, code in season.places.items() if code == "A"},
                        "the intake that the head of the school sees")

@@ -72,7 +72,7 @@ def list_page(reason: str = "", status: int = 200, field: str = "") -> Answer:
     draws = parts().draws
     day = register.days[1] if register and not register.draws else datetime.date.today()
     listed = draws.listed()
-    given = flask.request.form or repeated(listed)
+    given = flask.request.form or repeated(listed) or of_school()
     return flask.render_template(
         "draws.html", draws=listed, present=draws.present(), register=register,
         reason=reason or trouble, kind=given.get("kind", "round"), given=given,
@@ -90,6 +90,12 @@ def repeated(draws: Sequence[Draw]) -> dict[str, str]:
     if found is None:
         return {}
     return {"kind": found.kind, "school": found.school or "", "fills": str(found.fills), "day": ""}
+
+
+def of_school() -> dict[str, str]:
+    """The form for fills that somebody begins on the page of a school."""
+    found = {it: flask.request.args.get(it, "") for it in ("kind", "school", "fills")}
+    return found if all(found.values()) else {}
 
 
 def schools_of(register: Register | None) -> list[tuple[str, str]]:

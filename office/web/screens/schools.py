@@ -1,6 +1,8 @@
 """The schools: all of them, one with its lists, and a raise of its admission number."""
+import collections
+import dataclasses
 import datetime
-from collections.abc import Mapping
+from collections.abc import Mapping, Sequence
 from typing import Any
 
 import flask
@@ -10,12 +12,14 @@ from werkzeug.wrappers import Response
 from office import book, fields, risks, rules, texts
 from office.model import Register, School
 
-from .. import flags, guard, home, intake, pictures, school_map, tables
+from .. import flags, guard, home, intake, list_moves, numbers, pictures, school_map, tables
 from ..desk import Seen, seen_of
+from ..draws_terms import MOST_FILLS
 from ..guard import needs, parts, person
-from ..people import LISTS, READ, RECORD
+from ..intake import Choice, Held, Last, Row, Waiting
+from ..people import DRAW, LISTS, READ, RECORD
 from ..tables import Column
-from ..wording import classes, sentence
+from ..wording import KINDS, classes, sentence
 
 screen = flask.Blueprint("schools", __name__, url_prefix="/schools")
 Answer = str | Response | tuple[str, int]
@@ -29,18 +33,29 @@ COLUMNS: dict[str, Column[tuple[School, list[str]]]] = {
     "waiting": Column("Waiting", "number", lambda it: it[0].waiting),
     "criteria": Column("Criteria"),
 }
-INTAKE: dict[str, Column[intake.Held]] = {
+INTAKE: dict[str, Column[Held]] = {
     "child": Column("Number", "number", lambda it: it.child),
     "name": Column("Name", "", lambda it: it.name),
     "place": Column("Place", "", lambda it: it.kind),
     "since": Column("Offered on", "", lambda it: it.since),
 }
-WAITING: dict[str, Column[intake.Waiting]] = {
+WAITING: dict[str, Column[Waiting]] = {
     "position": Column("Position", "number", lambda it: it.position),
     "child": Column("Number", "number", lambda it: it.child),
     "name": Column("Name", "", lambda it: it.name),
-    "class": Column("Class", "", lambda it: it.number),
-    "metres": Column("Metres", "number", lambda it: it.metres),
+    "class": Column("Criterion met", "", lambda it: it.number),
+    "metres": Column("Distance (m)", "number", lambda it: it.metres),
+}
+# what the office sees beside it
+INTAKE_OFFICE: dict[str, Column[Held]] = {
+    **INTAKE,
+    "class": Column("Criterion met", "", lambda it: it.number),
+    "metres": Column("Distance (m)", "number", lambda it: it.metres),
+}
+WAITING_OFFICE: dict[str, Column[Waiting]] = {
+    **WAITING,
+    "now": Column("Place now", "", lambda it: it.now.name if it.now else ""),
+    "applied": Column("Applied", "", lambda it: it.applied),
 }
 WORKBOOK = "application/vnd.openxmlformats-officedocument.spreadsheetml.sheet"
 
@@ -54,7 +69,7 @@ def attachment(data: bytes, name: str) -> Response:
 def title_of(register: Register, what: str) -> str:
     """The heading of the pages of a workbook."""
     return (f"Admission {register.year} {register.phase}, {what}, as of"
-            f" {datetime.date.today().isoformat()}")
+            f" {today().isoformat()}")
 
 
 @screen.get("/")
@@ -75,19 +90,160 @@ def school_of(register: Register, code: str) -> School:
     return register.schools[code]
 
 
+def today() -> datetime.date:
+    """The day of today."""
+    return datetime.date.today()
+
+
+def page(view: str, title: str, register: Register, code: str, **more: Any) -> str:
+    """A page of a school: what is the same on each of them, and what is its own."""
+    school, words = school_of(register, code), flags.present()
+    may_read = person().may(READ)
+    last = intake.last_offered(register, code, words)
+    offers = offered_now(register, school)
+    tabs = [("Overview", "schools.one", ""), ("Waiting list", "schools.waiting", school.waiting),
+            ("Intake", "schools.held", school.taken)]
+    if may_read and register.draws:
+        tabs.append(("How the list moves", "schools.moves", ""))
+    return flask.render_template(
+        f"school_{view}.html", school=school, criteria=classes(school, words), last=last,
+        tabs=[(it, flask.url_for(name, code=code), count) for it, name, count in tabs],
+        tab=title, offers=offers, may_begin=person().may(DRAW),
+        figures=figures(school, last, offers, may_read), **more)
+
+
+def offered_now(register: Register, school: School) -> int:
+    """How many places of a school can be offered from its waiting list now."""
+    found = home.fillable(register, today())
+    return min(school.vacancies, school.waiting, MOST_FILLS) if school in found else 0
+
+
+def figures(
+    school: School, last: list[Last], offers: int, may_read: bool,
+) -> list[tuple[str, str, str, str, str]]:
+    """The numbers that say how a school stands, each with the page that has what is counted."""
+    def address(view: str) -> str:
+        return flask.url_for(f"schools.{view}", code=school.code)
+
+    found = [
+        (f"{school.pan:,}", "Admission number", "", "", ""),
+        (f"{school.taken:,}", "Places held",
+         f"{school.plans:,} of them by EHC plans" if school.plans else "", address("held"), ""),
+        (f"{school.vacancies:,}", "Vacant", f"{offers:,} can be offered now" if offers else "",
+         address("offer") if offers and may_read else "", "warn" if offers else ""),
+        (f"{school.waiting:,}", "Waiting", "", address("waiting"), "")]
+    if last:
+        it = last[-1]
+        metres = "none" if it.metres is None else "withheld" if it.is_private else (
+            f"{it.metres:,} m")
+        said = f"{it.draw}: {it.words}" if it.words else it.draw
+        found.append((metres, "Last offered", said, f"{address('one')}#last-offered", ""))
+    return found
+
+
 @screen.get("/<code>")
 @needs(LISTS)
 def one(code: str) -> Answer:
-    """One school with its lists."""
+    """How one school stands."""
     guard.see_own_school(code)
-    register, words = parts().desk.register(), flags.present()
+    register = parts().desk.register()
+    school_of(register, code)
+    return page("one", "Overview", register, code, **drawn(register, code, flags.present()),
+                said="The admission number is raised." if "raised" in flask.request.args else "")
+
+
+def choice() -> Choice:
+    """Which children of a list the address asks for."""
+    given = (flask.request.args.get(it, "").strip() for it in ("words", "met", "place"))
+    return Choice(*given)
+
+
+def list_page(
+    title: str, register: Register, code: str, rows: Sequence[Row],
+    columns: Mapping[str, Column[Row]], places: Sequence[tuple[str, str]],
+) -> str:
+    """A list of a school: what of it is asked for, in order, one page of it."""
+    found, name = choice(), "waiting" if title == "Waiting list" else "held"
+    met = {str(it.number): it.words for it in sorted(rows, key=lambda it: it.number or 0)
+           if it.number is not None}
+    table = tables.table(columns, found.of(rows))
+    shown = tables.paged(table.rows, flask.request.args.get("page", ""), tables.SHORT)
+    return page(
+        name, title, register, code, table=table, shown=shown, every=len(rows), choice=found,
+        met=[("", "any"), *met.items()], places=[("", "any"), *places],
+        address=tables.pages(f"schools.{name}", code=code, **found.address),
+        whole=flask.url_for(f"schools.{name}", code=code, page="all", **found.address,
+                            order=flask.request.args.get("order")))
+
+
+@screen.get("/<code>/waiting")
+@needs(LISTS)
+def waiting(code: str) -> Answer:
+    """The waiting list of one school."""
+    guard.see_own_school(code)
+    register = parts().desk.register()
+    school_of(register, code)
+    may_read = person().may(READ)
+    return list_page(
+        "Waiting list", register, code, intake.waiting(register, code, flags.present()),
+        WAITING_OFFICE if may_read else WAITING, intake.ELSEWHERE_OR_NOT if may_read else ())
+
+
+@screen.get("/<code>/intake")
+@needs(LISTS)
+def held(code: str) -> Answer:
+    """Who has a place at one school."""
+    guard.see_own_school(code)
+    register = parts().desk.register()
+    school_of(register, code)
+    rows = intake.intake(register, code, flags.present())
+    if not person().may(READ):
+        rows = [dataclasses.replace(it, number=None) for it in rows]
+    return list_page("Intake", register, code, rows,
+                     INTAKE_OFFICE if person().may(READ) else INTAKE,
+                     [(it, it) for it in KINDS.values()])
+
+
+@screen.get("/<code>/moves")
+@needs(READ)
+def moves(code: str) -> Answer:
+    """How the waiting list of one school has moved since each draw."""
+    register = parts().desk.register()
+    school_of(register, code)
+    found, earlier = list_moves.moved(register, parts().draws, parts().positions, code)
+    tracks = list_moves.tracks(found, register, code)
+    says = list_moves.says(found, list_moves.positions(register, code))
+    known = [f"{it.of.day.day} {it.of.day:%B}" for it in found if it.positions is not None]
+    heads = [*map("After {}".format, known), "Now"]
+    picture = pictures.movement(
+        "moves-drawn", f"Waiting list of {register.schools[code].name}", says, [*known, "now"],
+        tracks) if tracks else ""
+    return page("moves", "How the list moves", register, code, moves=found, earlier=earlier,
+                picture=picture, says=says, tracks=tracks,
+                columns=[{"title": it, "kind": "number"} for it in heads])
+
+
+@screen.get("/<code>/offer")
+@needs(READ)
+def offer(code: str) -> Answer:
+    """Who comes next where vacant places are offered from the waiting list: before a head of the
+    office begins the fill.
+    """
+    register = parts().desk.register()
     school = school_of(register, code)
+    most = offered_now(register, school)
+    typed = flask.request.args.get("places", str(most)).strip()
+    places = numbers.read(typed)
+    wrong = "" if not most or 1 <= places <= most else f"from 1 to {most}"
+    rows = intake.waiting(register, code, flags.present()) if most and not wrong else []
+    # (children who share the last position of these are all shown)
+    rows = [it for it in rows if it.position <= rows[places - 1].position]
+    leaves = collections.Counter(it.now.name for it in rows if it.now)
     return flask.render_template(
-        "school.html", school=school, criteria=classes(school, words), register=register,
-        intake=tables.table(INTAKE, intake.intake(register, code), "intake"),
-        waiting=tables.table(WAITING, intake.waiting(register, code, words), "waiting"),
-        last=intake.last_offered(register, code, words), **drawn(register, code, words),
-        said="The admission number is raised." if "raised" in flask.request.args else "")
+        "school_offer.html", school=school, most=most, typed=typed, wrong=wrong, places=places,
+        rows=rows, leaves=leaves, may_begin=person().may(DRAW),
+        last_day=register.days[2], is_over=today() > register.days[2],
+        is_before=not register.draws), 400 if wrong else 200
 
 
 def drawn(register: Register, code: str, words: Mapping[int, str]) -> dict[str, Any]:
@@ -96,18 +252,20 @@ def drawn(register: Register, code: str, words: Mapping[int, str]) -> dict[str, 
     every = sum(it.has for it in rows)
     found = {"filled": [
         (it.words, f"{it.has:,}", home.share(it.has, every), pictures.bar(it.has, every, it.kind))
-        for it in rows if it.has], "by_class": rows, "map": "", "map_says": "", "map_key": []}
+        for it in rows], "by_class": rows, "map": "", "map_says": "", "map_key": []}
     if not person().may(READ) or not rows:
         return found
     address = {child: flask.url_for("child.show", number=child)
                for child in school_map.states(register, code)}
-    picture, says = school_map.drawn(register, code, address)
+    rings = school_map.circles(register, code)
+    picture, says = school_map.drawn(register, code, address, rings)
     key: dict[str, list[str]] = {}
-    for it in rows:
+    for it in (it for it in rows if it.has or it.waits):
         key.setdefault(f"home {it.kind} has", []).append(it.words)
     return {**found, "map": picture, "map_says": says, "map_key": [
         *((kind, "; ".join(words)) for kind, words in key.items()),
-        ("home far waits", "hollow: waits")]}
+        ("home far waits", "hollow: waits"),
+        *((f"line {it.kind}", it.meaning) for it in rings)]}
 
 
 @screen.get("/<code>/workbook")

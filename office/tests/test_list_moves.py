@@ -1,0 +1,63 @@
+"""How the waiting list of a school has moved: what the screen says is what the copies have, as the
+program shows them.
+"""
+import json
+import pathlib
+import subprocess
+
+import pytest
+from applications import Site
+from conftest import PROGRAM
+from draw_site import after_round, begun, brought, machine_over, small_register
+from pages import Page
+
+
+def in_copy(office: Site, number: int) -> dict[int, int]:
+    """The positions at OAK of a copy, as the program shows them."""
+    ran = subprocess.run([PROGRAM, "show", office.parts.copies.path(number)], capture_output=True,
+                         check=True)
+    return {it["child"]: wish["position"] for it in json.loads(ran.stdout)["children"]
+            if it["application"] for wish in it["application"]["preferences"]
+            if wish["school"] == "OAK" and wish["state"] == "waits"}
+
+
+def test_the_movement_of_a_list_is_that_of_the_copies(
+    tmp_path: pathlib.Path, tmp_path_factory: pytest.TempPathFactory,
+    monkeypatch: pytest.MonkeyPatch,
+) -> None:
+    """Five children want the one place of OAK; the nearest has it, and 2 and 3 are equal. Then 2
+    leaves the list, and a fill is held. A copy that is not there is named as that.
+    """
+    register = small_register(tmp_path_factory)
+    with machine_over(tmp_path, register, monkeypatch) as machine, machine.office() as office:
+        rita = office.browser("rita", "reader")
+        assert "No round was held yet" in rita.get("/schools/OAK/moves").text
+        after_round(machine, office)
+        assert in_copy(office, 1) == {}
+        assert in_copy(office, 2) == {2: 1, 3: 1, 4: 3, 5: 4}
+
+        def moved() -> list[list[str]]:
+            return Page(rita.get("/schools/OAK/moves").text).tables["moved"][1:]
+
+        first, none = ["round 1", "3 March 2025", "1", "0", "4"], "no list before it"
+        assert moved() == [[*first, "0", "0", none, "0"]]
+        office.record("jane", {"cmd": "leave_list", "child": 2, "school": "OAK"})
+        assert moved() == [[*first, "0", "1", none, "1 up, each 0 to 1 up"]]
+        text = rita.get("/schools/OAK/moves").text
+        assert ("After round 1, 4 children waited. Since then 0 children have joined the list, and"
+                " 1 has left it." in text)
+        tracks = Page(text).tables["tracks"]
+        assert tracks == [["After 3 March", "Now"], ["1", "does not wait any more"], ["3", "2"],
+                          ["4", "3"]]
+        brought(office, begun(office, "OAK", 1, "2025-03-20"), "opened")
+        assert in_copy(office, 3) == {3: 1, 4: 2, 5: 3} and in_copy(office, 4) == {4: 1, 5: 2}
+        fill = ["fill of OAK (draw 2)", "20 March 2025", "1", "3", "2", "0", "0", "1 up", "0"]
+        assert moved() == [[*first, "0", "2", none, "2 up"], fill]
+        assert "1 place was offered." in rita.get("/schools/OAK/moves").text
+        office.parts.copies.path(2).unlink()
+        unknown = "not known: no copy"
+        assert moved()[0][4:] == ["no copy", "", "", unknown, unknown]
+        assert moved()[1] == fill and "is not kept here" in rita.get("/schools/OAK/moves").text
+        office.parts.copies.path(4).unlink()
+        assert "says who waited then: nothing is known of it." in (
+            rita.get("/schools/OAK/moves").text)
