@@ -24,7 +24,7 @@ from draw_site import (
     sealed, small_register, steps, typed, version, waiting,
 )
 from files import register_of
-from pages import Page
+from pages import Page, tasks
 from register_files import Refused
 from served import do_over
 
@@ -183,10 +183,12 @@ def test_a_round_by_five_hands(machine: Machine, town: Town) -> None:
         assert f"{len(lots)} pairs of 40 children and 4 schools." in page
         page = sup.get("/lots/")
         assert page.status_code == 200 and "Draw 1: a round" not in page.text
-        assert sup.get("/").location == "/lots/"
+        assert tasks(sup.get("/").text)["Not yet"][0][2] == "Soon"
         # (the copy and the pairs follow)
         assert hal.step(1, "close").status_code == 303
-        assert sup.get("/").location == "/lots/1"
+        (title, said, state), = tasks(sup.get("/").text)["Due now"]
+        assert (title, state) == ("Draw the lots of draw 1", "Waits for you")
+        assert said.startswith("A round for Monday, 3 March 2025.")
         assert 'href="/lots/1"' in sup.get("/lots/").text
         first = Fields(sup.get("/lots/1").text)
         fields = [it for it in first.values if it.startswith("lot-")]
@@ -204,7 +206,8 @@ def test_a_round_by_five_hands(machine: Machine, town: Town) -> None:
         assert values["digest"] == hashlib.sha256(text.encode()).hexdigest()
         given = {"seen": values["seen"], "digest": values["digest"]}
         assert sup.post("/lots/1/seal", given).status_code == 303
-        assert sup.get("/").location == "/lots/"
+        found = tasks(sup.get("/").text)
+        assert "Due now" not in found and found["Done"][0][0] == "Seal the lots of draw 1"
         assert sup.get("/lots/1/sealed.txt").text == text
         assert hal.browser.get("/draws/1/sealed.txt").text == text
         # (the rehearsal follows)

@@ -117,8 +117,8 @@ def test_each_role_finds_what_is_its_own(office: Site) -> None:
 def test_the_head_of_a_school_reads_its_own_school_alone(office: Site) -> None:
     """Who has a place there and who waits there, and nothing of another school."""
     alpha = office.browser("school-a", "school-A")
-    page = alpha.get("/").location
-    assert page == "/schools/A"
+    page = "/schools/A"
+    assert 'href="/schools/A/intake"' in alpha.get("/").text
     text = "".join(alpha.get(f"{page}{it}").text for it in ("", "/waiting", "/intake"))
     for name in ("Ben Bell", "Cyd &lt;b&gt;Cole", "Dai O&#39;Dare"):
         assert name in text

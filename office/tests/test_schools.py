@@ -15,7 +15,7 @@ import pytest
 from applications import ORIGIN, ROUND, SCHOOLS, Browser, Site, child, office_over, site, town
 from conftest import make
 from hostile import MAIN, row_of, workbook
-from pages import Page, press
+from pages import Page, press, tasks
 from register_files import Refused
 from served import served
 
@@ -581,6 +581,13 @@ def test_a_table_is_put_in_order_by_links(held: Site) -> None:
 def test_a_head_sees_the_own_school_alone(held: Site) -> None:
     """With names, without a link to a child or to what changes anything."""
     ann = held.browser("ann", "school-A")
+    first = ann.get("/").text
+    assert [it[::2] for it in tasks(first)["When you are ready"]] == [
+        ("Look through your intake", "2 places"),
+        ("Look through your waiting list", "2 children wait")]
+    assert [it[:2] for it in tasks(first)["Done"]] == [
+        ("Round 1", "2 places were offered on 3 March 2025")]
+    assert "/children/" not in first and "Ada Abel" not in first
     text = "".join(ann.get(f"/schools/A{it}").text for it in ("", "/waiting", "/intake"))
     assert "Cyd &lt;b&gt;Cole" in text and "Ada Abel" in text
     # (homes, and places at other schools, are for the office)

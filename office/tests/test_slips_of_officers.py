@@ -252,9 +252,9 @@ def test_a_reload_draws_no_second_password(office: Site) -> None:
 
 
 def test_a_head_of_a_school_is_led_to_the_own_school(office: Site) -> None:
-    """By the office's address; and reads in words what is not theirs."""
+    """By the first screen and the menu; and reads in words what is not theirs."""
     head = office.browser("alpha", "school-A")
-    assert head.get("/").headers["Location"].endswith("/schools/A")
+    assert '<a href="/schools/A">Schools</a>' in head.get("/").text
     refused = head.get("/answers/")
     assert refused.status_code == 403
     assert Page(refused.text).said() == "The role school-A may not do this."

@@ -30,7 +30,8 @@ from checks.season import needs  # noqa: E402
 # who looks at what; draw 1 was begun
 SCREENS = {
     "hal": ("head", (
-        "/", "/schools/", "/schools/A", "/schools/A/raise", "/schools/A/raise?pan=900",
+        "/", "/schools/", "/schools/A", "/schools/A/waiting", "/schools/A/intake?words=a",
+        "/schools/A/moves", "/schools/A/offer", "/schools/A/raise", "/schools/A/raise?pan=900",
         "/schools/A/raise?pan=x", "/schools/new/", "/flags/", "/applications/",
         "/applications/?show=errors", "/applications/?see=1&row=2", "/applications/add/",
         "/applications/duplicates", "/applications/withdrawn", "/applications/commit/",
@@ -42,9 +43,10 @@ SCREENS = {
         "/letters/templates/1", "/letters/addresses/", "/applications/points/",
         "/applications/gazetteer/", "/draws/", "/draws/1", "/lists/", "/people/", "/activity/",
         "/password", "/help", "/nothing")),
-    "sup": ("supervisor", ("/lots/", "/lots/1")),
+    "sup": ("supervisor", ("/", "/lots/", "/lots/1")),
     "rita": ("reader", ("/", "/lists/", "/flags/", "/children/11")),
-    "alpha": ("school-A", ("/", "/schools/A")),
+    "alpha": ("school-A", ("/", "/schools/A", "/schools/A/waiting", "/schools/A/intake")),
+    "ada": ("administrator", ("/",)),
     "": ("", ("/sign-in",)),
 }
 # of what is wrong the console of the browser tells too

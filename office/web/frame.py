@@ -10,7 +10,7 @@ import flask
 from . import guard, wording
 from .draws_terms import LOTS, REHEARSED, Draw
 from .parts import Parts
-from .people import CONFIRM, NOTES, PEOPLE, READ, RECORD, Person
+from .people import CONFIRM, LISTS, NOTES, PEOPLE, READ, RECORD, Person
 from .people import LOTS as OF_LOTS
 
 
@@ -39,7 +39,7 @@ def of_list(name: str, title: str) -> Screen:
 
 # the groups of the menu in their order, with their screens
 GROUPS: dict[str, tuple[Screen, ...]] = {
-    "Home": (Screen("season.show", "Home", READ, ("season",)),),
+    "Home": (Screen("season.show", "Home", guard.SIGNED_IN, ("season",)),),
     "Applications": (
         Screen("applications.show", "Applications", RECORD, (
             "applications", "applications_add")),
@@ -95,8 +95,11 @@ class Menu:
 
 def menu(person: Person) -> Menu:
     """The menu of a person at the page that is asked for."""
-    own = {group: [it for it in screens if person.may(it.right)]
+    own = {group: [it for it in screens if it.right == guard.SIGNED_IN or person.may(it.right)]
            for group, screens in GROUPS.items()}
+    if person.school:
+        own["Schools"] = [Screen("schools.one", "Your school", LISTS, ("schools",),
+                                 (("code", person.school),))]
     groups = [(group, screens[0].href, "") for group, screens in own.items() if screens]
     found = next(here(own), None)
     if found is None:

@@ -289,13 +289,19 @@ def see_own_school(code: str) -> None:
         return
     if found.school != code:
         refused(found)
+    if said := hidden():
+        flask.abort(403, said)
+
+
+def hidden() -> str:
+    """Why the heads of schools see no lists now, or ""."""
     draw = parts().draws.present()
     if draw is not None and draw.state in SENT:
-        flask.abort(403, "the lists are shown again once the draw is audited")
+        return "the lists are shown again once the draw is audited"
     today = datetime.date.today()
     if to_come := [it.day for it in parts().desk.register().draws if it.day > today]:
-        day = days.in_words(max(to_come))
-        flask.abort(403, f"the lists are shown again on {day}, the day of the offers")
+        return f"the lists are shown again on {days.in_words(max(to_come))}, the day of the offers"
+    return ""
 
 
 def headers(response: flask.Response) -> flask.Response:

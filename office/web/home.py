@@ -90,6 +90,11 @@ def tasks(register: Register, today: datetime.date, known: Known) -> list[tuple[
     found = [*of_draw(known), *of_set_up(register, today), *of_round(register, today, known),
              *of_answers(register, today), *of_work(known, register), *of_places(register, today),
              *known.of_head, *of_end(register, today)]
+    return grouped(found)
+
+
+def grouped(found: Sequence[Task]) -> list[tuple[str, list[Task]]]:
+    """Tasks by when they are due."""
     groups = (("Due now", (DUE, WAITING)), ("When you are ready", (READY,)), ("Not yet", (LATER,)))
     made = [(title, [it for it in found if it.kind in kinds]) for title, kinds in groups]
     return [(title, rows) for title, rows in made if rows]
@@ -357,12 +362,14 @@ def answers(register: Register) -> list[tuple[str, int, str]]:
     return [(words[kind], found[kind], kind) for kind in words if found[kind] or kind != "other"]
 
 
-def dates(register: Register, today: datetime.date) -> list[tuple[str, str]]:
-    """The next days of the season."""
+def dates(
+    register: Register, today: datetime.date, has_answers: bool = True,
+) -> list[tuple[str, str]]:
+    """The next days of the season; the last day of answers is for who sees offers."""
     closing, offer, last = register.days
+    answers_by = (it for it in last_days(register) if it >= today) if has_answers else ()
     found = [("Applications close", closing), ("National offer day", offer),
-             ("Answers, the next last day", min((it for it in last_days(register) if it >= today),
-                                                default=None)),
+             ("Answers, the next last day", min(answers_by, default=None)),
              ("Waiting lists end", last)]
     return [(name, f"{weekday(day)}, {when(day, today)}") for name, day in found
             if day and day >= today]

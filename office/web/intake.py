@@ -121,6 +121,13 @@ def offered_on(register: Register, child: int, code: str) -> datetime.date | Non
     return None
 
 
+def offered_in(register: Register, draw: int, code: str) -> int:
+    """How many were offered a place at a school in a draw."""
+    fresh = register.fresh[draw]
+    return sum(school == code and fresh[child]
+               for child, school in register.outcomes[draw].items())
+
+
 def intake(register: Register, code: str, words: Mapping[int, str]) -> list[Held]:
     """Who has a place at a school, by names."""
     found, said = [], in_words(register, code, words)

@@ -15,6 +15,7 @@ from register_files import Refused
 from office import model, texts
 from office.model import Register
 
+from . import intake
 from .copies import Copies, read_copy
 from .draws_store import DrawStore
 from .wording import draw_in_words
@@ -110,15 +111,8 @@ def draws_at(register: Register, store: DrawStore, code: str) -> Iterator[Draws]
         first, before, after = same[0]
         many = f"{texts.count(len(same), 'fill')} of {code}, draws {first.number} to"
         words = f"{many} {same[-1][0].number}" if len(same) > 1 else draw_in_words(first)
-        offers = sum(offered(register, it[0].number, code) for it in same)
+        offers = sum(intake.offered_in(register, it[0].number, code) for it in same)
         yield Draws(words, first.day, offers, before, after)
-
-
-def offered(register: Register, draw: int, code: str) -> int:
-    """How many were offered a place at a school in a draw."""
-    fresh = register.fresh[draw]
-    return sum(school == code and fresh[child]
-               for child, school in register.outcomes[draw].items())
 
 
 def moved(

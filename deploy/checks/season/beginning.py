@@ -98,7 +98,8 @@ def people(office: Office) -> None:
     added(office, office.jane, ANN, ADMINISTRATOR)
     ann = office.arrive(ANN)
     sign_in(ann, office.drawn[ANN])
-    office.report.same(ann.title, "People", "the first screen of the administrator")
+    office.report.same(ann.tab, "Home", "the first screen of the administrator")
+    ann.go("Office", "People")
     roles = ((HAL, OFFICER), (SUP, SUPERVISOR), (RITA, READER), (ABBEY, "school-A"),
              (PROGRAM, READER))
     for name, role in roles:
@@ -112,13 +113,12 @@ def people(office: Office) -> None:
 
 def arrivals(office: Office) -> None:
     """Each signs in and sees what is theirs."""
-    firsts = {HAL: "Home", SUP: "Lots", RITA: "Home", ABBEY: "A Abbey School"}
     menus = {
-        HAL: "Home Applications Children Schools Offers Reports Office", SUP: "Offers", ABBEY: "",
-        RITA: "Home Children Schools Offers Reports Office"}
-    for who, first in firsts.items():
+        HAL: "Home Applications Children Schools Offers Reports Office", SUP: "Home Offers",
+        RITA: "Home Children Schools Offers Reports Office", ABBEY: "Home Schools"}
+    for who, menu in menus.items():
         hands = office.arrive(who)
         sign_in(hands, office.drawn[who])
-        office.report.same(hands.tab, first, f"the first screen of {who}")
-        office.report.same(hands.text("nav"), menus[who], f"the menu of {who}")
+        office.report.same(hands.tab, "Home", f"the first screen of {who}")
+        office.report.same(hands.text("nav"), menu, f"the menu of {who}")
         hands.look(f"The first screen of {who}")

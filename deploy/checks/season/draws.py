@@ -88,7 +88,7 @@ def held_again(office: Office, draw: Draw, lots: Lots) -> None:
     jane.enter()
     office.report.same(jane.title, draw.title, "the heading of the draw that is held again")
     closed(office, draw, len(lots))
-    sup.open("/")
+    at_lots(sup, draw)
     sup.see(f"{len(lots)} lots were sealed in the draw that this one repeats, and stay as they"
             " are.")
     sealed(office, draw, lots)
@@ -163,7 +163,7 @@ def drawn(office: Office, draw: Draw, pairs: Sequence[Pair], lots: Lots) -> None
     """The supervisor draws those that decide, the seed the others, and all are sealed."""
     report, sup = office.report, office.people[SUP]
     tied = [pair for group in office.season.ties(pairs) for pair in group]
-    sup.open("/")
+    at_lots(sup, draw)
     report.same(sup.title.lower(), f"lots of {draw.title}".lower(), "what the supervisor sees")
     sup.see(f"{len(pairs)} pairs of a school and a child. {len(tied)} ")
     if draw.is_workbook:
@@ -175,6 +175,12 @@ def drawn(office: Office, draw: Draw, pairs: Sequence[Pair], lots: Lots) -> None
     sup.enter()
     sup.see(f"{others} lots are drawn by the seed.")
     sealed(office, draw, lots)
+
+
+def at_lots(sup: Hands, draw: Draw) -> None:
+    """The supervisor finds on the first screen whose lots are to be drawn."""
+    sup.open("/")
+    sup.press(f"Draw the lots of {draw.numbers}")
 
 
 def sealed(office: Office, draw: Draw, lots: Lots) -> None:

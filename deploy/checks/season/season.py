@@ -127,8 +127,8 @@ STEPS: tuple[tuple[Callable[[Office], None], int], ...] = (
     # the file on the first screen, the schools in it, and the question
     (beginning.schools, 3),
     (beginning.flags, 1),
-    # the screen: each of six is added by typing
-    (beginning.people, 1),
+    # the screen, for each of two people: each of six is added by typing
+    (beginning.people, 2),
     (beginning.arrivals, 0),
     (ready, 0),
     # the file, on the first screen
@@ -139,8 +139,8 @@ STEPS: tuple[tuple[Callable[[Office], None], int], ...] = (
     # the screen, the pile, the question, and its answer
     (applications.plans, 4),
     # for the head of the office the screen, the close and the draw; for the officer the draw and
-    # the confirmation; for the supervisor the seal, and the sheet and its file
-    (first_round, 8),
+    # the confirmation; for the supervisor the lots, the seal, and the sheet and its file
+    (first_round, 9),
     # the screen, and what is saved
     (letterhead, 2),
     # the screen, the file, and the record
@@ -149,13 +149,13 @@ STEPS: tuple[tuple[Callable[[Office], None], int], ...] = (
     (first_answers, 1),
     # what is due, what is recorded, the record; the letters' file, and their record
     (reminders, 5),
-    (fills, 6),
+    (fills, 7),
     # the same, and the ticks
     (withdrawals, 6),
-    # the wrong draw (6) and two answers with their question (3); the close, the question, and for
-    # the officer the restore and its confirmation (4); the draw again (5 and the seal of all lots);
+    # the wrong draw (7) and two answers with their question (3); the close, the question, and for
+    # the officer the restore and its confirmation (4); the draw again (6 and the seal of all lots);
     # and the answer to its offer (2)
-    (second_round, 20),
+    (second_round, 22),
     # the screen, what is made, and the file
     (ending.figures, 3),
     (ending.question, 4),

@@ -5,16 +5,17 @@ from typing import Any
 
 import flask
 from register_files import Refused
-from werkzeug.wrappers import Response
 
 from office.model import Register
 
-from .. import doubts, frame, home, pictures
-from ..draws_terms import LOTS, Draw
+from .. import doubts, first_screens, frame, guard, home, pictures
+from ..draws_terms import Draw
+from ..first_screens import First
 from ..guard import SIGNED_IN, needs, parts, person
 from ..home import Known, Task
 from ..letters_sender import Sender
-from ..people import DRAW, NOTES, READ, RECORD
+from ..people import DRAW, NOTES, PEOPLE, READ, RECORD, Person
+from ..people import LOTS as OF_LOTS
 from ..schools import COLUMNS
 from ..staging_rows import OPEN, WITHDRAWN
 from ..staging_tools import tools
@@ -22,6 +23,8 @@ from ..wording import sentence, weekday
 from . import answers, letters
 
 screen = flask.Blueprint("season", __name__)
+# so many entries of the history are looked at for what a person did last
+LOOKED_AT = 5000
 PLACES = [{"name": it, "title": it, "kind": "number" if at else "", "href": ""}
           for at, it in enumerate(("School", "Places", "Taken", "Vacant", "Waiting"))]
 
@@ -29,21 +32,6 @@ PLACES = [{"name": it, "title": it, "kind": "number" if at else "", "href": ""}
 def today() -> datetime.date:
     """The day of today."""
     return datetime.date.today()
-
-
-def first_screen() -> str:
-    """The first screen of a person who does not see the season, or ""."""
-    found = person()
-    if found.may(READ):
-        return ""
-    if found.school:
-        return flask.url_for("schools.one", code=found.school)
-    if not found.may("lots"):
-        return flask.url_for("people.show")
-    draw = parts().draws.present()
-    is_waiting = draw is not None and draw.state == LOTS
-    return flask.url_for("lots.one", number=draw.number) if draw and is_waiting else (
-        flask.url_for("lots.show"))
 
 
 def address_of(view: str, values: Mapping[str, str]) -> str:
@@ -131,12 +119,48 @@ def form_of(found: Register) -> str:
     return "files_of_applications.html" if found.schools else "sheet_of_schools.html"
 
 
+def first_page() -> str:
+    """The first screen of the supervisor, of the head of a school, or of an administrator."""
+    who, day, reason = person(), today(), ""
+    register: Register | None = None
+    try:
+        register = None if who.may(PEOPLE) else parts().desk.register()
+    except Refused as error:
+        reason = sentence(str(error))
+    found = first_of(who, register, day)
+    history = parts().history.entries[-LOOKED_AT:]
+    return flask.render_template(
+        "first.html", reason="" if who.may(OF_LOTS) else reason, day=weekday(day), who=who,
+        register=register,
+        figures=[(it.number, it.words, it.note, address_of(it.view, it.values), it.kind)
+                 for it in found.figures],
+        tasks=[(title, [linked(it) for it in rows]) for title, rows in home.grouped(found.tasks)],
+        done=[linked(it) for it in found.done],
+        dates=home.dates(register, day, False) if register else [],
+        work=home.work([it for it in history if it.who == who.name]))
+
+
+def first_of(who: Person, register: Register | None, day: datetime.date) -> First:
+    """What it says."""
+    found = parts()
+    if who.may(OF_LOTS):
+        return first_screens.of_supervisor(
+            found.lots.listed(), found.draws.present(), register, day)
+    if who.may(PEOPLE):
+        return first_screens.of_administrator(
+            found.store.rows("SELECT name, kind, signed_in, is_locked FROM person ORDER BY name"),
+            len(found.people.signed_in()))
+    if register is None or not who.school:
+        return First((), (), ())
+    return first_screens.of_school(register, who.school, sentence(guard.hidden()), day)
+
+
 @screen.get("/")
 @needs(SIGNED_IN)
-def show() -> str | Response:
+def show() -> str:
     """The season; for somebody who may not read it, their own first screen."""
-    if other := first_screen():
-        return flask.redirect(other)
+    if not person().may(READ):
+        return first_page()
     found, reason = None, ""
     try:
         found, reason = doubts.in_words(parts(), parts().desk.now)

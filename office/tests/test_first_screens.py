@@ -1,0 +1,120 @@
+"""The first screens of the supervisor, of the head of a school and of an administrator: what is due
+for them, what comes later, and what was done. That of the supervisor in a draw is in test_draws.
+"""
+import datetime
+import pathlib
+import re
+import types
+from collections.abc import Iterator
+
+import pytest
+from applications import ROUND, Site, office_over, town
+from pages import Page, tasks
+
+from office.web import guard
+from office.web.people import Person
+from office.web.screens import season
+
+HAL = Person("hal", "head")
+
+
+@pytest.fixture(name="office")
+def office_fixture(tmp_path: pathlib.Path) -> Iterator[Site]:
+    """The application over a register before its first round."""
+    with office_over(tmp_path, town()) as found:
+        yield found
+
+
+def on(patch: pytest.MonkeyPatch, day: str) -> None:
+    """Makes a day today."""
+    found = datetime.date.fromisoformat(day)
+
+    class Day(datetime.date):
+        """A calendar of the test."""
+
+        @classmethod
+        def today(cls) -> "Day":
+            """The day of the test."""
+            return cls.fromisoformat(day)
+
+    patch.setattr(season, "today", lambda: found)
+    patch.setattr(guard, "datetime", types.SimpleNamespace(date=Day))
+
+
+def numbers(text: str) -> dict[str, str]:
+    """The numbers of a first screen by their words."""
+    found = re.findall(r"<dt>(.*?)</dt><dd class=\"number\">([^<]*)", text)
+    return {re.sub("<[^>]*>", "", words): number for words, number in found}
+
+
+def test_the_supervisor_sees_what_is_to_come(
+    office: Site, monkeypatch: pytest.MonkeyPatch,
+) -> None:
+    """Before a draw is begun: by the days of the season, and no child."""
+    sue = office.browser("sue", "supervisor")
+    lots = "Draw the lots of the first round"
+    for day, state in (("2024-10-31", "From 1 November 2024"), ("2024-11-01", "Not begun")):
+        on(monkeypatch, day)
+        (title, said, found), = tasks(sue.get("/").text)["Not yet"]
+        assert (title, found) == (lots, state) and "Monday, 3 March 2025" in said
+    assert office.parts.desk.send(HAL, ROUND, draw=True).is_done
+    on(monkeypatch, "2025-03-20")
+    text = sue.get("/").text
+    assert [it[0] for it in tasks(text)["Not yet"]] == ["Draw the lots of the next round or fill"]
+    assert "Ada" not in text and "Alpha" not in text and 'href="/lots/"' in text
+    on(monkeypatch, "2026-01-01")
+    assert "Nothing is to be done now." in sue.get("/").text
+
+
+def test_the_head_of_a_school_sees_no_number_before_its_day(
+    office: Site, monkeypatch: pytest.MonkeyPatch,
+) -> None:
+    """Only the admission number, which is published, from when a round is held until its day."""
+    ann = office.browser("ann", "school-A")
+    on(monkeypatch, "2025-02-20")
+    text = ann.get("/").text
+    assert numbers(text) == {"Admission number": "2", "Places held": "0", "Vacant": "2",
+                             "Waiting": "0"}
+    assert tasks(text) == {"Not yet": [(
+        "See who is offered a place", "The offer day of the first round is Monday, 3 March 2025.",
+        "From 3 March 2025")]}
+    assert office.parts.desk.send(HAL, ROUND, draw=True).is_done
+    text = ann.get("/").text
+    assert numbers(text) == {"Admission number": "2"}
+    (title, said, state), = tasks(text)["Not yet"]
+    assert (title, state) == ("See who has a place and who waits", "Not shown now")
+    assert said == "The lists are shown again on 3 March 2025, the day of the offers."
+    on(monkeypatch, "2025-03-03")
+    assert numbers(ann.get("/").text) == {"Admission number": "2", "Places held": "2",
+                                          "Vacant": "0", "Waiting": "2"}
+    # (a school that is not in the register yet)
+    text = office.browser("zoe", "school-ZZ").get("/").text
+    assert "The register has no school ZZ yet." in text and numbers(text) == {}
+
+
+def test_an_administrator_sees_who_cannot_sign_in(office: Site) -> None:
+    """And nothing of the register."""
+    ada = office.browser("ada", "administrator")
+    text = ada.get("/").text
+    assert numbers(text) == {"People": "1", "Programs": "0", "Signed in now": "1",
+                             "Not signed in yet": "0", "Locked": "0"}
+    office.parts.people.add("newcomer", "officer")
+    office.parts.people.add("gone", "reader")
+    office.parts.people.lock("gone", True)
+    office.program("portal")
+    text = ada.get("/").text
+    assert numbers(text) == {"People": "3", "Programs": "1", "Signed in now": "1",
+                             "Not signed in yet": "1", "Locked": "1"}
+    assert [it[1] for it in tasks(text)["When you are ready"]] == [
+        "Not signed in yet: newcomer.", "Locked: gone."]
+    assert {it for it in Page(text).stops if it.startswith("/people")} == {"/people/"}
+    assert "Ada Abel" not in text and "Alpha" not in text and "/find" not in text
+
+
+def test_a_first_screen_has_what_its_person_did(office: Site) -> None:
+    """And nobody else."""
+    ada, ben = (office.browser(it, "administrator") for it in ("ada", "ben"))
+    ada.get("/people/")
+    ada.post("/people/", {"what": "add", "name": "newcomer", "role": "officer"})
+    assert '<p class="what">Added</p>' in ada.get("/").text
+    assert '<p class="what">Added</p>' not in ben.get("/").text
