@@ -102,8 +102,9 @@ class Paged(Generic[Row]):
     count: int
 
 
-def paged(rows: Sequence[Row], asked: str, most: int = PAGE) -> Paged[Row]:
-    """A page of a table; all of its rows where that is asked."""
+def paged(rows: Sequence[Row], asked: str, most: int = 0) -> Paged[Row]:
+    """A page of a table, of so many rows; all of its rows where that is asked."""
+    most = most or PAGE
     count = max(1, math.ceil(len(rows) / most))
     if asked == "all":
         return Paged(rows, 0, count)

@@ -1,22 +1,27 @@
 """One search for children and schools, from the head of every screen."""
+import collections
 import dataclasses
 import datetime
-from collections.abc import Sequence
+from collections.abc import Mapping, Sequence
 
 import flask
 from werkzeug.wrappers import Response
 
-from office import register_lists
+from office import register_lists, texts
 from office.model import Child, Register, School
 
 from .. import tables
 from ..guard import needs, parts
+from ..letters_addresses import Addresses
 from ..people import READ
 from ..tables import Column
+from ..wording import KINDS
 
 screen = flask.Blueprint("find", __name__)
-# so many are suggested while one types
-MOST_NEAR = 8
+# so many are suggested while one types, and on a page of what was found
+MOST_NEAR, MOST_SHOWN = 8, 50
+# what is a column only where somebody has it
+MAY_LACK = ("present", "address")
 
 
 @dataclasses.dataclass(frozen=True)
@@ -26,11 +31,19 @@ class Found:
     children: Sequence[Child] = ()
     schools: Sequence[School] = ()
 
-    def addresses(self) -> list[tuple[str, str]]:
-        """Each in words, with the address of its screen."""
+    def addresses(self, register: Register) -> list[tuple[str, str]]:
+        """Each in words, with the address of its screen: children of one name with their first
+        preferences.
+        """
+        names = collections.Counter(texts.folded(it.name) for it in self.children)
+
+        def words(it: Child) -> str:
+            first = first_of(register, it) if names[texts.folded(it.name)] > 1 else ""
+            more = f", first preference {first}" if first else ""
+            return f"{it.name}, child {it.number}{more}"
+
         return [
-            *((f"{it.name}, child {it.number}", flask.url_for("child.show", number=it.number))
-              for it in self.children),
+            *((words(it), flask.url_for("child.show", number=it.number)) for it in self.children),
             *((f"{it.name}, school {it.code}", flask.url_for("schools.one", code=it.code))
               for it in self.schools)]
 
@@ -50,28 +63,53 @@ def found(register: Register, text: str) -> Found:
 
 @dataclasses.dataclass(frozen=True)
 class Row:
-    """A child of the list: when it applied, and its place."""
+    """A child of the list, with what a caller can be asked: its present school, its first
+    preference, its place and the address that letters go to, as far as each is known; and whether
+    another child of the list has the same name.
+    """
 
     number: int
     name: str
-    applied: datetime.date | None
+    present: str
+    first: str
     school: str
     kind: str
+    address: str
+    applied: datetime.date | None
+    is_namesake: bool
 
 
-def row_of(register: Register, it: Child) -> Row:
-    """The row of a child."""
-    application, place = register.applications.get(it.number), register.places.get(it.number)
-    return Row(it.number, it.name, application.day if application else None,
-               place.school if place else "", place.kind if place else "")
+def rows_of(
+    register: Register, found: Sequence[Child], addresses: Mapping[int, Sequence[str]], text: str,
+) -> list[Row]:
+    """The rows of children: first those whose whole name is the text."""
+    names = collections.Counter(texts.folded(it.name) for it in found)
+    rows = []
+    for it in found:
+        application, place = register.applications.get(it.number), register.places.get(it.number)
+        rows.append(Row(
+            it.number, it.name, it.present, first_of(register, it),
+            register.schools[place.school].name if place else "",
+            KINDS[place.kind] if place else "", ", ".join(addresses.get(it.number, ())),
+            application.day if application else None, names[texts.folded(it.name)] > 1))
+    whole = texts.folded(text)
+    return sorted(rows, key=lambda it: texts.folded(it.name) != whole)
+
+
+def first_of(register: Register, it: Child) -> str:
+    """The first preference of a child, or ""."""
+    application = register.applications.get(it.number)
+    return register.schools[application.preferences[0]].name if application else ""
 
 
 COLUMNS: dict[str, Column[Row]] = {
     "number": Column("Number", "number", lambda it: it.number),
     "name": Column("Name", "", lambda it: it.name),
+    "present": Column("Present school", "", lambda it: it.present),
+    "first": Column("First preference", "", lambda it: it.first),
+    "place": Column("Place now", "", lambda it: it.school),
+    "address": Column("Address", "", lambda it: it.address),
     "applied": Column("Applied", "", lambda it: it.applied),
-    "school": Column("School", "", lambda it: it.school),
-    "place": Column("Place", "", lambda it: it.kind),
 }
 
 
@@ -85,16 +123,21 @@ def asked() -> str:
 def show() -> str | Response:
     """What a text finds: the one, or a list."""
     if not (text := asked()):
-        return flask.render_template("find.html", text="", children=[], schools=[])
+        return flask.render_template("find.html", text="", schools=())
     register = parts().desk.register()
     made = found(register, text)
-    addresses = made.addresses()
-    if len(addresses) == 1:
-        return flask.redirect(addresses[0][1])
-    children = tables.table(COLUMNS, [row_of(register, it) for it in made.children])
+    if len(made.children) + len(made.schools) == 1:
+        return flask.redirect(made.addresses(register)[0][1])
+    addresses = Addresses(parts().store, parts().history).all()
+    rows = rows_of(register, made.children, addresses, text)
+    # (what nobody of them has is no column)
+    columns = {name: it for name, it in COLUMNS.items()
+               if name not in MAY_LACK or any(getattr(row, name) for row in rows)}
+    table = tables.table(columns, rows)
     return flask.render_template(
-        "find.html", text=text, children=children.rows, columns=children.columns,
-        sort=children.sort, schools=made.schools)
+        "find.html", text=text, children=table, has=columns, schools=made.schools,
+        shown=tables.paged(table.rows, flask.request.args.get("page", ""), MOST_SHOWN),
+        namesakes=sum(it.is_namesake for it in rows), address=tables.pages("find.show", q=text))
 
 
 @screen.get("/find/near")
@@ -102,5 +145,7 @@ def show() -> str | Response:
 def near() -> Response:
     """What a text finds, for suggestions while one types: of each its words and its address."""
     text = asked()
-    made = found(parts().desk.register(), text) if text else Found()
-    return flask.jsonify(made.addresses()[:MOST_NEAR])
+    register = parts().desk.register()
+    made = found(register, text) if text else Found()
+    near_first = Found(made.children[:MOST_NEAR], made.schools[:MOST_NEAR])
+    return flask.jsonify(near_first.addresses(register)[:MOST_NEAR])

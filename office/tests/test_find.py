@@ -1,0 +1,69 @@
+"""What the search of the head finds where several children have one name: by what a caller can be
+asked, so that the right one is opened.
+"""
+import pathlib
+import re
+from collections.abc import Iterator
+
+import pytest
+from applications import Site, office_over
+from conftest import apply, child, school
+from pages import Page
+
+from office.web.letters_addresses import Addresses
+from office.web.people import Person
+
+HAL = Person("hal", "head")
+ZOE = "Zoë Abel"
+
+
+@pytest.fixture(name="office")
+def office_fixture(tmp_path: pathlib.Path) -> Iterator[Site]:
+    """The application after a round: three children have one name, and one has it in a longer one.
+    """
+    commands = [school("OAK", 1), school("ELM", 1, 9000)]
+    for at, name, wishes in ((1, "Zoë Abel-Moor", ["OAK"]), (2, ZOE, ["OAK", "ELM"]),
+                             (3, "Zoe ABEL", ["ELM"]), (4, ZOE, []), (5, "Bo Reed", ["OAK"])):
+        made = child(at, 100 * at)
+        made["name"] = name
+        commands += [made, *([apply(at, wishes)] if wishes else [])]
+    held = {"cmd": "round", "draw": 1, "day": "2025-03-03", "lots": [1, 2, 3, 4, 5]}
+    with office_over(tmp_path, [*commands, held]) as found:
+        yield found
+
+
+def test_namesakes_are_told_apart(office: Site) -> None:
+    """By the first preference, the place, and the address where the office has one; first those
+    whose whole name was typed. One who is alone is opened.
+    """
+    rita = office.browser("rita", "reader")
+    found = rita.get("/find?q=zoe+abel").text
+    page = Page(found)
+    assert page.tables["found"] == [
+        ["Number", "Name", "First preference", "Place now", "Applied"],
+        ["2", "Zoë Abel same name", "OAK School", "ELM School offered", "1 October 2024"],
+        ["3", "Zoe ABEL same name", "ELM School", "none", "1 October 2024"],
+        ["4", "Zoë Abel same name", "", "none", ""],
+        ["1", "Zoë Abel-Moor", "OAK School", "OAK School offered", "1 October 2024"]]
+    text = " ".join(re.sub("<[^>]*>", "", found).split())
+    assert "3 children have the same name as another one here." in text
+    assert "ask the caller for the first preference." in text
+    assert rita.get("/find?q=reed").location == "/children/5"
+    assert rita.get("/find?q=3").location == "/children/3"
+    addresses = Addresses(office.parts.store, office.parts.history)
+    assert addresses.save(HAL, {3: ["1 <High> Street", "AS1 1AA"]}, False, addresses.digest())
+    page = Page(rita.get("/find?q=zoe+abel").text)
+    assert [it[4] for it in page.tables["found"]] == [
+        "Address", "", "1 <High> Street, AS1 1AA", "", ""]
+    assert "first preference or the address." in page.text and "<High>" not in page.text
+    # (by a link of the head in another order)
+    page = Page(rita.get("/find?q=zoe+abel&order=first").text)
+    assert [it[0] for it in page.tables["found"][1:]] == ["3", "2", "1", "4"]
+
+
+def test_suggestions_name_the_first_preference_of_namesakes(office: Site) -> None:
+    """And of nobody else."""
+    rita = office.browser("rita", "reader")
+    assert [it[0] for it in rita.get("/find/near?q=abel").json] == [
+        "Zoë Abel-Moor, child 1", "Zoë Abel, child 2, first preference OAK School",
+        "Zoe ABEL, child 3, first preference ELM School", "Zoë Abel, child 4"]
