@@ -41,10 +41,10 @@ def test_namesakes_are_told_apart(office: Site) -> None:
     page = Page(found)
     assert page.tables["found"] == [
         ["Number", "Name", "First preference", "Place now", "Applied"],
-        ["2", "Zoë Abel same name", "OAK School", "ELM School offered", "1 October 2024"],
-        ["3", "Zoe ABEL same name", "ELM School", "none", "1 October 2024"],
+        ["2", "Zoë Abel same name", "OAK School", "none", "20 October 2024"],
+        ["3", "Zoe ABEL same name", "ELM School", "ELM School offered", "20 October 2024"],
         ["4", "Zoë Abel same name", "", "none", ""],
-        ["1", "Zoë Abel-Moor", "OAK School", "OAK School offered", "1 October 2024"]]
+        ["1", "Zoë Abel-Moor", "OAK School", "OAK School offered", "20 October 2024"]]
     text = " ".join(re.sub("<[^>]*>", "", found).split())
     assert "3 children have the same name as another one here." in text
     assert "ask the caller for the first preference." in text

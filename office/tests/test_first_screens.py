@@ -118,3 +118,43 @@ def test_a_first_screen_has_what_its_person_did(office: Site) -> None:
     ada.post("/people/", {"what": "add", "name": "newcomer", "role": "officer"})
     assert '<p class="what">Added</p>' in ada.get("/").text
     assert '<p class="what">Added</p>' not in ben.get("/").text
+
+
+def test_a_copy_that_is_too_old_is_named_on_each_screen(
+    office: Site, monkeypatch: pytest.MonkeyPatch,
+) -> None:
+    """By one judgement: below each screen of the office, and to the head as what is due. After more
+    than seven days in which something was recorded; never where nothing was.
+    """
+    hal, rita = office.browser("hal", "head"), office.browser("rita", "reader")
+    store = office.parts.store
+
+    def made(days: int) -> None:
+        at = datetime.datetime.now(datetime.timezone.utc) - datetime.timedelta(days, hours=1)
+        with store.writing() as db:
+            db.execute("DELETE FROM copy")
+            db.execute("INSERT INTO copy (number, purpose, asked, who, position, name, size) VALUES"
+                       " (1, 'x', ?, 'hal', ?, 'office-000001-2025-01-01T000000.db', 1)",
+                       (at.isoformat(timespec="milliseconds"), len(office.parts.history.entries)))
+
+    def said() -> tuple[bool, list[str]]:
+        foot = rita.get("/schools/").text.partition("<footer>")[2]
+        due = [it[1] for it in tasks(hal.get("/").text).get("Due now", ())
+               if it[0] == "Make a copy of the register"]
+        return "A head of the office makes one on Copies." in foot, due
+
+    made(30)
+    assert said() == (False, [])
+    office.record("jane", {"cmd": "raise_pan", "school": "A", "pan": 3})
+    is_said, (due,) = said()
+    assert is_said and due.endswith("It is 30 days old, and 1 change was recorded since.")
+    made(8)
+    assert said() == (False, []), "nothing since"
+    with store.writing() as db:
+        db.execute("UPDATE copy SET position=0")
+    assert said()[0] and "It is 8 days old" in rita.get("/").text
+    with store.writing() as db:
+        db.execute("UPDATE copy SET asked=?", (datetime.datetime.now(
+            datetime.timezone.utc).isoformat(timespec="milliseconds"),))
+    assert said() == (False, [])
+    assert "of the office makes" not in office.browser("sue", "supervisor").get("/").text

@@ -137,7 +137,8 @@ def test_what_waits_for_the_head_is_at_one_place(
     office.parts.people.lock("gone", True)
     page = office.browser("head", "head").get("/").text
     said = page[page.index('class="tasks"'):]
-    assert "Somebody waits for a vacant place at A." in said and 'href="/draws/"' in said
+    assert "Somebody waits for a vacant place at A." in said
+    assert 'href="/schools/A/offer"' in said
     assert "Not signed in yet: newcomer." in said and "Locked: gone." in said
     other = office.browser("officer", "officer").get("/").text
     assert "Not signed in yet" not in other and "Locked: " not in other

@@ -106,12 +106,12 @@ def names(table: Table) -> list[str]:
 def test_a_list_is_whole_where_nothing_is_chosen(browser: Browser) -> None:
     """With each cell, days in words."""
     found = listed(browser, "children")
-    assert found.heads == ["Child", "Name", "Applied", "School", "Place"]
+    assert found.heads == ["Child", "Name", "Applied", "School", "Place", "Met"]
     assert found.rows == [
-        ["1", ADA, "31 October 2024", "A", "offered"],
-        ["2", BEN, "31 October 2024", "A", "offered"],
-        ["3", CYD, "31 October 2024", "B", "offered"],
-        ["4", DAI, "31 October 2024", "", ""], ["5", SUM, "", "", ""]]
+        ["1", ADA, "31 October 2024", "A", "offered", "first preference"],
+        ["2", BEN, "31 October 2024", "A", "offered", "first preference"],
+        ["3", CYD, "31 October 2024", "B", "offered", "second preference"],
+        ["4", DAI, "31 October 2024", "", "", ""], ["5", SUM, "", "", "", ""]]
 
 
 @pytest.mark.parametrize("words, found", [
@@ -134,6 +134,11 @@ def test_rows_are_found_by_school_and_state(browser: Browser) -> None:
     assert names(listed(browser, "children", at="A", state="offered")) == [ADA, BEN]
     assert names(listed(browser, "children", at="A", state="none")) == []
     assert names(listed(browser, "children", state="none")) == [DAI, SUM]
+    assert names(listed(browser, "children", state="second preference")) == [CYD]
+    # (and by a column in which they have something)
+    assert names(listed(browser, "children", filled="applied")) == [ADA, BEN, CYD, DAI]
+    assert names(listed(browser, "children", filled="applied", state="none")) == [DAI]
+    assert listed(browser, "children", 400, filled="x").errors == ["a column of the list"]
     assert names(listed(browser, "unplaced")) == [DAI, SUM]
     assert names(listed(browser, "unplaced", at="B")) == [DAI]
     assert names(listed(browser, "round-report", round="1", state="none")) == [DAI]
@@ -303,7 +308,8 @@ def test_a_view_needs_a_name_that_can_be_read(browser: Browser, title: str) -> N
     """What was chosen and typed is on the page."""
     found = browser.post("/lists/children/save", {"title": title, "query": "at=B"})
     assert found.status_code == 422 and "A name has 1 to 80 characters" in found.text
-    assert Table(found.text).rows == [["3", CYD, "31 October 2024", "B", "offered"]]
+    assert Table(found.text).rows == [
+        ["3", CYD, "31 October 2024", "B", "offered", "second preference"]]
     assert "Saved views" not in browser.get("/lists/").text
 
 

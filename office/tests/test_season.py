@@ -318,7 +318,8 @@ def test_each_page_marks_its_group_and_leads_back(office: Site) -> None:
     for path, marked, back in (
             ("/", [("/", "page")], ""),
             ("/schools/", [("/schools/", "true"), ("/schools/", "page")], ""),
-            ("/schools/A", [("/schools/", "true"), ("/schools/", "true")], "/schools/"),
+            ("/schools/A", [("/schools/", "true"), ("/schools/", "true"),
+                            ("/schools/A", "page")], "/schools/"),
             ("/lists/unplaced", [("/find", "true"), ("/lists/unplaced", "page")], ""),
             ("/lists/draws", [("/lists/", "true"), ("/lists/", "true")], "/lists/"),
             ("/children/1/accept", [("/find", "true"), ("/find", "true")], "/children/1"),

@@ -3,6 +3,7 @@ that holds a number and nothing else, and answers by a file beside it.
 """
 import contextlib
 import dataclasses
+import datetime
 import json
 import os
 import pathlib
@@ -16,12 +17,12 @@ from typing import Any
 
 from register_files import Refused
 
-from office import model
+from office import model, texts
 from office.model import Register
 
 from . import plain
 from .desk import Desk
-from .history import RESTORED, now
+from .history import RESTORED, SENDS, now
 from .store import Store
 
 # what is asked for; the answer has the same name with DONE
@@ -31,6 +32,8 @@ NAME = re.compile(r"office-([0-9]{6,9})-[0-9]{4}-[0-9]{2}-[0-9]{2}T[0-9]{6}\.db"
 # answers again
 BEGIN_SECONDS, END_SECONDS, BACK_SECONDS, PAUSE = 60.0, 960.0, 30.0, 0.05
 MOST_BYTES = 4096
+# a copy is older than it should be after more days than these in which something was recorded
+COPY_DAYS = 7
 # how errors name a copy, whose path says nothing to an officer
 COPY_NAME = "the copy"
 # the errors of the machine that have words of their own; for others it has given them
@@ -56,6 +59,23 @@ class Copy:
     is_there: bool
     tested: str
     test: dict[str, Any]
+
+
+@dataclasses.dataclass(frozen=True)
+class Behind:
+    """What the last copy lacks: when it was asked for (UTC), or "" where there is none; how many
+    days are since then, or since the first request; and how many requests were sent.
+    """
+
+    at: str
+    days: int
+    sent: int
+
+    @property
+    def in_words(self) -> str:
+        """The same in words."""
+        age = f"It is {texts.count(self.days, 'day')} old" if self.at else "No copy was made yet"
+        return f"{age}, and {texts.count(self.sent, 'change was', 'changes were')} recorded since."
 
 
 def is_same(one: Register, other: Register) -> bool:
@@ -182,6 +202,20 @@ class Copies:
                              " ORDER BY number DESC LIMIT 1")
         return str(row["asked"]) if row else ""
 
+    def behind(self) -> Behind | None:
+        """What the last copy lacks, where it is older than it should be: by more than so many days
+        in which something was recorded.
+        """
+        row = self.store.row("SELECT number, asked FROM copy WHERE name IS NOT NULL"
+                             " ORDER BY number DESC LIMIT 1")
+        at, entries = str(row["asked"]) if row else "", self.desk.history.entries
+        if at and days_since(at) <= COPY_DAYS:
+            return None
+        sent = [it.at for it in entries[self.position(row["number"]) if row else 0:]
+                if it.what == SENDS]
+        days = days_since(at or sent[0]) if sent else 0
+        return Behind(at, days, len(sent)) if days > COPY_DAYS else None
+
     def get(self, number: int) -> Copy:
         """A copy by its number, also where its file is gone."""
         found = next((it for it in self.listed() if it.number == number), None)
@@ -275,6 +309,11 @@ class Copies:
             file.flush()
             os.fsync(file.fileno())
         os.rename(new, path)
+
+
+def days_since(at: str) -> int:
+    """How many days are since a moment of the history."""
+    return (datetime.datetime.now(datetime.timezone.utc) - datetime.datetime.fromisoformat(at)).days
 
 
 def is_answer(found: dict[str, Any], number: int) -> bool:

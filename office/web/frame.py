@@ -162,9 +162,11 @@ def now(parts: Parts) -> Now | None:
 
 
 def foot(parts: Parts) -> str:
-    """The last copy, and who is signed in."""
+    """The last copy, with what it lacks if it is older than it should be; and who is signed in."""
     signed_in, copy = ", ".join(parts.people.signed_in()), parts.copies.last()
     made = f"Last copy: {wording.moment(copy)}. " if copy else ""
+    if behind := parts.copies.behind():
+        made += f"{behind.in_words} A head of the office makes one on Copies. "
     return f"{made}Signed in: {signed_in}"
 
 

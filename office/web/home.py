@@ -10,7 +10,8 @@ from typing import Any
 from office import days, model, register_lists, texts
 from office.model import Register, School
 
-from . import pictures
+from . import pictures, worklists
+from .copies import Behind
 from .draws_terms import Draw
 from .history import ANSWER, SENDS, SETTLED, Entry
 from .kinds import KINDS
@@ -189,8 +190,10 @@ def of_places(register: Register, today: datetime.date) -> Iterator[Task]:
         many = sum(min(it.vacancies, it.waiting) for it in found)
         at = texts.listed([it.code for it in found]) if len(found) <= 4 else (
             texts.count(len(found), "school"))
+        view, values = ("schools.offer", {"code": found[0].code}) if len(found) == 1 else (
+            "schools.show", {"order": "vacant.down"})
         yield Task(f"Offer {texts.count(many, 'place')} from waiting lists",
-                   f"Somebody waits for a vacant place at {at}.", "Ready", READY, "draws.show")
+                   f"Somebody waits for a vacant place at {at}.", "Ready", READY, view, values)
 
 
 def of_end(register: Register, today: datetime.date) -> Iterator[Task]:
@@ -242,6 +245,14 @@ def of_people(rows: Sequence[sqlite3.Row]) -> Iterator[Task]:
     if locked:
         yield Task("Look at locked accounts", f"Locked: {texts.listed(locked)}.",
                    texts.count(len(locked), "person", "people"), READY, "people.show")
+
+
+def of_copies(behind: Behind | None) -> Iterator[Task]:
+    """A copy that is older than it should be."""
+    if behind:
+        last = f"The last copy is of {moment(behind.at)}. " if behind.at else ""
+        yield Task("Make a copy of the register", f"{last}{behind.in_words}", "Overdue", WAITING,
+                   "copies.show")
 
 
 # entries that are no work, and how many are looked at and shown
@@ -305,23 +316,24 @@ def figures(register: Register) -> list[Figure]:
     schools = register.schools.values()
     plans = sum(it.kind == model.PLAN for it in register.places.values())
     found = [Figure(f"{len(register.applications):,}", "Applications", f"{late:,} late",
-                    "lists.one", {"name": "children"})]
+                    "lists.one", {"name": "children", "filled": "applied"})]
     without = len(register.children) - len(register.places)
     if not register.draws:
         places = sum(it.pan for it in schools)
         return [*found,
                 Figure(f"{len(register.schools):,}", "Schools", "", "schools.show"),
                 Figure(f"{places:,}", "Places", "", "lists.one", {"name": "vacancies"}),
-                Figure(f"{plans:,}", "Places by EHC plans", "", "lists.one", {"name": "children"}),
+                Figure(f"{plans:,}", "Places by EHC plans", "", "lists.one",
+                       {"name": "children", "state": model.PLAN}),
                 Figure(f"{without:,}", "Children without a place", "before the first round",
                        "lists.one", {"name": "unplaced"})]
     met, offers = preferences_met(register), len(register_lists.offers(register))
     some, every = sum(met[:4]), sum(met)
     waiting = sum(min(it.vacancies, it.waiting) for it in schools)
     return [*found,
-            Figure(share(met[0], every) or "none", "Have their first preference",
-                   f"{share(some, every)} have one of theirs" if every else "", "lists.one",
-                   {"name": "preferences"}),
+            Figure(f"{met[0]:,}", "Have their first preference",
+                   f"{share(met[0], every)}; {share(some, every)} have one of theirs"
+                   if every else "", "lists.one", {"name": "children", "state": worklists.MET[0]}),
             Figure(f"{offers:,}", "Offers not answered", "", "lists.one", {"name": "no-answer"},
                    "bad" if offers else ""),
             Figure(f"{sum(it.vacancies for it in schools):,}", "Vacant places",
@@ -335,14 +347,9 @@ def preferences_met(register: Register) -> list[int]:
     """How many children have their first, second, third or a lower preference today, and how many
     none, of those that have applied and have no place by a plan.
     """
-    found = [0] * len(RANKS)
-    for child, it in register.applications.items():
-        place = register.places.get(child)
-        if place is None or place.school not in it.preferences:
-            found[4] += place is None
-        elif place.kind != model.PLAN:
-            found[min(it.preferences.index(place.school), 3)] += 1
-    return found
+    found = collections.Counter(worklists.met(register, it) for it in register.applications)
+    none = sum(it not in register.places for it in register.applications)
+    return [*(found[it] for it in worklists.MET), none]
 
 
 def answers(register: Register) -> list[tuple[str, int, str]]:

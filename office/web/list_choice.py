@@ -14,7 +14,7 @@ from office.register_lists import Cell, Rows
 from . import tables, worklists
 
 # the columns that say in which state something is, and those that name schools one after another
-STATES, SEVERAL = ("place", "came", "held", "kind"), ("preferences", "waiting")
+STATES, SEVERAL = ("place", "met", "came", "held", "kind"), ("preferences", "waiting")
 NONE = "none"
 NO_COLUMN, NO_SCHOOL, NO_STATE = "a column of the list", "one of the list", "one of the list"
 
@@ -22,12 +22,14 @@ NO_COLUMN, NO_SCHOOL, NO_STATE = "a column of the list", "one of the list", "one
 @dataclasses.dataclass(frozen=True)
 class Choice:
     """What was chosen: words that a row has, the code of a school and a state that it names, the
-    columns that are shown, the one that gives the order, and whether its greatest comes first.
+    column in which it has something, the columns that are shown, the one that gives the order, and
+    whether its greatest comes first.
     """
 
     words: str = ""
     at: str = ""
     state: str = ""
+    filled: str = ""
     columns: tuple[str, ...] = ()
     order: str = ""
     is_down: bool = False
@@ -35,8 +37,9 @@ class Choice:
     def address(self) -> dict[str, str | list[str]]:
         """The same in an address."""
         found: dict[str, str | list[str]] = {
-            "words": self.words, "at": self.at, "state": self.state, "column": list(self.columns),
-            "order": self.order, "down": "yes" if self.is_down else "",
+            "words": self.words, "at": self.at, "state": self.state, "filled": self.filled,
+            "column": list(self.columns), "order": self.order,
+            "down": "yes" if self.is_down else "",
         }
         return {name: value for name, value in found.items() if value}
 
@@ -45,15 +48,16 @@ class Choice:
         said = [f"with “{self.words}”"] if self.words else []
         said += [f"at {self.at}"] if self.at else []
         said += [f"state: {self.state}"] if self.state else []
+        said += [f"with something under {self.filled}"] if self.filled else []
         down = ", from the greatest" if self.is_down else ""
         return said + ([f"by {self.order}{down}"] if self.order else [])
 
 
 def of_address(given: MultiDict[str, str]) -> Choice:
     """What an address chooses."""
-    words, at, state, order = (
-        given.get(it, "").strip() for it in ("words", "at", "state", "order"))
-    return Choice(words, at, state, tuple(dict.fromkeys(given.getlist("column"))), order,
+    words, at, state, filled, order = (
+        given.get(it, "").strip() for it in ("words", "at", "state", "filled", "order"))
+    return Choice(words, at, state, filled, tuple(dict.fromkeys(given.getlist("column"))), order,
                   bool(given.get("down")))
 
 
@@ -92,6 +96,8 @@ def wrong(choice: Choice, rows: Rows, register: Register) -> dict[str, str]:
         found["at"] = NO_SCHOOL
     if choice.state and choice.state not in [*states(rows), NONE]:
         found["state"] = NO_STATE
+    if choice.filled and choice.filled not in header:
+        found["filled"] = NO_COLUMN
     if choice.order and choice.order not in header:
         found["order"] = NO_COLUMN
     if any(it not in header for it in choice.columns):
@@ -118,6 +124,8 @@ def is_meant(
         return False
     if choice.state and choice.state not in [
             state_of(it) for name, it in zip(header, row) if name in STATES]:
+        return False
+    if choice.filled and row[header.index(choice.filled)] in (None, ""):
         return False
     return not choice.words or has_words(choice.words, row, register)
 

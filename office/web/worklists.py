@@ -5,7 +5,7 @@ import re
 from collections.abc import Mapping
 from typing import Any
 
-from office import criteria, days, worklists
+from office import criteria, days, model, worklists
 from office.model import Register
 from office.register_lists import Cell, Rows
 
@@ -117,6 +117,8 @@ def rows_of(
 ) -> Rows:
     """The rows of a list, of which the first is the header: with each class in words too."""
     header, *rows = worklists.rows_of(register, name, values)
+    if name == "children":
+        return [[*header, "met"], *([*row, met(register, row[0])] for row in rows)]
     if CLASS not in header:
         return [header, *rows]
     at, school = header.index(CLASS), header.index(SCHOOL)
@@ -127,6 +129,20 @@ def rows_of(
             isinstance(number, int)) else None
         found.append([*row[:at + 1], words, *row[at + 1:]])
     return found
+
+
+# which preference a place is; a place by a plan is on no list
+MET = ("first preference", "second preference", "third preference", "lower preference")
+
+
+def met(register: Register, child: Cell) -> str | None:
+    """Which of its preferences a child has today, if it has one of them."""
+    if not isinstance(child, int) or (place := register.places.get(child)) is None:
+        return None
+    application = register.applications.get(child)
+    if application is None or place.school not in application.preferences:
+        return place.kind if place.kind == model.PLAN else None
+    return MET[min(application.preferences.index(place.school), len(MET) - 1)]
 
 
 @dataclasses.dataclass(frozen=True)

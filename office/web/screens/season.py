@@ -1,19 +1,21 @@
 """The first screen: what is to be done, by when, and how the season stands."""
 import datetime
-from collections.abc import Mapping
+from collections.abc import Mapping, Sequence
 from typing import Any
 
 import flask
+from markupsafe import Markup
 from register_files import Refused
 
 from office.model import Register
 
-from .. import doubts, first_screens, frame, guard, home, pictures
+from .. import doubts, first_screens, frame, guard, home, pictures, worklists
 from ..draws_terms import Draw
 from ..first_screens import First
 from ..guard import SIGNED_IN, needs, parts, person
 from ..home import Known, Task
 from ..letters_sender import Sender
+from ..list_choice import NONE
 from ..people import DRAW, NOTES, PEOPLE, READ, RECORD, Person
 from ..people import LOTS as OF_LOTS
 from ..schools import COLUMNS
@@ -62,6 +64,7 @@ def of_head(register: Register) -> tuple[Task, ...]:
     if register.draws and not Sender(parts().store, parts().history).number:
         found.append(Task("Type the office’s name and address", "Letters have no sender yet.",
                           "Missing", home.WAITING, "letter_sender.show"))
+    found += home.of_copies(parts().copies.behind())
     return tuple(found)
 
 
@@ -71,7 +74,13 @@ def linked(it: Task) -> dict[str, str]:
             "href": address_of(it.view, it.values) if it.view else ""}
 
 
-def bars(rows: list[tuple[str, int, str]]) -> list[tuple[str, str, str, Any]]:
+def list_of(words: str, state: str) -> Markup:
+    """A link to the children of a state among those who applied."""
+    href = flask.url_for("lists.one", name="children", state=state, filled="applied")
+    return Markup('<a href="{}">{}</a>').format(href, words)
+
+
+def bars(rows: Sequence[tuple[str, int, str]]) -> list[tuple[str, str, str, Any]]:
     """Numbers with their share of the whole, and a bar."""
     every = sum(many for _, many, _ in rows)
     return [(words, f"{many:,}", home.share(many, every), pictures.bar(many, every, kind))
@@ -94,7 +103,9 @@ def page(found: Register, draw: Draw | None) -> dict[str, Any]:
         "map": home.places_map(found) if found.schools else "",
         "vacant": home.vacant_in_words(found),
         "answered": bars(home.answers(found)) if found.draws else [],
-        "met": bars(list(zip(home.RANKS, met, home.RANK_KINDS))) if found.draws else [],
+        "met": bars([
+            (list_of(words, state) if many else words, many, kind) for words, state, many, kind in
+            zip(home.RANKS, (*worklists.MET, NONE), met, home.RANK_KINDS)]) if found.draws else [],
         "work": home.work(parts().history.entries) if person().may(NOTES) else [],
         "form": form_of(found), "acts": acts(found),
     }
