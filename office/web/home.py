@@ -310,8 +310,8 @@ def share(part: int, of: int) -> str:
     return f"{100 * part / of:.1f}%" if of else ""
 
 
-def figures(register: Register) -> list[Figure]:
-    """The five numbers that say how the season stands."""
+def figures(register: Register, met: Sequence[int]) -> list[Figure]:
+    """The five numbers that say how the season stands; `met` is how many have which preference."""
     late = sum(not register.is_in_time(it.day) for it in register.applications.values())
     schools = register.schools.values()
     plans = sum(it.kind == model.PLAN for it in register.places.values())
@@ -327,7 +327,7 @@ def figures(register: Register) -> list[Figure]:
                        {"name": "children", "state": model.PLAN}),
                 Figure(f"{without:,}", "Children without a place", "before the first round",
                        "lists.one", {"name": "unplaced"})]
-    met, offers = preferences_met(register), len(register_lists.offers(register))
+    offers = len(register_lists.offers(register))
     some, every = sum(met[:4]), sum(met)
     waiting = sum(min(it.vacancies, it.waiting) for it in schools)
     return [*found,

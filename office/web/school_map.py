@@ -3,8 +3,8 @@ places are filled.
 """
 import dataclasses
 import math
-from collections.abc import Mapping, Sequence
-from typing import Any
+from collections.abc import Callable, Mapping, Sequence
+from typing import Any, NamedTuple
 
 from office import criteria, model, texts
 from office.model import Register, School
@@ -42,48 +42,68 @@ def kind_of(school: School, number: int) -> str:
     return school.criteria[number - 1].partition(":")[0]
 
 
-def states(register: Register, code: str) -> dict[int, str]:
+class Here(NamedTuple):
+    """A child that has a place at a school or waits there, and how it ranks: a child with a plan
+    has no list any more.
+    """
+
+    child: int
+    state: str
+    rank: tuple[int, int] | None
+
+
+def here(register: Register, code: str) -> list[Here]:
     """Who has a place at a school, and who waits there."""
-    found = {child: "has" for child, it in register.places.items() if it.school == code}
-    for child, application in register.applications.items():
-        it = application.at(code)
-        if it and it.state == model.WAITS:
-            found[child] = "waits"
+    found, applications = list[Here](), register.applications
+    for child, it in register.places.items():
+        listed = applications[child].preferences if child in applications else ()
+        if it.school == code and code not in listed:
+            found.append(Here(child, "has", None))
+    for child, application in applications.items():
+        if code not in application.preferences:
+            continue
+        row, place = application.row_of(code), register.places.get(child)
+        if place is not None and place.school == code:
+            found.append(Here(child, "has", (row["class"], row["metres"])))
+        elif row["state"] == model.WAITS:
+            found.append(Here(child, "waits", (row["class"], row["metres"])))
     return found
 
 
-def filled(register: Register, code: str, flags: Mapping[int, str]) -> list[Filled]:
+def filled(
+    register: Register, code: str, children: Sequence[Here], flags: Mapping[int, str],
+) -> list[Filled]:
     """The places of a school and its waiting list by the criteria, in their order."""
     school, by_class = register.schools[code], dict[int, list[tuple[str, int]]]()
     plans = 0
-    for child, state in states(register, code).items():
-        application = register.applications.get(child)
-        it = application.at(code) if application else None
-        if it is None:
+    for it in children:
+        if it.rank is None:
             # (a child with a plan has no list any more)
             plans += 1
         else:
-            by_class.setdefault(it.number, []).append((state, it.metres))
+            number, metres = it.rank
+            by_class.setdefault(number, []).append((it.state, metres))
     found = [Filled(PLAN, CARE, plans, 0, None)] if plans else []
     for number in range(len(school.criteria) + 2) if by_class else ():
         rows = by_class.get(number, [])
-        metres = [it for state, it in rows if state == "has"]
+        has = [it for state, it in rows if state == "has"]
         is_private = criteria.is_private(school, number)
         found.append(Filled(
-            criteria.in_words(school, number, flags), kind_of(school, number), len(metres),
-            len(rows) - len(metres), None if is_private else max(metres, default=None)))
+            criteria.in_words(school, number, flags), kind_of(school, number), len(has),
+            len(rows) - len(has), None if is_private else max(has, default=None)))
     return found
 
 
-def homes(register: Register, code: str, address: Mapping[int, str]) -> list[Home]:
+def homes(
+    register: Register, code: str, children: Sequence[Here], address: Callable[[int], str],
+) -> list[Home]:
     """The homes of those who have a place or wait, with the addresses of their screens."""
     school, found = register.schools[code], []
-    for child, state in states(register, code).items():
-        data, application = register.children[child], register.applications.get(child)
-        it = application.at(code) if application else None
-        kind = kind_of(school, it.number) if it else CARE
-        hint = f"{data.name}, child {child}" + (f", {it.metres:,} metres" if it else "")
-        found.append(Home(data.east, data.north, kind, state, hint, address.get(child, "")))
+    for it in children:
+        data = register.children[it.child]
+        kind = kind_of(school, it.rank[0]) if it.rank else CARE
+        hint = f"{data.name}, child {it.child}" + (f", {it.rank[1]:,} metres" if it.rank else "")
+        found.append(Home(data.east, data.north, kind, it.state, hint, address(it.child)))
     return found
 
 
@@ -104,10 +124,10 @@ def circles(register: Register, code: str) -> list[Circle]:
 
 
 def drawn(
-    register: Register, code: str, address: Mapping[int, str], rings: Sequence[Circle],
+    register: Register, code: str, found: Sequence[Home], rings: Sequence[Circle],
 ) -> tuple[Any, str]:
-    """The map, and what it says in one sentence."""
-    school, found = register.schools[code], homes(register, code, address)
+    """The map of homes, and what it says in one sentence."""
+    school = register.schools[code]
     has = sum(it.state == "has" for it in found)
     says = (f"{texts.count(has, 'child has', 'children have')} a place, and"
             f" {texts.count(len(found) - has, 'waits', 'wait')}.")

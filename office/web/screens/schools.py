@@ -248,17 +248,19 @@ def offer(code: str) -> Answer:
 
 def drawn(register: Register, code: str, words: Mapping[int, str]) -> dict[str, Any]:
     """By which criteria the places are filled; and for who sees every child, the map of homes."""
-    rows = school_map.filled(register, code, words)
+    children = school_map.here(register, code)
+    rows = school_map.filled(register, code, children, words)
     every = sum(it.has for it in rows)
     found = {"filled": [
         (it.words, f"{it.has:,}", home.share(it.has, every), pictures.bar(it.has, every, it.kind))
         for it in rows], "by_class": rows, "map": "", "map_says": "", "map_key": []}
     if not person().may(READ) or not rows:
         return found
-    address = {child: flask.url_for("child.show", number=child)
-               for child in school_map.states(register, code)}
+    # (an address is made once: a school has some hundred homes)
+    first = flask.url_for("child.show", number=0).removesuffix("0")
+    homes = school_map.homes(register, code, children, lambda child: f"{first}{child}")
     rings = school_map.circles(register, code)
-    picture, says = school_map.drawn(register, code, address, rings)
+    picture, says = school_map.drawn(register, code, homes, rings)
     key: dict[str, list[str]] = {}
     for it in (it for it in rows if it.has or it.waits):
         key.setdefault(f"home {it.kind} has", []).append(it.words)

@@ -96,7 +96,7 @@ def page(found: Register, draw: Draw | None) -> dict[str, Any]:
         "tasks": [(title, [linked(it) for it in rows]) for title, rows in tasks],
         "done": [linked(it) for it in home.done(found, day)],
         "figures": [(it.number, it.words, it.note, address_of(it.view, it.values), it.kind)
-                    for it in home.figures(found)],
+                    for it in home.figures(found, met)],
         "dates": home.dates(found, day),
         "season": home.season(found, day),
         "schools": list(found.schools.values()), "places_columns": PLACES,
