@@ -163,6 +163,8 @@ def press(browser: Any, path: str, page: Page, button: str, **given: Any) -> Any
     return browser.get(found.location) if "typed=" in (found.location or "") else found
 
 
+ENTRY = re.compile(r"<li class=\"\w*\"><p class=\"what\">(.*?)</p>(?:<p>(.*?)</p>)?"
+                   r"<p class=\"hint\">(.*?)</p></li>", re.S)
 TASK = re.compile(r"<li>\s*<div>(.*?)<p class=\"hint\"[^>]*>(.*?)</p>.*?"
                   r"<div class=\"state\"[^>]*>(.*?)</div>", re.S)
 
@@ -170,6 +172,13 @@ TASK = re.compile(r"<li>\s*<div>(.*?)<p class=\"hint\"[^>]*>(.*?)</p>.*?"
 def plain(text: str) -> str:
     """The words of a piece of a page."""
     return html.unescape(re.sub(r"<[^>]*>|\s+", " ", text)).strip()
+
+
+def history(text: str) -> list[tuple[str, str, str]]:
+    """The entries of a history: who, what, and what is said of it."""
+    part = text[text.index('<ol class="history">'):].split("</ol>")[0]
+    return [(plain(hint).rpartition(", ")[2], plain(what), plain(more))
+            for what, more, hint in ENTRY.findall(part)]
 
 
 def tasks(text: str) -> dict[str, list[tuple[str, str, str]]]:

@@ -21,10 +21,7 @@ from conftest import ROOT
 from pages import Page, press
 from register_files import Refused
 
-from office.web import (
-    attempts, guard, history, letters_whom, people, serve, store, uploads, wording,
-)
-from office.web.screens import activity
+from office.web import attempts, guard, history, letters_whom, people, serve, store, uploads
 from office.web.screens import people as people_screen
 
 ACCEPT = {"cmd": "accept", "child": 1, "school": "A"}
@@ -156,8 +153,8 @@ def test_a_command_is_on_record_before_and_after(office: Site) -> None:
     assert (answer.what, answer.about) == ("answer", {"of": sent.number, "answer": {"done": True}})
     assert portal.command({**ACCEPT, "child": 3}).status_code == 409
     assert office.parts.history.entries[-1].about["answer"]["name"] == "NotOffered"
-    page = office.browser("jane").get("/activity/?child=1").text
-    assert "accept child 1 school A" in page and "portal" in page
+    page = office.browser("jane").get("/activity/?q=1").text
+    assert "Accepted the place of Ada Abel (1) at Alpha" in page and "portal" in page
 
 
 def test_what_seems_to_be_no_command_is_on_record_too(
@@ -780,20 +777,6 @@ def test_a_store_that_was_full_goes_on(tmp_path: pathlib.Path) -> None:
     found.set("name", "value")
     assert (found.setting("flags"), found.setting("name")) == ("", "value")
     found.close()
-
-
-def test_a_day_of_the_activity_is_that_of_the_clock(monkeypatch: pytest.MonkeyPatch) -> None:
-    """In summer the first hour of a day is of the day before by the history, which is in UTC."""
-    monkeypatch.setenv("TZ", "Europe/London")
-    time.tzset()
-    try:
-        late = history.Entry(1, "2025-06-01T23:30:00.000+00:00", "jane", "signed in", {})
-        assert wording.moment(late.at) == "2 June 2025, 00:30"
-        assert activity.is_meant(late, "", "2025-06-02", "")
-        assert not activity.is_meant(late, "", "2025-06-01", "")
-    finally:
-        monkeypatch.undo()
-        time.tzset()
 
 
 def test_a_name_that_exists_is_answered_as_one_that_does_not(office: Site) -> None:

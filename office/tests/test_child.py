@@ -10,7 +10,7 @@ from typing import Any
 import pytest
 from applications import ROUND, Browser, Site, child, office_over, town
 from conftest import ROOT
-from pages import Page, press
+from pages import Page, history, press
 from register_files import Refused
 from werkzeug.datastructures import MultiDict
 
@@ -151,8 +151,9 @@ def test_each_action_is_asked_by_name(
     assert found.status_code == 303 and sent(office) == [command]
     shown = Page(jane.get(found.location).text)
     assert shown.said().startswith("Recorded: ")
-    assert [it[1:] for it in shown.tables["history"][1:2]] == [
-        ["jane", shown.said()[len("Recorded: "):-1], "done"]]
+    who, what, more = history(shown.text)[0]
+    assert (who, more) == ("jane", "")
+    assert what.casefold() == shown.said()[len("Recorded: "):-1].casefold()
     again = press(jane, path, page, button)
     assert again.status_code == 409 and "jane recorded " in Page(again.text).said()
     assert sent(office) == [command]
@@ -237,9 +238,9 @@ def test_what_the_register_refuses_is_said(office: Site) -> None:
     assert found.status_code == 409 and "too early" in page.said()
     assert page.fields["day"]["value"] == "4 March 2025"
     assert jane.get("/children/3").status_code == 200
-    history = Page(jane.get("/children/3").text).tables["history"][1]
-    assert history[1:3] == ["jane", "reminded on 4 March 2025 of the offer of B"]
-    assert "too early" in history[3]
+    who, what, more = history(jane.get("/children/3").text)[0]
+    assert (who, what) == ("jane", "Reminded on 4 March 2025 of the offer of Beta")
+    assert "too early" in more
 
 
 def test_a_day_is_typed_and_warned_of(office: Site) -> None:
@@ -302,11 +303,11 @@ def test_what_a_colleague_did_is_named(office: Site) -> None:
     # (and now, seen as it is, it is declined)
     assert press(jane, "/children/1/decline", again, "Decline Alpha for Ada Abel"
                  ).status_code == 303
-    history = Page(jane.get("/children/1").text)
-    assert [it[1:] for it in history.tables["history"][1:]] == [
-        ["jane", "declined the place at A", "done"], ["bo", "accepted the place at A", "done"],
-        ["", "round 1, 3 March 2025", "offered the place at A"]]
-    assert history.tables["list"][1][1] == "declined"
+    shown = jane.get("/children/1").text
+    assert history(shown) == [
+        ("jane", "Declined the place at Alpha", ""), ("bo", "Accepted the place at Alpha", ""),
+        ("3 March 2025", "Round 1: offered Alpha", "Dated 3 March 2025")]
+    assert Page(shown).tables["list"][1][1] == "declined"
 
 
 def test_a_draw_that_gave_a_place_is_named(office: Site) -> None:
@@ -319,10 +320,9 @@ def test_a_draw_that_gave_a_place_is_named(office: Site) -> None:
         assert desk.send(hal, command, draw=True).is_done, command
     found = press(jane, "/children/3/decline", page, "Decline Beta for Cyd <b>Cole</b>")
     assert "Child 3: hal recorded a fill at " in Page(found.text).said()
-    rows = Page(jane.get("/children/3").text).tables["history"][1:]
-    assert [it[1:] for it in rows] == [
-        ["hal", "fill of A (draw 2), 17 March 2025", "offered the place at A"],
-        ["", "round 1, 3 March 2025", "offered the place at B"]]
+    assert history(jane.get("/children/3").text) == [
+        ("hal", "Fill of A (draw 2): offered Alpha", "Dated 17 March 2025"),
+        ("3 March 2025", "Round 1: offered Beta", "Dated 3 March 2025")]
 
 
 def test_a_plan_is_chosen_and_ends_a_place(office: Site) -> None:
@@ -393,9 +393,10 @@ def test_a_correction_shows_what_it_changes(office: Site) -> None:
     now = office.parts.desk.now().children[5]
     assert (now.name, now.east, now.north, now.flags, now.siblings, now.present) == (
         "Eve Eden", 50000, 500, (5,), ("A", "B"), "")
-    rows = Page(jane.get("/children/5").text).tables["history"][1:]
-    assert [it[1] for it in rows] == ["jane", "bo"] and rows[0][2].startswith("data corrected: ")
-    assert "East, in metres 7 → 50000" in rows[0][2]
+    rows = history(jane.get("/children/5").text)
+    assert [it[:2] for it in rows] == [
+        ("jane", "Corrected the details"), ("bo", "Corrected the details")]
+    assert "East, in metres: 7 → 50000" in rows[0][2]
 
 
 @pytest.mark.parametrize("is_wrong", [False, True])
@@ -547,15 +548,14 @@ def test_an_import_is_the_first_entry_of_a_child(office: Site) -> None:
     assert result.is_done, result
     rita = office.browser("rita", "reader")
     for number, said in ((12, "20 October 2024: A, B"), (112, "21 October 2024: B")):
-        table = Page(rita.get(f"/children/{number}").text).tables["history"]
-        assert [it[1:] for it in table[1:]] == [
-            ["jane", f"imported, with the application of {said}", "done"]]
-    assert Page(rita.get("/children/1").text).tables["history"][1][1] == ""
+        assert history(rita.get(f"/children/{number}").text) == [
+            ("jane", "Added applications to the register", f"Application of {said}")]
+    assert len(history(rita.get("/children/1").text)) == 1
     # (what a first correction changes of the row is said, and nothing else)
     moved = {**child(12, "Abel, Fay", 2), "cmd": "amend", "east": 7, "present": ""}
     office.record("jane", moved)
-    table = Page(rita.get("/children/12").text).tables["history"]
-    assert table[1][2] == "data corrected: East, in metres 1 → 7"
+    assert history(rita.get("/children/12").text)[0] == (
+        "jane", "Corrected the details", "East, in metres: 1 → 7")
 
 
 @pytest.mark.parametrize("before, command", [
@@ -598,9 +598,8 @@ def test_an_import_is_read_as_the_register_reads_it(office: Site) -> None:
     assert effects.is_imported(office.parts.desk.now(), data)
     rita = office.browser("rita", "reader")
     for number, said in ((12, "20 October 2024: A, B"), (13, "21 October 2024: B")):
-        table = Page(rita.get(f"/children/{number}").text).tables["history"]
-        assert [it[1:] for it in table[1:]] == [
-            ["jane", f"imported, with the application of {said}", "done"]]
+        assert history(rita.get(f"/children/{number}").text) == [
+            ("jane", "Added applications to the register", f"Application of {said}")]
     assert not effects.is_imported(office.parts.desk.now(), f"{header}\n1,{'x' * 200_000}\n")
 
 

@@ -76,7 +76,8 @@ def test_the_text_of_a_letter_is_shown(office: Site) -> None:
     assert "School · Preference · Your child there · Distance · Waiting list" in text
     assert "font-size" not in text and "not recorded as sent" in page.text
     assert recorded(jane, path)[0] == 303
-    assert f'href="{link[1]}">Show the letter<' in jane.get("/children/2").text
+    assert f'href="{link[1]}">Show the letter<' in (
+        jane.get("/children/2?part=letters").text)
     assert "sent on 3 March 2025" in jane.get(link[1]).text
     merged = made(jane, asked(jane, "offers", "1", child=["1"], kind="merge"))
     assert "Show the letter" not in jane.get(merged).text
@@ -158,7 +159,7 @@ def test_what_was_sent_is_with_each_child_as_it_was(office: Site, address: str) 
     jane = office.browser("jane")
     path = made(jane, asked(jane, "offers", "1", child=["2", "4"]))
     before = letter_pages(jane, path)
-    assert "Sent by" not in jane.get("/children/4").text
+    assert "Sent by" not in jane.get("/children/4?part=letters").text
     page = jane.get(path).text
     assert "Record 2 letters as sent" in page
     assert recorded(jane, path, "1 January 2099")[0] == 400
@@ -168,14 +169,14 @@ def test_what_was_sent_is_with_each_child_as_it_was(office: Site, address: str) 
     assert (entry.what, entry.who, entry.about["children"], entry.about["day"]) == (
         "recorded letters as sent", "jane", [2, 4], "2025-03-03")
     beside(office, address, [amended("Other Name")])
-    page = jane.get("/children/4").text
+    page = jane.get("/children/4?part=letters").text
     table = page[page.index('id="letters"'):]
     assert "3 March 2025" in table and "Standard letter, version 1" in table and "jane" in table
     link = re.search(r'href="(/letters/again/[0-9]+)"', page)
     assert link
     assert pages(jane.get(link[1]).data) == [before[1]]
     assert "Siân Tŷ Gwyn" in before[1]
-    assert "1 letter sent" not in jane.get("/children/1").text
+    assert "1 letter sent" not in jane.get("/children/1?part=letters").text
     beside(office, address, [amended(NAMES[4])])
 
 

@@ -68,7 +68,7 @@ def test_a_note_is_added_struck_out_and_stays_readable(office: Site, jane: Brows
     """With who did it, on the child's screen and on record without its text."""
     before = len(what(office))
     assert note(jane, "  Asked for <b>help</b>.\r\nSecond line \u202egnp  ").status_code == 303
-    page = Page(jane.get("/children/1").text)
+    page = Page(jane.get("/children/1?part=notes").text)
     assert "Asked for &lt;b&gt;help&lt;/b&gt;." in page.text
     assert "Second line \\u202egnp" in page.text and "\u202e" not in page.text
     assert "jane, " in page.by_id["notes"]
@@ -209,7 +209,7 @@ def test_a_file_that_cannot_be_kept_is_said_at_its_field(
     assert row and tuple(row) == (None, "a.pdf")
     assert press(jane, path, page, button, why="twice").status_code == 409
     assert upload(jane, "a.pdf", b"a" * 1000).status_code == 303
-    assert "of another family" in jane.get("/children/1").text
+    assert "of another family" in jane.get("/children/1?part=notes").text
 
 
 def test_a_bomb_is_only_bytes(office: Site, jane: Browser) -> None:
@@ -295,16 +295,19 @@ def test_a_full_disk_while_a_file_arrives_is_said(
 
 def test_a_reader_sees_neither(office: Site, jane: Browser) -> None:
     """Who records nothing needs no evidence of a family: neither its text nor that there is any."""
-    of_another = jane.get("/activity/?child=2").text.count("added a note")
+    of_another = jane.get("/activity/?q=2").text.count("Added a note")
     assert note(jane, "a text of a family").status_code == 303
     assert upload(jane, "evidence.pdf", b"%PDF").status_code == 303
     number = office.parts.notes.files_of(1)[0].number
     rita = office.browser("rita")
-    page = rita.get("/children/1").text
-    assert "Notes" not in page and "a text of" not in page and "evidence" not in page
-    assert "added a" not in rita.get("/activity/").text
-    assert "added a note" in jane.get("/activity/?child=1").text
-    assert jane.get("/activity/?child=2").text.count("added a note") == of_another
+    for path in ("/children/1", "/children/1?part=notes"):
+        page = rita.get(path).text
+        for text in ("Notes", "a text of", "evidence", "Added a"):
+            assert text not in page, (path, text)
+    assert "Added a" not in rita.get("/activity/").text
+    assert "Added a note" in jane.get("/children/1").text
+    assert "Added a note on Ada Abel (1)" in jane.get("/activity/?q=1").text
+    assert jane.get("/activity/?q=2").text.count("Added a note") == of_another
     for path in ("/children/1/notes", f"/children/1/files/{number}",
                  f"/children/1/files/{number}/remove"):
         assert rita.get(path).status_code == 403
@@ -326,7 +329,8 @@ def test_a_note_of_another_child_is_not_there(office: Site, jane: Browser) -> No
 def test_a_child_that_has_another_name_now_is_marked(office: Site, jane: Browser) -> None:
     """After a restore a number may be of another child: who it was is said at each note."""
     office.parts.notes.add(Person("jane", "officer"), 1, "Old Name", "a note")
-    assert "when the child was called <bdi>Old Name</bdi>" in jane.get("/children/1").text
+    assert "when the child was called <bdi>Old Name</bdi>" in (
+        jane.get("/children/1?part=notes").text)
 
 
 def test_bytes_that_were_changed_are_not_sent(office: Site, jane: Browser) -> None:

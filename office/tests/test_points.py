@@ -10,7 +10,7 @@ import pytest
 from applications import Browser, Site, office_over
 from conftest import apply, child, school
 from gazetteers import csv_of
-from pages import Page, press
+from pages import Page, history, press
 from staged import Cells, Screens, workbook
 
 from office.web import points
@@ -150,7 +150,7 @@ def test_rows_get_their_points_which_are_stored_with_their_sources(
     page = Page(jane.get("/children/101").text)
     whence = f"from property number 100023336957, {of_day}"
     assert page.by_id["point"] == f"The point of the home is {whence}."
-    assert page.tables["history"][1][2].endswith(f"; point {whence}")
+    assert history(page.text)[0][2].endswith(f"; home: {whence}")
     sent = next(it for it in office.parts.history.entries if "import" in it.about)
     assert sent.about["points"]["105"] == "from a.csv" and len(sent.about["points"]) == 6
     assert Page(jane.get("/children/7").text).by_id.get("point") is None
@@ -288,7 +288,7 @@ def test_a_child_that_is_typed_or_moves_is_looked_up(office: Site, jane: Browser
     assert (moved.east, moved.north) == (432000, 210000)
     page = Page(jane.get("/children/7").text)
     assert page.by_id["point"] == f"The point of the home is {whence}."
-    assert page.tables["history"][1][2].endswith(f"; point {whence}")
+    assert history(page.text)[0][2].endswith(f"; Home: {whence}")
     page = Page(jane.get("/children/7/correct").text)
     page = Page(press(jane, "/children/7/correct", page, "Compare with the register",
                       east="432001").text)

@@ -177,8 +177,9 @@ def test_a_copy_is_restored_and_what_is_ticked_is_sent_again(small: Machine) -> 
         number = room.begin(1)
         page = room.hal.get(f"/restores/{number}").text
         listed = text_of(page, "since")
-        for it in ("jane child 1 Ada =1+1 <b>: data corrected", "hal admission number of OAK raised"
-                   " to 2", "jane child 6 Fay: child added", "1 application stored from files"):
+        for it in ("jane child 1 Ada =1+1 <b>: corrected the details",
+                   "hal admission number of OAK raised to 2", "jane child 6 Fay: added the child",
+                   "1 application stored from files"):
             assert it in listed, listed
         lost = text_of(page, "lost")
         for it in ("School OAK Admission number 2 1", "Child 6 Fay in the register not in the copy",
@@ -333,7 +334,7 @@ def shown(office: Site, room: Room, at: dict[str, int]) -> None:
     assert [(it.who, it.about["again"]["who"], it.about["again"]["of"]) for it in again] == [
         ("jane", "jane", at["amend"]), ("jane", "hal", at["apply"])]
     page = html.unescape(room.hal.get("/children/1").text)
-    assert "done, and undone when copy 1 was restored" in page
+    assert "Done, and undone when copy 1 was restored" in page
     assert "recorded first by jane on" in page
     assert "undone when copy 1 was restored" in room.hal.get("/activity/").text
     row = office.parts.store.row("SELECT state, entry FROM staged_row")

@@ -244,7 +244,8 @@ def test_only_who_may_see_notes_gets_it(office: Site) -> None:
                    for it in office.parts.history.entries[before:])
     assert "held.json" not in rita.get("/children/1").text
     assert office.browser("jane").get("/children/9/held.json").status_code == 404
-    assert "/children/1/held.json" in office.browser("jane").get("/children/1").text
+    jane = office.browser("jane")
+    assert "/children/1/held.json" in jane.get("/children/1?part=notes").text
 
 
 def test_each_table_of_the_application_is_known(tmp_path: pathlib.Path) -> None:

@@ -7,7 +7,7 @@ from collections.abc import Iterator
 from office import rules
 from office.model import Register
 
-from . import effects, records
+from . import effects, entry_words, records
 from .draws_terms import Terms
 from .history import Entry, History
 from .kinds import WHOLE
@@ -51,13 +51,13 @@ def all_of(entries: Iterator[Entry]) -> Iterator[tuple[str, Change]]:
                         if (row.get("child") or "").strip().isdecimal())
         said = ""
         if name == "amend":
-            said = "; ".join(records.changes(data[child], command, FIELDS)) if child in data else (
-                "data corrected; what they were before is not in the history")
+            said = "; ".join(entry_words.changes(data[child], command, fields=FIELDS)) if (
+                child in data) else "details corrected; those before are not in the history"
         elif name == "raise_pan":
             was = f" from {numbers[code]}" if code in numbers else ""
             said = f"admission number of {code} raised{was} to {command['pan']}"
         elif name == "name_plan":
-            said = records.in_words(command, None)
+            said = records.in_words(command)
         if said and is_stored:
             yield (code or "", Change(child, said, f"{it.who}{records.first_by(it)}", it.at))
         if name in WHOLE:

@@ -10,14 +10,14 @@ import hashlib
 import json
 import os
 import threading
-from collections.abc import Callable, Iterator
+from collections.abc import Callable, Iterator, Mapping
 from typing import Any
 
 from register_files import OWNER_ALONE, Refused
 
 from office import commands
 
-from . import lineage
+from . import effects, lineage
 
 FIRST = "0" * 64
 # what an entry is about: a request to the register, what came of it, or what a person did
@@ -81,6 +81,19 @@ def says_done(it: Entry) -> bool:
         it.what == SETTLED and bool(it.about["done"]))
 
 
+def numbers_in(about: Mapping[str, Any]) -> Iterator[int]:
+    """The children that an entry is about, by what it has: an import, a list of children, or one
+    child, which a row of the applications has as its number.
+    """
+    found = about.get("command", about)
+    many, is_row = found.get("children"), "row" in found or "into" in found
+    rows = effects.rows_of(found["import"]) if "import" in found else ()
+    for it in (found.get("child"), found.get("number") if is_row else None,
+               *(many if isinstance(many, list) else ()), *(row.get("child") for row in rows)):
+        if str(it).isdecimal():
+            yield int(str(it))
+
+
 def read(name: str) -> list[Entry]:
     """The entries of a history that nobody writes, as of a copy."""
     with open(name, "rb") as file:
@@ -110,8 +123,11 @@ class History:
             os.close(self.fd)
             raise Refused(f"{path} is in use by another application") from error
         self.entries: list[Entry] = []
-        # the requests of which no answer is known yet
+        # the requests of which no answer is known yet, and what came of the others
         self.open: dict[int, Entry] = {}
+        self.ends: dict[int, Entry] = {}
+        # the entries about each child, by their numbers
+        self.about: dict[int, list[int]] = {}
         # what was told from outside, by its key
         self.told: set[str] = set()
         self.restores: list[tuple[int, int]] = []
@@ -191,12 +207,15 @@ class History:
         self.entries.append(entry)
         if "told" in entry.about:
             self.told.add(entry.about["told"])
+        for child in set(numbers_in(entry.about)):
+            self.about.setdefault(child, []).append(entry.number)
         if entry.what == RESTORED:
             self.restores.append((entry.number, entry.about["position"]))
         if entry.what == SENDS:
             self.open[entry.number] = entry
         elif entry.what in (ANSWER, SETTLED):
             self.open.pop(entry.about["of"], None)
+            self.ends[entry.about["of"]] = entry
 
     def begin_anew(self, who: str, what: str, about: dict[str, Any]) -> Entry:
         """Replaces the file by a new one of which this is the first entry. The one before is gone
@@ -214,7 +233,7 @@ class History:
             self.sync_folder()
             os.close(self.fd)
             self.fd, self.entries, self.open, self.told = fd, [], {}, set()
-            self.restores = []
+            self.restores, self.ends, self.about = [], {}, {}
             self.take(entry)
             self.before, self.length = digest(line), len(line)
             self.replaced()
@@ -225,6 +244,18 @@ class History:
         """The requests to the register of which no answer is known yet."""
         with self.lock:
             return list(self.open.values())
+
+    def end(self, number: int) -> Entry | None:
+        """What came of a request: its answer, or the restore that has undone what was done."""
+        found = self.ends.get(number)
+        if self.restores and found and says_done(found) and number not in self.lineage():
+            by = lineage.undone_by(self.restores, number)
+            return self.entries[by - 1] if by else found
+        return found
+
+    def of_child(self, child: int) -> list[Entry]:
+        """The entries about a child, the first one first."""
+        return [self.entries[it - 1] for it in list(self.about.get(child, ()))]
 
     def lineage(self) -> lineage.Lineage:
         """What led to the register as it is."""

@@ -2,59 +2,65 @@
 the draws in which the child took part.
 """
 import dataclasses
-from collections.abc import Iterable, Iterator, Mapping, Sequence
+import datetime
+from collections.abc import Mapping, Sequence
 from typing import Any
 
-from office import commands, days, rules, texts
+from office import commands, days
 from office.model import Register
 
-from . import effects, lineage
+from . import effects, entry_words, lineage
+from .entry_words import Names
 from .history import ANSWER, RESTORED, SENDS, SETTLED, Entry, History, says_done
 from .kinds import DRAWS, KINDS, WHOLE, day_in
-from .wording import draw_in_words, label, moment, sentence
+from .wording import draw_in_words, moment, sentence
 
 Command = Mapping[str, Any]
 
 
+# what is said of a child by another entry already
+LEFT_OUT = ("records reminders", "records withdrawals", "made letters",
+            "stored addresses for letters")
+
+
 @dataclasses.dataclass(frozen=True)
 class Record:
-    """What was recorded: the moment in UTC, or the day of a draw that the history has not; by whom;
-    what, and what came of it.
+    """What was done: the moment in UTC, or the day of a draw that the history has not; by whom;
+    what; and what changed, or why it was not done.
     """
 
     at: str
     who: str
     what: str
-    came: str
+    more: str
     is_done: bool
 
     @property
-    def has_moment(self) -> bool:
-        """Whether the moment is known, and not the day alone."""
-        return "T" in self.at
+    def when(self) -> str:
+        """When it was: the moment, or the day alone where no more is known."""
+        if "T" in self.at:
+            return moment(self.at)
+        return days.in_words(datetime.date.fromisoformat(self.at))
+
+    @property
+    def kind(self) -> str:
+        """Its colour."""
+        return "info" if self.is_done else "bad"
 
 
-def in_words(command: Command, before: Command | None) -> str:
-    """What a command records of a child, with what it changes of the data that were known before.
-    """
-    if command["cmd"] == "amend" and before:
-        return "data corrected: " + ("; ".join(changes(before, command)) or "nothing changed")
-    return KINDS[command["cmd"]].words(command)
-
-
-def changes(
-    before: Command, now: Command, fields: Iterable[str] = tuple(rules.COMMANDS["amend"]),
-) -> Iterator[str]:
-    """The fields in which the data of a child differ."""
-    for it in fields:
-        one, other = (texts.cell_of(data.get(it, "")) for data in (before, now))
-        if one != other:
-            yield f"{label(it)} {one or 'none'} → {other or 'none'}"
+def in_words(command: Command, names: Names = Names()) -> str:
+    """What a command records of a child, within a sentence."""
+    found = entry_words.command_title(command, names)
+    return found[:1].lower() + found[1:]
 
 
 def came_of(entry: Entry, ends: Mapping[int, Entry]) -> tuple[str, bool]:
+    """What came of a request, and whether it is done, by the ends of several."""
+    return came(entry, ends.get(entry.number))
+
+
+def came(entry: Entry, end: Entry | None) -> tuple[str, bool]:
     """What came of a request, and whether it is done."""
-    end = ends.get(entry.number)
     if end is None:
         return "no answer yet", False
     if end.what == RESTORED:
@@ -91,55 +97,81 @@ def ends_of(entries: Sequence[Entry]) -> dict[int, Entry]:
 
 def first_by(entry: Entry) -> str:
     """Who recorded first what was sent again after a restore, or ""."""
-    first = entry.about.get("again")
+    first = entry.about.get("again") if entry.what == SENDS else None
     return f", recorded first by {first['who']} on {moment(first['at'])}" if first else ""
 
 
-def of_child(history: History, register: Register, number: int) -> list[Record]:
-    """The records of a child, the last first."""
-    entries = list(history.entries)
-    ends, found = ends_of(entries), []
-    draws: dict[int, Entry] = {}
-    before: Command | None = None
-    for it in entries:
-        if it.what != SENDS:
+def before(history: History, entry: Entry) -> Command | None:
+    """The details of a child as the history has them from before a correction, if it does."""
+    number = entry.about["command"]["child"]
+    for it in reversed(history.of_child(number)):
+        if it.what == SENDS and it.number < entry.number:
+            command = it.about.get("command", {})
+            if command.get("cmd") in WHOLE or "import" in it.about:
+                if came(it, history.end(it.number))[1]:
+                    return command or row_in(it.about["import"], number)
+    return None
+
+
+def more_of(history: History, entry: Entry, names: Names) -> str:
+    """What an entry says beside its title, with who recorded first what was sent again."""
+    is_correction = entry.about.get("command", {}).get("cmd") == "amend"
+    found = before(history, entry) if is_correction else None
+    return entry_words.more_of(entry, names, found) + first_by(entry)
+
+
+def result(history: History, entry: Entry) -> tuple[str, bool]:
+    """What came of an entry: of a request what the register answered; anything else is done."""
+    if entry.what != SENDS:
+        return "", True
+    return came(entry, history.end(entry.number))
+
+
+def of_child(
+    history: History, register: Register, number: int, names: Names, may_notes: bool = True,
+) -> list[Record]:
+    """The records of a child, the last first; notes for those who may see them."""
+    found = list[Record]()
+    draws = {it.about["command"]["draw"]: it for it in list(history.entries)
+             if it.what == SENDS and it.about.get("command", {}).get("cmd") in DRAWS
+             and result(history, it)[1]}
+    for it in history.of_child(number):
+        kind = entry_words.form_of(it)[0]
+        if it.what in LEFT_OUT or (kind == entry_words.NOTES and not may_notes):
             continue
-        came, is_done = came_of(it, ends)
-        command = it.about.get("command", {})
-        if command.get("cmd") in DRAWS and is_done:
-            draws[command["draw"]] = it
-        elif command.get("child") == number:
-            words = in_words(command, before) + said_of_point(it.about.get("point")) + first_by(it)
-            found.append(Record(it.at, it.who, words, came, is_done))
-            before = command if is_done and command["cmd"] in WHOLE else before
-        elif "import" in it.about and (row := row_in(it.about["import"], number)):
-            words = f"imported, with the application of {day_in(row)}: {row.get('preferences')}"
-            words = words.replace(";", ", ") + said_of_point(points_in(it).get(str(number)))
-            words += first_by(it)
-            found.append(Record(it.at, it.who, words, came, is_done))
-            before = row if is_done else before
+        came_to, is_done = result(history, it)
+        lines = [of_row(it, number) if "import" in it.about else more_of(history, it, names),
+                 "" if came_to == "done" else sentence(came_to)]
+        found.append(Record(it.at, it.who, entry_words.title_of(it, names, True),
+                            ". ".join(filter(None, lines)), is_done))
     found += [of_draw(register, at, number, draws.get(at)) for at, outcomes
               in register.outcomes.items() if number in outcomes]
     return sorted(found, key=lambda it: it.at, reverse=True)
 
 
+def of_row(entry: Entry, number: int) -> str:
+    """What an import has of one child."""
+    row = row_in(entry.about["import"], number) or {}
+    listed = (row.get("preferences") or "").replace(";", ", ")
+    point = points_in(entry).get(str(number))
+    return (f"Application of {day_in(row)}: {listed}{f'; home: {point}' if point else ''}"
+            f"{first_by(entry)}")
+
+
 def of_draw(register: Register, at: int, number: int, entry: Entry | None) -> Record:
     """What a draw gave a child."""
     draw, code = register.draws[at - 1], register.outcomes[at][number]
-    came = "no place"
+    came_to = "no place"
     if code is not None:
-        came = f"{'offered' if register.fresh[at][number] else 'kept'} the place at {code}"
+        school = register.schools[code].name
+        came_to = f"{'offered' if register.fresh[at][number] else 'kept'} {school}"
     # (of another draw of this number, before a copy was restored, nothing is said)
     is_this = entry is not None and entry.about["command"]["day"] == draw.day.isoformat()
     when = entry.at if entry and is_this else draw.day.isoformat()
     who = entry.who if entry and is_this else ""
-    words = f"{draw_in_words(draw)}, {days.in_words(draw.day)}"
-    return Record(when, who, words, came, True)
-
-
-def said_of_point(source: str | None) -> str:
-    """What is said of where the point of a home came from."""
-    return f"; point {source}" if source else ""
+    words = draw_in_words(draw)
+    return Record(when, who, f"{words[:1].upper()}{words[1:]}: {came_to}",
+                  f"Dated {days.in_words(draw.day)}", True)
 
 
 def points_in(entry: Entry) -> Mapping[str, str]:
@@ -163,24 +195,21 @@ def point_of(history: History, number: int) -> str:
     return found
 
 
-def last_of(history: History, who: str, number: int) -> str:
+def last_of(history: History, who: str, number: int, names: Names) -> str:
     """What somebody recorded of a child last, in a sentence, or ""."""
-    entries = list(history.entries)
-    ends = ends_of(entries)
-    for it in reversed(entries):
-        command = it.about.get("command", {})
-        if it.what == SENDS and it.who == who and command.get("child") == number:
-            came, is_done = came_of(it, ends)
-            said = in_words(command, None)
-            return f"Recorded: {said}." if is_done else f"Not recorded: {said}. {came}"
+    for it in reversed(history.of_child(number)):
+        if it.who == who and it.about.get("command"):
+            came_to, is_done = came(it, history.end(it.number))
+            said = in_words(it.about["command"], names)
+            return f"Recorded: {said}." if is_done else f"Not recorded: {said}. {came_to}"
     return ""
 
 
 def ended_by(history: History, number: int, code: str) -> str:
     """How a child lost a school: declined, its offer withdrawn, or left, as the history has it."""
-    for it in history.done():
+    for it in reversed(history.of_child(number)):
         command = it.about.get("command", {})
-        if (command.get("child"), command.get("school")) == (number, code):
-            if ended := KINDS[command["cmd"]].ended:
+        if command.get("school") == code and (ended := KINDS[command["cmd"]].ended):
+            if came(it, history.end(it.number))[1]:
                 return ended
     return ""

@@ -47,7 +47,7 @@ def in_words(entry: Entry, names: dict[int, str]) -> str:
         return KINDS[command["cmd"]].words(command)
     number = command["child"]
     name = names.get(number) or str(command.get("name", ""))
-    return f"child {number} {name}: {records.in_words(command, None)}"
+    return f"child {number} {name}: {records.in_words(command)}"
 
 
 @dataclasses.dataclass(frozen=True)

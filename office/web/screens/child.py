@@ -16,6 +16,7 @@ from .. import (
 from ..asked import Typed
 from ..children import FIELDS, Question
 from ..desk import Seen, seen_of
+from ..entry_words import Names
 from ..guard import needs, parts, person
 from ..kinds import ACTIONS
 from ..notice_marks import UNREAD, Marks
@@ -95,19 +96,31 @@ def show(number: int) -> Answer:
     return child_page(number)
 
 
+# what is kept of a child, each at an address of its own
+HISTORY, LETTERS, KEPT = "history", "letters", "notes"
+
+
 def child_page(number: int, said: str = "", status: int = 200) -> Answer:
     """The page of a child."""
     register, history = child_in(number), parts().history
+    names = Names(register, flags.present())
     if "recorded" in flask.request.args and not said:
-        said = records.last_of(history, person().name, number)
+        said = records.last_of(history, person().name, number, names)
     actions = [(name, code, ACTIONS[name].title, register.schools[code].name if code else "")
                for name, code in children.possible(register, number)]
     return flask.render_template(
         "child.html", **shown(register, number), **drawn(register, number), said=said,
         is_bad=status != 200,
         point=records.point_of(history, number), actions=actions,
-        records=records.of_child(history, register, number),
-        rounds=explanations.taken(parts(), register, number), **noted(number)), status
+        records=records.of_child(history, register, number, names, person().may(NOTES)),
+        part=part(), rounds=explanations.taken(parts(), register, number),
+        **noted(number)), status
+
+
+def part() -> str:
+    """Which of what is kept of the child is shown."""
+    found = flask.request.args.get("part", "")
+    return found if found == LETTERS or (found == KEPT and person().may(NOTES)) else HISTORY
 
 
 def drawn(register: Register, number: int) -> dict[str, Any]:
