@@ -12,7 +12,7 @@ import pytest
 from applications import ROUND, Browser, Site, child, office_over, town
 from pages import Page
 
-from office.web import entry_words
+from office.web import entry_words, wording
 from office.web.entry_words import Names
 from office.web.history import SENDS, Entry
 from office.web.people import Person
@@ -92,6 +92,17 @@ def test_it_is_found_by_words_person_kind_and_day(office: Site) -> None:
     assert found.status_code == 400 and "17 March 2025" in Page(found.text).error("since")
 
 
+def test_the_name_of_an_account_stays_as_it_is_written(office: Site) -> None:
+    """Also where a sentence begins with it; another word begins with a capital."""
+    with office.app.app_context():
+        for text, wanted in (
+                ("bo has saved this meanwhile", "bo has saved this meanwhile."),
+                ("bo's batch is empty", "bo's batch is empty."),
+                ("both have one", "Both have one."), ("", ""), ("bo", "bo.")):
+            assert wording.sentence(text) == wanted
+    assert wording.sentence("bo has saved this") == "Bo has saved this."
+
+
 def test_a_day_begins_on_the_clock_of_the_machine(
     office: Site, monkeypatch: pytest.MonkeyPatch
 ) -> None:
@@ -106,6 +117,7 @@ def test_a_day_begins_on_the_clock_of_the_machine(
                            ("2025-06-15T23:00:00", False)):
             entry = Entry(1, at, "jane", "signed in", {})
             assert all(it(entry) for it in tests) is wanted, at
+        assert wording.moment(next_day) == "15 June 2025, 00:00"
     finally:
         monkeypatch.undo()
         time.tzset()

@@ -150,6 +150,10 @@ class People:
         # (so that a name that does not exist takes as long)
         self.nobody = self.hasher.hash(secrets.token_urlsafe(18))
 
+    def has(self, name: str) -> bool:
+        """Whether there is an account of this name."""
+        return self.store.row("SELECT 1 FROM person WHERE name=?", name) is not None
+
     def see_new(self, name: str, role: str) -> None:
         """Refuses somebody who cannot be added."""
         self.see_name(name)
@@ -160,7 +164,7 @@ class People:
         if not NAME.fullmatch(name):
             raise Refused("a name is 1 to 64 of a-z, 0-9 and . _ @ + -, and begins with a letter"
                           " or a figure")
-        if self.store.row("SELECT 1 FROM person WHERE name=?", name):
+        if self.has(name):
             raise Refused(f"{name} is there already")
 
     def add(self, name: str, role: str, kind: str = PERSON) -> str:
