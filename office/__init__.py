@@ -2,5 +2,5 @@
 and the audit.
 
 `command` starts the audit and the commands of an administrator. They need Debian's Python 3.11, and
-python3-openpyxl where a workbook is read or written.
+python3-openpyxl where an Excel file is read or written.
 """

@@ -1,5 +1,5 @@
-"""Workbooks in a form for print: a sheet for each table, its heading repeated on each page, columns
-as wide as they need, and pages that are numbered."""
+"""Excel files in a form for print: a sheet for each table, its heading repeated on each page,
+columns as wide as they need, and pages that are numbered."""
 import dataclasses
 import datetime
 import importlib
@@ -19,7 +19,7 @@ Value = str | int | float | datetime.date | None
 
 # in the units of a spreadsheet, about a letter each: columns, pages, and the line above a page
 WIDEST, WIDEST_UPRIGHT, FILLED, LINE = 60, 125, 18, 130
-# what no workbook can hold: control characters, halves of pairs, and two that are no characters
+# what no Excel file can hold: control characters, halves of pairs, and two that are no characters
 UNWRITABLE = re.compile("[\x00-\x08\x0b\x0c\x0e-\x1f\ud800-\udfff\ufffe\uffff]")
 DAY = re.compile(r"[0-9]{4}-[0-9]{2}-[0-9]{2}")
 HEAD_COLOUR, LINE_COLOUR, LINED = "FFDDDDDD", "FF999999", "lined"
@@ -44,7 +44,7 @@ def library() -> ModuleType:
         return importlib.import_module("openpyxl")
     except ImportError as error:
         how = "apt-get install python3-openpyxl, or use CSV"
-        said = f"a workbook is written by python3-openpyxl, which is not here: {how}"
+        said = f"an Excel file is written by python3-openpyxl, which is not here: {how}"
         raise Refused(said) from error
 
 
@@ -120,7 +120,7 @@ def set_out(page: Any, given: Page, title: str, styles: Any) -> None:
 
 def lined(styles: Any) -> Any:
     """The style of all cells, with lines around them. (The lots of a round have 140,000 cells: with
-    a border for each of them a workbook takes four times as long.)
+    a border for each of them an Excel file takes four times as long.)
     """
     line = styles.Side(style="thin", color=LINE_COLOUR)
     border = styles.Border(bottom=line, left=line, right=line)
@@ -128,13 +128,13 @@ def lined(styles: Any) -> Any:
 
 
 def data(pages: list[Page], title: str) -> bytes:
-    """The bytes of a workbook of these pages. Where there are several, the first sheet lists
+    """The bytes of an Excel file of these pages. Where there are several, the first sheet lists
     them."""
     library_ = library()
     made = library_.Workbook()
     made.remove(made.active)
     made.add_named_style(lined(library_.styles))
-    # (a title may have what somebody typed, of which a workbook takes no control characters)
+    # (a title may have what somebody typed, of which an Excel file takes no control characters)
     title = texts.visible(title)
     made.properties.title, made.properties.creator = title, "admissions"
     if len(pages) > 1:

@@ -173,7 +173,7 @@ class Check:
         return self.sheet.rows[at + 1:]
 
     def see_problems(self, first: int) -> None:
-        """Adds what only a workbook has, from the row of the header on."""
+        """Adds what only an Excel file has, from the row of the header on."""
         names = {place: column for column, place in self.columns.items()}
         for number, place, text, is_error in self.sheet.problems:
             if number >= first and (place in names or place is None):

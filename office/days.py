@@ -9,7 +9,7 @@ FIRST, LAST = (
 )
 # so long a family has to answer an offer, and as long again to answer the reminder of it
 NOTICE = datetime.timedelta(days=RULES["limits"]["notice"]["least"])
-# a day of deletion is kept only if it is so far ahead, so that whoever runs the machine can object
+# a day of deletion is kept only if it is so far ahead, so that IT support can object
 DELETION_NOTICE = datetime.timedelta(days=14)
 # before the closing date; primary applications are made from 1 September on, and it closes on
 # 15 January

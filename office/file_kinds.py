@@ -12,8 +12,8 @@ SIGNATURES = (
     (b"\xff\xd8\xff", "a picture"),
     (b"GIF8", "a picture"),
     (b"\x1f\x8b", "a compressed file"),
-    (b"PK\x03\x04", "a workbook, or another archive"),
-    (b"\xd0\xcf\x11\xe0", "a workbook of the older kind (.xls), or one with a password"),
+    (b"PK\x03\x04", "an Excel file, or another archive"),
+    (b"\xd0\xcf\x11\xe0", "an Excel file of the older kind (.xls), or one with a password"),
     (b"\xff\xfe", "a text in UTF-16"),
     (b"\xfe\xff", "a text in UTF-16"),
 )

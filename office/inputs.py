@@ -11,7 +11,7 @@ MB = 1_000_000
 MOST_BYTES, MOST_UNPACKED, MOST_PARTS = 8 * MB, 16 * MB, 1_000
 MOST_ROWS, MOST_COLUMNS, MOST_CELLS, MOST_TEXT = 25_000, 250, 250_000, 32_767
 MOST_MERGED = 10_000
-# the cells of a workbook with those that have formats alone; no spreadsheet has more in a row
+# the cells of an Excel file with those that have formats alone; no spreadsheet has more in a row
 MOST_FORMATTED, MOST_IN_ROW = 1_000_000, 16_384
 # a register at its limits has far less
 MOST_REGISTER_BYTES = 1_000 * MB

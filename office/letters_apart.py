@@ -132,7 +132,7 @@ def whole(parts: list[str], path: str, title: str, running: Running | None = Non
 def merge(
     rows: Sequence[Sequence[Cell]], purpose: str, path: str, running: Running | None = None,
 ) -> None:
-    """Makes the workbook of a mail merge: all cells are texts."""
+    """Makes the Excel file of a mail merge: all cells are texts."""
     cells = [["" if it is None else str(it) for it in row] for row in rows]
     ran({"what": "merge", "cells": cells, "purpose": purpose, "path": path}, {}, running)
 
@@ -284,7 +284,7 @@ def join(asked: dict[str, Any]) -> dict[str, Any]:
 
 
 def write_merge(asked: dict[str, Any]) -> dict[str, Any]:
-    """Writes the workbook of a mail merge."""
+    """Writes the Excel file of a mail merge."""
     page = Page("letters", asked["purpose"], asked["cells"], {}, True)
     with open(asked["path"], "xb") as file:
         file.write(book.data([page], asked["purpose"]))

@@ -42,4 +42,4 @@ def missing(module: str | None) -> str:
 
 def missing_for_officer(module: str | None) -> str:
     """The same for an officer, who installs nothing."""
-    return f"tell whoever maintains the system: {missing(module)}"
+    return f"tell IT support: {missing(module)}"

@@ -209,7 +209,7 @@ class Filled:
 
 
 def data(is_workbook: bool, pairs: Sequence[Pair], draw: int | None = None) -> bytes:
-    """The sheet for the supervisor: a workbook or a CSV. Where there are several draws, with the
+    """The sheet for the supervisor: an Excel file or a CSV. Where there are several draws, with the
     number of this one in each row.
     """
     header = [*([DRAW] if draw else []), "school", "child", "lot"]

@@ -1,5 +1,5 @@
-"""Sheets as an office has them: CSV or a workbook, read into rows of texts with the numbers that a
-spreadsheet shows; and CSV, written."""
+"""Sheets as an office has them: CSV or an Excel file, read into rows of texts with the numbers that
+a spreadsheet shows; and CSV, written."""
 import csv
 import dataclasses
 import datetime
@@ -19,7 +19,7 @@ from . import file_kinds, inputs
 SEPARATORS = {",": "commas", ";": "semicolons", "\t": "tabs"}
 SPACE = "http://schemas.openxmlformats.org/spreadsheetml/2006/main"
 MAIN, ROW, CELL = f"{{{SPACE}}}", f"{SPACE} row", f"{SPACE} c"
-# the mark of each part in a workbook's list of its parts
+# the mark of each part in an Excel file's list of its parts
 PART = b"PK\x01\x02"
 # a row, the place of a column or None, a sentence, and whether it is an error
 Problem = tuple[int, int | None, str, bool]
@@ -36,7 +36,7 @@ class Row:
 @dataclasses.dataclass
 class Sheet:
     """The rows of a sheet that have anything, what had to be changed to read them, each as a
-    sentence, and problems that only a workbook has."""
+    sentence, and problems that only an Excel file has."""
 
     rows: list[Row]
     changes: list[str]
@@ -53,12 +53,12 @@ def of_bytes(name: str, data: bytes, sheet: str | None, advice: str) -> Sheet:
         with inputs.within(f"reading {name}"):
             return workbook(name, data, sheet, advice)
     if data.startswith(b"\xd0\xcf\x11\xe0"):
-        kind = "a workbook of the older kind (.xls) or has a password"
+        kind = "an Excel file of the older kind (.xls) or has a password"
         raise Refused(f"{name} is {kind}: save it as .xlsx or as CSV UTF-8")
     if not data.startswith((b"\xff\xfe", b"\xfe\xff")) and (said := file_kinds.of_bytes(data)):
         raise Refused(f"{name} is {said}: a CSV or an .xlsx is needed")
     if sheet is not None:
-        raise Refused(f"{name} is no workbook: leave the field Sheet empty")
+        raise Refused(f"{name} is no Excel file: leave the field Sheet empty")
     return text_sheet(name, data)
 
 
@@ -155,7 +155,7 @@ def within_limits(
 
 
 def text_of(value: object) -> str:
-    """A cell of a workbook as a text: a whole number without a point, a day as YYYY-MM-DD."""
+    """A cell of an Excel file as a text: a whole number without a point, a day as YYYY-MM-DD."""
     if value is None:
         return ""
     if isinstance(value, bool):
@@ -171,12 +171,12 @@ def text_of(value: object) -> str:
 
 
 def workbook(name: str, data: bytes, wanted: str | None, advice: str) -> Sheet:
-    """The sheet of a workbook: the only one that has anything, or the one that was named."""
+    """The sheet of an Excel file: the only one that has anything, or the one that was named."""
     try:
         import openpyxl
     except ImportError as error:
         how = "apt-get install python3-openpyxl, or save it as CSV UTF-8"
-        said = f"a workbook is read by python3-openpyxl, which is not here: {how}"
+        said = f"an Excel file is read by python3-openpyxl, which is not here: {how}"
         raise Refused(said) from error
     try:
         see_parts(name, data)
@@ -194,18 +194,18 @@ def workbook(name: str, data: bytes, wanted: str | None, advice: str) -> Sheet:
         # (what openpyxl says names its own classes; it raises whatever comes of a file that no
         # spreadsheet wrote)
         how = "open it in a spreadsheet and save it again as .xlsx, or as CSV UTF-8"
-        raise Refused(f"{name} is no workbook that can be read: {how}") from error
+        raise Refused(f"{name} is no Excel file that can be read: {how}") from error
 
 
 def see_parts(name: str, data: bytes) -> None:
-    """Refuses a workbook that is too large once it is unpacked. No part can be longer than the
-    workbook says: the reading of it ends there. A part of any name may be one that is read."""
+    """Refuses an Excel file that is too large once it is unpacked. No part can be longer than the
+    Excel file says: the reading of it ends there. A part of any name may be one that is read."""
     if data.count(PART) > inputs.MOST_PARTS:
-        raise Refused(f"{name} is no workbook: it has over {inputs.MOST_PARTS:,} parts")
+        raise Refused(f"{name} is no Excel file: it has over {inputs.MOST_PARTS:,} parts")
     with zipfile.ZipFile(io.BytesIO(data)) as parts:
         size = sum(it.file_size for it in parts.infolist())
         if size > inputs.MOST_UNPACKED:
-            most = f"a workbook has at most {inputs.MOST_UNPACKED // inputs.MB} MB here"
+            most = f"an Excel file has at most {inputs.MOST_UNPACKED // inputs.MB} MB here"
             said = f"is too large once it is unpacked, {size // inputs.MB:,} MB: {most}"
             raise Refused(f"{name} {said}; delete the empty rows below the data")
         cells = Cells(name)
@@ -215,8 +215,8 @@ def see_parts(name: str, data: bytes) -> None:
 
 
 class Cells:
-    """Counts the cells of a workbook, those without a value too, each of which takes memory as it
-    is read.
+    """Counts the cells of an Excel file, those without a value too, each of which takes memory as
+    it is read.
     """
 
     def __init__(self, name: str) -> None:
@@ -239,15 +239,15 @@ class Cells:
             self.total += 1
             self.in_row += 1
             if self.total > inputs.MOST_FORMATTED or self.in_row > inputs.MOST_IN_ROW:
-                most = (f"a workbook has at most {inputs.MOST_FORMATTED:,} here, and"
+                most = (f"an Excel file has at most {inputs.MOST_FORMATTED:,} here, and"
                         f" {inputs.MOST_IN_ROW:,} in a row, with those that are empty")
                 raise Refused(f"{self.name} has too many cells: {most}; delete the empty rows and"
                               " columns beside the data")
 
 
 def load(openpyxl: ModuleType, data: bytes) -> Any:
-    """A workbook whose rows are read one after another, with the values of its formulas. openpyxl
-    warns of styles and extensions that it leaves out, and they have no data."""
+    """An Excel file whose rows are read one after another, with the values of its formulas.
+    openpyxl warns of styles and extensions that it leaves out, and they have no data."""
     with warnings.catch_warnings():
         warnings.simplefilter("ignore")
         book = openpyxl.load_workbook(io.BytesIO(data), read_only=True, data_only=True)
@@ -258,7 +258,7 @@ def load(openpyxl: ModuleType, data: bytes) -> Any:
 
 
 def rows_of(page: Any) -> Iterator[list[str]]:
-    """The rows of a sheet of a workbook from the first one on, each up to its last cell."""
+    """The rows of a sheet of an Excel file from the first one on, each up to its last cell."""
     with warnings.catch_warnings():
         warnings.simplefilter("ignore")
         for cells in page.iter_rows(values_only=True):
@@ -266,7 +266,7 @@ def rows_of(page: Any) -> Iterator[list[str]]:
 
 
 def sheet_of(name: str, page: Any) -> Sheet:
-    """A sheet of a workbook, with what is wrong in its form."""
+    """A sheet of an Excel file, with what is wrong in its form."""
     found = Sheet([], [], is_workbook=True)
     keep(name, found, enumerate(rows_of(page), 1))
     for row in found.rows:

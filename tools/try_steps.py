@@ -208,7 +208,7 @@ class Making:
         officer.post("/answers/several", {"pasted": "\n".join([titles, *rows])})
         digest = field(officer.get("/answers/").text, "digest")
         officer.post("/answers/record", {"digest": digest})
-        officer.waited("/answers/", "The pile is being recorded")
+        officer.waited("/answers/", "The batch is being recorded")
 
     def drawn(self, name: str, step: str) -> None:
         """A button of the draw, and what follows by itself."""

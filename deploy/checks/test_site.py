@@ -498,7 +498,7 @@ def test_a_body_of_one_byte_more_is_refused(
 
 
 def test_a_body_that_is_longer_than_what_a_head_may_be_is_done(world: World) -> None:
-    """As a workbook, or many rows, is."""
+    """As an Excel file, or many rows, is."""
     rows = HEAD + "".join(f"1,Row,0,700,no,,,2025-06-02,{'B' * 12}\n" for _ in range(1000))
     answer = world.ask("/import", "robot", rows, kind="text/csv")
     assert len(rows) > 20_000

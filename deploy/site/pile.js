@@ -27,7 +27,7 @@ form.addEventListener("submit", (event) => {
   body.set("entry", entry);
   open.push(entry);
   keep();
-  adding = adding.then(() => add(entry, body)).catch(() => refuse(entry, "Look whether the pile has it already."))
+  adding = adding.then(() => add(entry, body)).catch(() => refuse(entry, "Look whether the batch has it already."))
     .finally(() => { open.shift(); keep(); });
 });
 
@@ -51,7 +51,7 @@ document.addEventListener("submit", (event) => {
   const button = event.submitter;
   adding.then(() => {
     if (sent.id === "record") {
-      status.replaceChildren(paragraph("answer", "info", "Nothing was recorded yet: the pile now has what you typed meanwhile. Look at it, and press Record once more."));
+      status.replaceChildren(paragraph("answer", "info", "Nothing was recorded yet: the batch now has what you typed meanwhile. Look at it, and press Record once more."));
     } else if (button instanceof HTMLButtonElement && button.isConnected) button.form?.requestSubmit(button);
   });
 });

@@ -13,7 +13,7 @@ SHEET_ML = "application/vnd.openxmlformats-officedocument.spreadsheetml"
 
 
 def row_of(number: int, cells: list[str]) -> str:
-    """A row of a workbook as XML."""
+    """A row of an Excel file as XML."""
     texts = (
         f'<c r="{chr(65 + at)}{number}" t="inlineStr"><is><t>{it}</t></is></c>'
         for at, it in enumerate(cells)
@@ -35,7 +35,9 @@ def workbook(
     more: dict[str, str] | None = None,
     types: str = "</Types>",
 ) -> None:
-    """A workbook of one sheet with these rows. `types` ends the list of the kinds of its parts."""
+    """An Excel file of one sheet with these rows. `types` ends the list of the kinds of its
+    parts.
+    """
     parts = {
         "[Content_Types].xml": (
             f'<Types xmlns="{PACKAGE}/content-types"><Default Extension="rels"'
@@ -97,7 +99,7 @@ SHEETS: dict[str, tuple[Callable[[pathlib.Path], object], str]] = {
     "blanks.xlsx": (
         lambda it: workbook(it, GOOD, " " * 500_000_000),
         (
-            "blanks.xlsx is too large once it is unpacked, 500 MB: a workbook has at most 16 MB"
+            "blanks.xlsx is too large once it is unpacked, 500 MB: an Excel file has at most 16 MB"
             " here; delete the empty rows below the data"
         ),
     ),
@@ -126,7 +128,7 @@ SHEETS: dict[str, tuple[Callable[[pathlib.Path], object], str]] = {
     ),
     "parts.xlsx": (
         lambda it: workbook(it, GOOD, more={f"xl/a{at}.bin": "" for at in range(2_000)}),
-        "parts.xlsx is no workbook: it has over 1,000 parts",
+        "parts.xlsx is no Excel file: it has over 1,000 parts",
     ),
     "columns.csv": (
         text("a," * 1_000_000 + "\n"),

@@ -43,7 +43,7 @@ def in_room(made: Callable[[pathlib.Path], object]) -> bytes:
 
 
 def part_of(document: str) -> bytes:
-    """A workbook whose sheet is this document."""
+    """An Excel file whose sheet is this document."""
     book = in_room(lambda it: hostile.workbook(it, hostile.GOOD))
     with zipfile.ZipFile(io.BytesIO(book)) as file:
         parts = {it: file.read(it) for it in file.namelist()}
@@ -51,14 +51,14 @@ def part_of(document: str) -> bytes:
 
 
 def with_entities(entities: str, use: str) -> bytes:
-    """A workbook whose sheet declares entities and uses one."""
+    """An Excel file whose sheet declares entities and uses one."""
     cell = hostile.row_of(3, ["1", use])
     return part_of(f"<!DOCTYPE worksheet [{entities}]><worksheet {hostile.MAIN}><sheetData>"
                    f"{hostile.GOOD}{cell}</sheetData></worksheet>")
 
 
 def bombs() -> Kinds:
-    """Archives and workbooks that are far larger than they seem."""
+    """Archives and Excel files that are far larger than they seem."""
     blank = zlib.compressobj()
     million = blank.compress(b"0" * 60_000_000) + blank.flush()
     inner = zipped({f"{at}.zip": zipped({"x.csv": b"a," * 4_000_000}) for at in range(4)})

@@ -157,7 +157,7 @@ def formulas_of_csv(text: str) -> list[str]:
 
 
 def formulas_of(data: bytes) -> list[str]:
-    """The formulas of a workbook."""
+    """The formulas of an Excel file."""
     book = openpyxl.load_workbook(io.BytesIO(data))
     return [str(cell.value) for sheet in book for row in sheet.iter_rows() for cell in row
             if cell.data_type == "f"]

@@ -1,4 +1,4 @@
-"""A register with offers in tests, and the pile of answers as a person works with it."""
+"""A register with offers in tests, and the batch of answers as a person works with it."""
 from typing import Any
 
 from applications import SCHOOLS, Browser, Site, child
@@ -37,13 +37,13 @@ def shown(browser: Browser) -> Page:
 
 
 def pile(page: Page) -> list[list[str]]:
-    """The rows of the pile, without what changes them; the last entry is the first."""
-    name = next((it for it in page.tables if it.startswith("The pile:")), None)
+    """The rows of the batch, without what changes them; the last entry is the first."""
+    name = next((it for it in page.tables if it.startswith("The batch:")), None)
     return [row[:6] for row in page.tables[name][1:]] if name else []
 
 
 def record(browser: Browser, page: Page, button: str) -> Any:
-    """Records a pile: its button, and the one below the question. What came of the second."""
+    """Records a batch: its button, and the one below the question. What came of the second."""
     question = Page(press(browser, PAGE, page, button).text)
     confirm = next(it for it in question.buttons() if it.startswith(button))
     return press(browser, PAGE, question, confirm)

@@ -106,7 +106,7 @@ def raised(lived: Room) -> Pressed:
 
 
 def pile(lived: Room) -> Pressed:
-    """A pile whose child has answered otherwise meanwhile."""
+    """A batch whose child has answered otherwise meanwhile."""
     jane, olga = two(lived)
     jane.get("/answers/").press("Add", {"entry": "4-"})
     jane.press("Record ")

@@ -30,7 +30,7 @@ def has(hand: Hand, begin: str) -> bool:
 
 
 def to_answers(lived: Room) -> None:
-    """Three answers are in a pile, and shown."""
+    """Three answers are in a batch, and shown."""
     jane = lived.person("jane")
     for it in ("5", "6-", "13"):
         jane.get("/answers/").press("Add", {"entry": it})
@@ -38,7 +38,7 @@ def to_answers(lived: Room) -> None:
 
 
 def answers_go_on(lived: Room) -> None:
-    """What waits in the pile is recorded."""
+    """What waits in the batch is recorded."""
     jane = lived.person("jane").get("/answers/")
     if has(jane, "Record "):
         jane.press("Record ").press("Record ")

@@ -168,8 +168,8 @@ def lines_of(document: dict[str, Any]) -> list[str]:
 
 
 def file_lines(data: bytes) -> list[str]:
-    """What a file has: the names of an archive, the cells of a workbook, the text of a PDF, or it
-    as it is.
+    """What a file has: the names of an archive, the cells of an Excel file, the text of a PDF, or
+    it as it is.
     """
     if data.startswith(b"%PDF"):
         text = subprocess.run(["pdftotext", "-layout", "-", "-"], input=data, capture_output=True,

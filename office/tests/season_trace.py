@@ -135,7 +135,7 @@ def close_for_draw(hal: Hand) -> None:
 
 
 def lots_of_workbook(sheet: bytes) -> bytes:
-    """The workbook of lots, filled for those pairs that only a lot can separate: they are first.
+    """The Excel file of lots, filled for those pairs that only a lot can separate: they are first.
     """
     book = openpyxl.load_workbook(io.BytesIO(sheet))
     page = book.active
@@ -148,7 +148,7 @@ def lots_of_workbook(sheet: bytes) -> bytes:
 
 
 def seal(sup: Hand, page: int, seed: str, by_workbook: bool = False, types: bool = False) -> None:
-    """The supervisor has lots by a workbook, and types or draws the others, and seals them."""
+    """The supervisor has lots by an Excel file, and types or draws the others, and seals them."""
     if by_workbook:
         sheet = sup.file(f"/lots/{page}/sheet.xlsx")
         sup.get(f"/lots/{page}").press("Take the lots of the file", files={
@@ -171,7 +171,7 @@ def held(lived: Room, page: int, second: str) -> None:
 
 
 def first_round(lived: Room, trace: Trace) -> None:
-    """A round, whose lots come in a workbook and by a seed."""
+    """A round, whose lots come in an Excel file and by a seed."""
     begin_draw(lived.person("hal"), 1, kind="round", day="3 March 2025")
     seal(lived.person("sup"), 1, "05 17 23 31 44 48", by_workbook=True)
     trace.file("sealed.txt of draw 1", lived.person("sup").file("/lots/1/sealed.txt"))
@@ -225,7 +225,7 @@ def first_letters(lived: Room, trace: Trace) -> None:
 
 
 def record_answers(hand: Hand) -> None:
-    """The pile is recorded."""
+    """The batch is recorded."""
     hand.get("/answers/").press("Record ").press("Record ")
 
 
@@ -236,10 +236,10 @@ def answers(lived: Room, _: Trace) -> None:
         jane.get("/answers/").press("Add", {"entry": it})
     jane.press("Remove Sam Reed")
     record_answers(jane)
-    olga.get("/answers/").press("Add to the pile", {"pasted": (
+    olga.get("/answers/").press("Add to the batch", {"pasted": (
         "8,Farid Khan,ELM,decline\n9,Grace Hill,YEW,accept")})
     record_answers(olga)
-    jane.get("/answers/").press("Add to the pile", {"pasted": ""}, {
+    jane.get("/answers/").press("Add to the batch", {"pasted": ""}, {
         "sheet": ("answers.csv", b"child,name,school,answer\n10,Huw Ellis,YEW,yes\n")})
     record_answers(jane)
 

@@ -177,7 +177,7 @@ def test_an_import_and_changes_of_a_row_are_found_by_the_child(office: Site) -> 
 def test_many_entries_have_pages_and_an_order(
     office: Site, monkeypatch: pytest.MonkeyPatch
 ) -> None:
-    """By the links of the table; a workbook has all of them, and who takes it is on record."""
+    """By the links of the table; an Excel file has all of them, and who takes it is on record."""
     rita = office.browser("rita", "officer")
     monkeypatch.setattr(activity, "SHOWN", 2)
     page = Page(rita.get("/activity/?who=bo").text)

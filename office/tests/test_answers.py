@@ -1,4 +1,4 @@
-"""The pile of answers in the application: what is typed, uploaded or pasted, and recorded."""
+"""The batch of answers in the application: what is typed, uploaded or pasted, and recorded."""
 import io
 import pathlib
 import threading
@@ -71,7 +71,8 @@ def test_an_entry_is_a_number_or_a_name(office: Site) -> None:
     jane = office.browser("jane")
     page = enter(jane, "11", "12-", "cole", "O'Dare -", "ada", "nobody", "13 Cyd Cole")
     assert pile(page) == [
-        ["13 Cyd Cole", "13", "Cyd <b>Cole</b>", "accept", "A", "the pile has this answer already"],
+        ["13 Cyd Cole", "13", "Cyd <b>Cole</b>", "accept", "A",
+         "the batch has this answer already"],
         ["nobody", "", "", "accept", "", "0 children have names like it: enter the number"],
         ["ada", "", "", "accept", "", "2 children have names like it: enter the number"],
         ["O'Dare -", "14", "Dai O'Dare", "decline", "B", ""],
@@ -88,7 +89,7 @@ def test_an_entry_is_a_number_or_a_name(office: Site) -> None:
 def test_an_entry_that_is_not_added_stays_in_its_field(
     office: Site, monkeypatch: pytest.MonkeyPatch
 ) -> None:
-    """A pile that is full takes no more, and what was typed is there."""
+    """A batch that is full takes no more, and what was typed is there."""
     jane = office.browser("jane")
     jane.get(PAGE)
     monkeypatch.setattr(piles, "MOST", 0)
@@ -103,7 +104,7 @@ def test_declines_are_confirmed_by_name(office: Site) -> None:
     jane = office.browser("jane")
     page = enter(jane, "11", "12-", "13-")
     office.parts.desk.send(Person("bo", "officer"), {"cmd": "accept", "child": 12, "school": "B"})
-    # (the pile was read after it, so that 12 is in conflict, and is added again)
+    # (the batch was read after it, so that 12 is in conflict, and is added again)
     press(jane, PAGE, shown(jane), "Remove 12-")
     page = enter(jane, "12-")
     before = len(sent(office))
@@ -148,11 +149,12 @@ def test_accepts_are_confirmed_by_name(office: Site) -> None:
 
 
 def test_a_question_about_a_pile_has_an_address(office: Site) -> None:
-    """So that the way back in a browser sends no form again. Of a pile that changed, it shows none.
+    """So that the way back in a browser sends no form again. Of a batch that changed, it shows
+    none.
     """
     jane = office.browser("jane")
     page = enter(jane, "11", "12-")
-    for button in ("Record 2 answers", "Remove all 2 from the pile"):
+    for button in ("Record 2 answers", "Remove all 2 from the batch"):
         assert page.form(button).method == "get"
     question = press(jane, PAGE, page, "Record 2 answers")
     again = jane.get(question.request.full_path)
@@ -177,15 +179,15 @@ def test_conflicts_are_named_and_not_sent(office: Site) -> None:
         "21-": "there is no offer to answer: The child has a place at Beta by a plan.",
         "41": "there is no offer to answer: The child has no place.",
         "9999999": "the register has no child 9999999",
-        "11": "the pile has another answer for this child",
-        "11-": "the pile has another answer for this child", "12": ""}
+        "11": "the batch has another answer for this child",
+        "11-": "the batch has another answer for this child", "12": ""}
     before = len(sent(office))
     record(jane, page, "Record 1 answer")
     assert sent(office)[before:] == [{"cmd": "accept", "child": 12, "school": "B"}]
     assert len(pile(shown(jane))) == 6
     press(jane, PAGE, shown(jane), "Remove 11-")
     assert "Record 1 answer" in shown(jane).buttons()
-    page = Page(press(jane, PAGE, shown(jane), "Remove all 5 from the pile").text)
+    page = Page(press(jane, PAGE, shown(jane), "Remove all 5 from the batch").text)
     press(jane, f"{PAGE}remove", page, "Remove 5 answers")
     assert pile(shown(jane)) == [] and len(recorded(shown(jane))) == 1
     press(jane, PAGE, shown(jane), "Clear this list")
@@ -197,7 +199,7 @@ def test_all_of_a_pile_is_removed_after_a_question(office: Site) -> None:
     """
     jane = office.browser("jane")
     page = enter(jane, "11", "12-")
-    question = Page(press(jane, PAGE, page, "Remove all 2 from the pile").text)
+    question = Page(press(jane, PAGE, page, "Remove all 2 from the batch").text)
     assert len(pile(shown(jane))) == 2
     assert " ".join(question.by_id["removed"].split()) == (
         "11: accept Ada Abel 12-: decline Ben Bell")
@@ -210,18 +212,18 @@ def test_all_of_a_pile_is_removed_after_a_question(office: Site) -> None:
 
 
 def test_what_a_colleague_did_meanwhile_is_named(office: Site) -> None:
-    """Before the pile is shown, and between that and the sending."""
+    """Before the batch is shown, and between that and the sending."""
     jane, bo = office.browser("jane"), office.browser("bo")
     page = enter(jane, "11-", "12", "13")
-    assert "jane has an answer for this child in a pile too" in pile(enter(bo, "12"))[0][5]
+    assert "jane has an answer for this child in a batch too" in pile(enter(bo, "12"))[0][5]
     record(bo, shown(bo), "Record 1 answer")
     found = press(jane, PAGE, page, "Record 3 answers")
     again = Page(found.text)
-    assert found.status_code == 409 and "The pile has changed since it was shown" in again.said()
+    assert found.status_code == 409 and "The batch has changed since it was shown" in again.said()
     row = next(it for it in pile(again) if it[0] == "12")
     assert row[5].startswith("Child 12: bo recorded accept at ")
     assert [it["child"] for it in sent(office)] == [12]
-    # while the pile is sent
+    # while the batch is sent
     desk = office.parts.desk
     kept = desk.send
 
@@ -261,7 +263,7 @@ def test_the_same_pile_is_not_recorded_twice(office: Site) -> None:
     setattr(office.parts.desk, "send", slow)
     found.record(Person("jane", "officer"), entries, 0)
     page = shown(jane)
-    assert "The pile is being recorded. 1 answer is left." in page.text
+    assert "The batch is being recorded. 1 answer is left." in page.text
     assert "Look again" in page.by_id["running"] and "refresh" not in page.text
     assert not any(it.startswith("Record ") for it in page.buttons())
     with pytest.raises(Exception, match="is being recorded already"):
@@ -272,7 +274,7 @@ def test_the_same_pile_is_not_recorded_twice(office: Site) -> None:
 
 
 def screen_piles(office: Site) -> piles.Piles:
-    """The piles of the application."""
+    """The batches of the application."""
     found: piles.Piles = office.app.extensions["piles"]
     return found
 
@@ -344,7 +346,7 @@ def test_an_application_that_ends_in_the_middle_goes_on(tmp_path: pathlib.Path) 
 
 
 def test_an_answer_that_is_lost_is_looked_up(office: Site, monkeypatch: pytest.MonkeyPatch) -> None:
-    """The pile stops there, and says later which of the two it was."""
+    """The batch stops there, and says later which of the two it was."""
     jane, desk = office.browser("jane"), office.parts.desk
     page = enter(jane, "11", "12")
     kept = desk.send
@@ -377,7 +379,7 @@ SHEETS = [
 
 
 def several(office: Site, text: str) -> dict[str, list[str]]:
-    """The pile of a person after a paste: what each row is taken for."""
+    """The batch of a person after a paste: what each row is taken for."""
     jane = office.browser("jane")
     pile_of = screen_piles(office) if "piles" in office.app.extensions else None
     if pile_of:
@@ -482,7 +484,7 @@ def test_marked_rows_are_removed_at_once(office: Site) -> None:
     assert jane.post("/answers/several", given).status_code == 303
     found = {row[0]: [row[1], row[3], row[5]] for row in pile(shown(jane))}
     assert found["12 Ben Bell accept"] == ["12", "accept", ""]
-    assert found["14 Dai O'Dare accept"][2] == "the pile has another answer for this child"
+    assert found["14 Dai O'Dare accept"][2] == "the batch has another answer for this child"
     page = shown(jane)
     assert "Record 2 answers" in page.buttons()
     question = Page(press(jane, PAGE, page, "Remove the 4 that have something against them").text)
@@ -661,7 +663,7 @@ def test_a_pile_is_shown_while_the_register_is_away(tmp_path: pathlib.Path) -> N
 
 
 def test_a_wait_has_an_end() -> None:
-    """A page that records a large pile comes back and shows how far it is."""
+    """A page that records a large batch comes back and shows how far it is."""
     assert 0 < screen.WAIT_SECONDS <= 30
 
 
@@ -701,7 +703,7 @@ def test_who_may_take_over_a_pile(office: Site) -> None:
     """An officer that of somebody who cannot record it; a head that of anybody; nobody else any."""
     jane, hal, bo = office.browser("jane"), office.browser("hal", "head"), office.browser("bo")
     enter(bo, "11")
-    assert "Piles of colleagues" not in jane.get(PAGE).text
+    assert "Batches of colleagues" not in jane.get(PAGE).text
     assert "bo has 1 answer that waits" in " ".join(shown(hal).text.split())
     for name, role in (("rea", "reader"), ("ad", "administrator"), ("sup", "supervisor")):
         other = office.browser(name, role)
@@ -721,7 +723,7 @@ def test_who_may_take_over_a_pile(office: Site) -> None:
 
 
 def test_without_a_history_no_pile_is_taken_over(office: Site) -> None:
-    """The pile stays where it is."""
+    """The batch stays where it is."""
     hal = office.browser("hal", "head")
     enter(office.browser("bo"), "11")
     page = Page(hal.get("/answers/of/bo").text)
@@ -757,7 +759,9 @@ def test_an_equal_answer_of_before_or_of_a_colleague_is_not_this_one(
 def test_what_is_recorded_fills_no_pile(
     office: Site, monkeypatch: pytest.MonkeyPatch,
 ) -> None:
-    """A pile has room for the answers that wait; the last of those that are recorded are listed."""
+    """A batch has room for the answers that wait; the last of those that are recorded are
+    listed.
+    """
     monkeypatch.setattr(piles, "MOST", 3)
     monkeypatch.setattr(screen, "MOST_RECORDED", 2)
     jane = office.browser("jane")
@@ -769,13 +773,13 @@ def test_what_is_recorded_fills_no_pile(
     found = jane.post(PAGE, {"entry": "17"})
     assert found.status_code == 409 and "at most 3 answers" in Page(found.text).said()
     counted = office.parts.end.counts()
-    assert counted["answers that wait in piles"] == 3
+    assert counted["answers that wait in batches"] == 3
 
 
 def test_a_copy_is_made_before_plans_are_recorded(
     office: Site, monkeypatch: pytest.MonkeyPatch,
 ) -> None:
-    """By the pile, as a plan is final; without a copy nothing of it is recorded. Not for answers.
+    """By the batch, as a plan is final; without a copy nothing of it is recorded. Not for answers.
     """
     jane = office.browser("jane")
     record(jane, enter(jane, "11"), "Record 1 answer")

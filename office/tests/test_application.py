@@ -561,9 +561,9 @@ def test_a_person_with_a_pile_is_not_removed(office: Site) -> None:
     jane, hal = office.browser("jane"), office.browser("hal", "head")
     assert jane.post("/answers/", {"entry": "1"}).status_code == 303
     found = hal.change(what="remove", name="jane")
-    assert found.status_code == 409 and "1 answer in a pile" in Page(found.text).said()
+    assert found.status_code == 409 and "1 answer in a batch" in Page(found.text).said()
     # (nor by an answer that is added between the question and the removal)
-    with pytest.raises(Refused, match="1 answer in a pile"):
+    with pytest.raises(Refused, match="1 answer in a batch"):
         office.parts.people.remove("jane")
     assert len(office.parts.store.rows("SELECT 1 FROM answer WHERE person='jane'")) == 1
     question = Page(jane.get("/answers/remove?number=all").text)

@@ -166,7 +166,7 @@ def typed(column: str, value: str) -> object:
     return value or None
 
 
-# what workbooks alone can have: a day with a time, a number with a fraction, a day in place of
+# what Excel files alone can have: a day with a time, a number with a fraction, a day in place of
 # flags, an error, a truth value, a text of a number
 SPECIAL: dict[str, object] = {
     "day": datetime.datetime(2024, 10, 3, 14, 30), "north": 10.25,
@@ -176,7 +176,7 @@ SPECIAL: dict[str, object] = {
 
 
 def saved(book: Any) -> bytes:
-    """A workbook as it is saved."""
+    """An Excel file as it is saved."""
     out = io.BytesIO()
     book.save(out)
     return out.getvalue()
@@ -188,7 +188,7 @@ def test_sixty_faults_of_a_workbook(town: Path) -> None:
     page = book.active
     page.append(COLUMNS)
     for row in rows:
-        # (no workbook can hold a control character)
+        # (no Excel file can hold a control character)
         page.append([typed(it, row[it].replace("\x07", "\n")) for it in COLUMNS])
     for at, (column, value) in enumerate(SPECIAL.items()):
         number = page.max_row + 1

@@ -213,7 +213,7 @@ def test_a_record_on_which_something_rests_stays(office: Site, address: str) -> 
 
 
 def sheet(rows: list[list[Any]]) -> io.BytesIO:
-    """A workbook."""
+    """An Excel file."""
     book, out = openpyxl.Workbook(), io.BytesIO()
     for row in rows:
         book.active.append(row)

@@ -124,7 +124,7 @@ def test_what_failed_is_said_without_a_path_or_a_name_of_the_program(
             found = office.make(office.add(letters_sets.WAITS))
         assert found.state == letters_sets.FAILED and found.said.startswith(said), found.said
         assert "/" not in found.said and "Error" not in found.said and "17" not in found.said
-        assert found.said.endswith("ell whoever maintains it")
+        assert found.said.endswith("ell IT support")
         assert type(error).__name__ in caplog.text
 
 

@@ -63,7 +63,7 @@ def test_charts(hide: Callable[[str], None]) -> None:
     with pytest.raises(ImportError) as error:
         charts.new_figure(1, 1)
     assert libraries.missing_for_officer(error.value.name) == (
-        "tell whoever maintains the system: charts need the Debian package python3-matplotlib,"
+        "tell IT support: charts need the Debian package python3-matplotlib,"
         f" {HOW}")
 
 
@@ -81,7 +81,7 @@ def test_letters(monkeypatch: pytest.MonkeyPatch, tmp_path: pathlib.Path) -> Non
     hidden = f"import sys; sys.modules['weasyprint'] = None; {letters_apart.BEGIN}"
     monkeypatch.setattr(letters_apart, "BEGIN", hidden)
     path = tmp_path / "letters.pdf"
-    with pytest.raises(Refused, match="^tell whoever maintains the system: a PDF needs the Debian"
+    with pytest.raises(Refused, match="^tell IT support: a PDF needs the Debian"
                        f" package weasyprint, {HOW}$"):
         letters_apart.again(Source("letter", "", {}), ["<p>text"], Form(), str(path))
     assert not path.exists()
@@ -90,7 +90,7 @@ def test_letters(monkeypatch: pytest.MonkeyPatch, tmp_path: pathlib.Path) -> Non
 def test_points(hide: Callable[[str], None]) -> None:
     """A gazetteer with degrees is refused; degrees in the place of metres are still found."""
     hide("pyproj")
-    said = "^tell whoever maintains the system: latitudes and longitudes need the Debian package"
+    said = "^tell IT support: latitudes and longitudes need the Debian package"
     with pytest.raises(Refused, match=f"{said} python3-pyproj, {HOW}$"):
         points.grid_of([52.0], [-1.0])
     assert points.degrees_in({"east": "52.0", "north": "-1.0"}) == (

@@ -1,5 +1,5 @@
-"""The lists on the screen, in a workbook and as CSV: which rows, columns and order somebody chooses
-by an address, and the views that a person saves. What is expected is worked out by hand.
+"""The lists on the screen, in an Excel file and as CSV: which rows, columns and order somebody
+chooses by an address, and the views that a person saves. What is expected is worked out by hand.
 """
 import csv
 import datetime
@@ -190,7 +190,7 @@ def test_what_a_list_does_not_have_is_said_at_its_field(
 
 
 def test_the_files_have_what_is_chosen(browser: Browser) -> None:
-    """A cell of the workbook is a text or a number, never a formula; the CSV has what keeps a
+    """A cell of the Excel file is a text or a number, never a formula; the CSV has what keeps a
     spreadsheet from taking it for one.
     """
     chosen = "state=none&order=name&down=yes&column=child&column=name"
@@ -348,7 +348,7 @@ def test_words_are_those_of_the_command(browser: Browser) -> None:
 
 
 def piled(office: Site, who: str) -> list[tuple[Any, ...]]:
-    """What is in the pile of somebody."""
+    """What is in the batch of somebody."""
     rows = office.parts.store.rows(
         "SELECT child, school, kind, trouble FROM answer WHERE person=? ORDER BY number", who)
     return [tuple(it) for it in rows]

@@ -353,7 +353,7 @@ def test_an_offer_that_changed_since_it_was_shown_is_not_withdrawn(
 
 
 def test_who_may_have_answered_is_not_ticked_at_first(office: Site) -> None:
-    """An answer in a pile, by its number or by a name alone; 'Tick all' has them too."""
+    """An answer in a batch, by its number or by a name alone; 'Tick all' has them too."""
     jane, bo = office.browser("jane"), office.browser("bo")
     bo.get("/answers/")
     assert bo.post("/answers/", {"entry": "2"}).status_code == 303
@@ -395,7 +395,9 @@ def away() -> Any:
 def test_an_offer_is_not_withdrawn_while_its_answer_waits_in_a_pile(
     office: Site, address: str, monkeypatch: pytest.MonkeyPatch,
 ) -> None:
-    """Nobody is ticked; each row says what to look at; and the piles are read again at the end."""
+    """Nobody is ticked; each row says what to look at; and the batches are read again at the
+    end.
+    """
     beside(office, address, [
         {"cmd": "remind", "child": it, "school": "ELM", "day": "2025-03-18"} for it in (2, 3, 4)])
     jane, bo = office.browser("jane"), office.browser("bo")
@@ -407,7 +409,7 @@ def test_an_offer_is_not_withdrawn_while_its_answer_waits_in_a_pile(
     assert not re.findall(r'name="child"[^>]* checked', page)
     assert re.findall(r'name="child" value="([0-9]+)"[^>]* checked', jane.get(
         f"{path}&tick=all").text) == ["3", "4"]
-    waits = "bo has an answer for this child in a pile (decline)"
+    waits = "bo has an answer for this child in a batch (decline)"
     letter = "the letter of the reminder of 18 March 2025 is not recorded as sent"
     assert page.count(waits) == 1 and page.count(letter) == 3
     assert re.search(r'value="2"[^>]* disabled', page)
@@ -434,13 +436,13 @@ def test_an_offer_is_not_withdrawn_while_its_answer_waits_in_a_pile(
 
     monkeypatch.setattr(office.parts.copies, "make", meanwhile)
     row = confirmed(jane, question)
-    assert "bo has an answer for this child in a pile (accept). Nothing was recorded." in jane.get(
+    assert "bo has an answer for this child in a batch (accept). Nothing was recorded." in jane.get(
         row.location).text
     assert {2, 3, 4} <= set(office.parts.desk.now().places)
 
 
 def test_an_answer_that_may_be_of_a_child_is_said_beside_it(office: Site) -> None:
-    """One of which a pile has the name alone; and what an answer is, in words."""
+    """One of which a batch has the name alone; and what an answer is, in words."""
     office.add("bo", "officer")
     with office.parts.store.writing() as db:
         db.executemany(
@@ -449,8 +451,8 @@ def test_an_answer_that_may_be_of_a_child_is_said_beside_it(office: Site) -> Non
             [("accept", None, NAMES[2], "waits"), ("leave_list", 3, "", "waits"),
              ("accept", None, NAMES[1], "done"), ("accept", 4, "", "done")])
     marks = Marks(office.parts.store, office.parts.history, office.parts.desk.now())
-    assert marks.of(2) == ("bo has an answer in a pile that may be of this child",)
-    assert marks.of(3) == ("bo has an answer for this child in a pile (leave the list)",)
+    assert marks.of(2) == ("bo has an answer in a batch that may be of this child",)
+    assert marks.of(3) == ("bo has an answer for this child in a batch (leave the list)",)
     assert marks.of(1) == marks.of(4) == ()
 
 
@@ -539,7 +541,7 @@ def test_an_answer_that_is_not_understood_is_named_so(tmp_path: pathlib.Path) ->
         with office.parts.store.writing() as db:
             db.execute("INSERT INTO answer (person, typed, kind, child, school, name, seen, state,"
                        " said, after) VALUES ('bo', '2 x', '', 2, '', '', '', 'waits', '', 0)")
-        said = "bo has an answer for this child in a pile (not understood)"
+        said = "bo has an answer for this child in a batch (not understood)"
         assert found.kept(notices.LAPSE) == {2: said} and found.kept(notices.REMIND) == {}
         found.see_none_kept(notices.REMIND, [1, 2])
         with pytest.raises(Refused, match=re.escape(f"child 2: {said}. Nothing was recorded")):

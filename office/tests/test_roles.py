@@ -255,7 +255,7 @@ def test_heads_of_schools_see_a_round_from_its_day_on_and_audited(
 
 
 def test_the_head_of_a_school_sees_no_other(office: Site) -> None:
-    """Neither its page, nor its workbook, nor, as a program, its list."""
+    """Neither its page, nor its Excel file, nor, as a program, its list."""
     browser, program = office.browser("alpha", SCHOOL), office.program("of.alpha", SCHOOL)
     for get, path in ((browser.get, "/schools/{}"), (browser.get, "/schools/{}/workbook"),
                       (program.get, "/school/{}/waiting")):
@@ -266,7 +266,7 @@ def test_the_head_of_a_school_sees_no_other(office: Site) -> None:
 
 
 def words_in(data: bytes) -> str:
-    """The text of a response: of an archive or a workbook that of its parts."""
+    """The text of a response: of an archive or an Excel file that of its parts."""
     if not data.startswith(b"PK"):
         return data.decode("utf-8", "replace")
     with zipfile.ZipFile(io.BytesIO(data)) as parts:

@@ -122,7 +122,7 @@ def test_what_is_open_is_read_before_the_last_copy(
             db.execute("INSERT INTO school_draft (cells) VALUES ('{}')")
         register = office.parts.desk.now()
         found = season_end.still_open(office.parts, register, office.parts.end.today())
-        assert [(it.title, it.said) for it in found if it.title != "Answers in piles"] == [
+        assert [(it.title, it.said) for it in found if it.title != "Answers in batches"] == [
             ("Offers without an answer", "3 offers"),
             ("Waiting lists", "3 waiting, and 0 places vacant; the lists end on 31 December 2025"),
             ("Schools that are not stored", "1 school")]
@@ -250,7 +250,7 @@ def test_a_season_is_ended(small: Machine, monkeypatch: pytest.MonkeyPatch) -> N
 
 def see_days(office: Site, head: Person) -> None:
     """The day is typed, with a reason; the lists are over then, and the notice is kept."""
-    soonest = "Whoever runs the machine must have time to object: choose 24 January 2026"
+    soonest = "IT support must have time to object: choose 24 January 2026"
     for day, reason, said in (
         ("x", WHY, "a day as 31 January 2027"), ("31/12/2025", WHY, "The lists end on 31 December"),
         ("23/1/2026", WHY, soonest), ("24/1/2026", "", "Say why, in 1 to 300 characters"),

@@ -17,12 +17,12 @@ test of their own elsewhere are named here too, so that this is the whole list.
 | A reload, or another screen, with a form half typed | here; deploy/site/tests/kept.test.js |
 | A session that ends with a form half typed | test_application |
 | An import that was sent when the application ended | test_staging: a crash |
-| A reload while a pile is being recorded, or one press more | test_answers: not recorded twice |
+| A reload while a batch is being recorded, or one press more | test_answers: not recorded twice |
 | Save of one row with others half typed | test_staging: all rows of a page |
 | Two officers at the same rows | test_staging: two officers |
 | An empty or a wrong file | here; test_staging, test_schools, test_answers |
 | More children than a register takes | test_staging: the table has a limit |
-| A pile of somebody who has left | test_answers |
+| A batch of somebody who has left | test_answers |
 | A head of a school who opens the office's address | here; test_schools |
 | A name with a slip, typed into Find | here |
 | A day in the order of another country | test_child, test_staging: days of a file |
@@ -66,7 +66,7 @@ def kind(office: Site, child: int) -> str | None:
 
 
 def emptied(office: Site, name: str) -> Any:
-    """A browser of somebody whose pile is empty."""
+    """A browser of somebody whose batch is empty."""
     found = office.browser(name)
     piles = office.app.extensions.get("piles")
     if piles:
@@ -139,7 +139,7 @@ def test_what_was_typed_into_the_day_is_said_at_the_day(office: Site) -> None:
 
 
 def test_an_accept_of_another_child_is_taken_back_before_it_is_recorded(office: Site) -> None:
-    """The pile shows whom each answer is of, and keeps it until it is recorded by a press."""
+    """The batch shows whom each answer is of, and keeps it until it is recorded by a press."""
     jane = emptied(office, "jane")
     page = enter(jane, "17", "18")
     assert [it[2] for it in pile(page)] == ["Child Number18", "Child Number17"]

@@ -70,7 +70,7 @@ def over_http(office: Site) -> Iterator[str]:
 
 
 def fill(office: Site) -> None:
-    """Rows of which some are wrong, a pile with a conflict, a locked colleague; and a draw."""
+    """Rows of which some are wrong, a batch with a conflict, a locked colleague; and a draw."""
     hal = office.browser("hal", "head")
     for name, day, schools in (("Mo Marsh", "20/10/2024", "A"), ("Nia North", "21/10/2024", "B"),
                                ("Half Typed", "20/10/2024", "A")):

@@ -1,5 +1,6 @@
-"""What a typed entry and the rows of a pasted text or a workbook of answers mean: columns are read
-by titles, or by what is in them. What is not understood is marked, and no answer is taken for it.
+"""What a typed entry and the rows of a pasted text or an Excel file of answers mean: columns are
+read by titles, or by what is in them. What is not understood is marked, and no answer is taken for
+it.
 """
 import dataclasses
 import re

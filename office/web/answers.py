@@ -1,5 +1,5 @@
-"""Answers of families as they are kept in piles: which child and school each means, and what speaks
-against it.
+"""Answers of families as they are kept in batches: which child and school each means, and what
+speaks against it.
 """
 import dataclasses
 import functools
@@ -18,7 +18,7 @@ MOST_TYPED = 200
 DIGITS = re.compile(r"[0-9]+")
 # so many children are named where a name is that of several
 MOST_NAMED = 8
-# of a child that was put into a pile from a list
+# of a child that was put into a batch from a list
 NO_ANSWER_YET = "no answer yet"
 
 
@@ -43,7 +43,7 @@ class Meant:
 
 @dataclasses.dataclass(frozen=True)
 class Entry:
-    """An entry of a pile: what it means; what was seen of its child when it was added; and what
+    """An entry of a batch: what it means; what was seen of its child when it was added; and what
     came of it: waits, sending or done, with a sentence, after so many entries of the history.
     """
 
@@ -107,7 +107,7 @@ def with_school(register: Register, meant: Meant) -> Meant:
 
 
 def unanswered(register: Register, child: int, school: str) -> list[Meant]:
-    """A child of a list in a pile, whose answer is still to be given: to its offer, or about the
+    """A child of a list in a batch, whose answer is still to be given: to its offer, or about the
     waiting list of a school; about each of those where it waits, if no school is given.
     """
     name = register.children[child].name
@@ -153,7 +153,7 @@ def words_of(name: str) -> list[str]:
 
 def conflicts(desk: Desk, names: Names, entry: Entry, others: Iterable[Entry]) -> list[str]:
     """What speaks against an entry, so that it is not sent. `others` are the other entries of its
-    pile for the same child.
+    batch for the same child.
     """
     meant, register = entry.meant, names.register
     found = [meant.trouble]
@@ -185,14 +185,14 @@ def of_others(entry: Entry, others: Iterable[Entry]) -> str:
         if is_list and it.meant.school != entry.meant.school:
             continue
         if (it.meant.kind, it.meant.school) != (entry.meant.kind, entry.meant.school):
-            return "the pile has another answer for this child"
+            return "the batch has another answer for this child"
         # (a row that is marked is not recorded, and so none that comes once more)
         if it.command is not None and it.number < entry.number:
-            return "the pile has this answer already"
+            return "the batch has this answer already"
     return ""
 
 
 def by_colleagues(entry: Entry, others: Mapping[int, str]) -> str:
-    """Who else has an answer for the child in a pile, or ""."""
+    """Who else has an answer for the child in a batch, or ""."""
     who = others.get(entry.meant.child or 0)
-    return f"{who} has an answer for this child in a pile too" if who else ""
+    return f"{who} has an answer for this child in a batch too" if who else ""

@@ -31,7 +31,7 @@ SCREENS = (
     figures, copies, restores, people, activity, season_end, register, help, answers_of,
     health,
 )
-# the largest body: a workbook
+# the largest body: an Excel file
 MOST_BYTES = 16 << 20
 # so many objects are made between two looks for garbage among them: a page of a long list makes
 # tens of thousands, nearly all of which end without one

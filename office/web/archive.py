@@ -71,7 +71,7 @@ def folder_of(parts: Parts) -> pathlib.Path:
 
 
 def lists_of(register: Register, day: datetime.date) -> bytes:
-    """All lists as a workbook."""
+    """All lists as an Excel file."""
     title = f"Admission {register.year} {register.phase}, last copy"
     return book.data(worklists.pages(register, day), title)
 
@@ -214,7 +214,7 @@ def content(parts: Parts, copy: int, day: datetime.date) -> Iterator[tuple[str, 
     yield "register.db", "the register: the last copy, for the program", path.read_bytes()
     yield ("register.json", "the same as JSON, which no program is needed to read",
            register.source.shown())
-    yield "lists.xlsx", f"all lists on {day.isoformat()}, as a workbook", lists_of(register, day)
+    yield "lists.xlsx", f"all lists on {day.isoformat()}, as an Excel file", lists_of(register, day)
     if pages := list(draws_of(register)):
         title = f"Admission {register.year} {register.phase}, draws"
         yield ("draws.xlsx", "of each draw its lots, its result and whom it moved",

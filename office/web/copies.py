@@ -266,12 +266,12 @@ class Copies:
             end = self.clock() + BEGIN_SECONDS
             while request.exists():
                 if self.clock() > end and self.is_taken_back(request):
-                    raise Refused("the machine has not answered: tell whoever maintains it")
+                    raise Refused("the machine has not answered: tell IT support")
                 time.sleep(PAUSE)
             self.wait(what, lambda: not self.is_begun(what))
             found = read(answer)
         if not is_answer(found, number):
-            raise Refused("the machine could not answer: tell whoever maintains it")
+            raise Refused("the machine could not answer: tell IT support")
         if "error" in found:
             raise Refused(ERRORS.get(str(found["error"]), plain.said(str(found.get("why", "")))))
         return found
@@ -298,7 +298,7 @@ class Copies:
         while not is_so():
             if self.clock() > end:
                 raise Refused(f"the machine has begun a {what} and not ended it: nothing else can"
-                              " be asked of it now. Tell whoever maintains it")
+                              " be asked of it now. Tell IT support")
             time.sleep(PAUSE)
 
     def put(self, path: pathlib.Path, text: str) -> None:

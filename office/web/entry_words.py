@@ -34,7 +34,7 @@ COMMANDS = {
     "apply": (CHILDREN, "Recorded an application of {day}[ for {child}]"),
     "add_child": (CHILDREN, "Added the child[ {child}]"),
     "amend": (CHILDREN, "Corrected the details[ of {child}]"),
-    "add_school": (SCHOOLS, "Added the school {name} ({school})"),
+    "add_school": (SCHOOLS, "Added the school {name}"),
     "raise_pan": (SCHOOLS, "Raised the admission number of {school} to {pan}"),
     "round": (ROUNDS, "Held a round of {day}"),
     "fill": (ROUNDS, "Offered a place at {school} from the waiting list, on {day}"),
@@ -157,8 +157,8 @@ UNSHOWN = {
 }
 LABELS = {
     "agreed": "Agreed to", "asked": "Page", "by": "By", "for": "For", "of": "Of", "line": "Line",
-    "point": "Home", "why": "Reason", "wrong": "Wrong", "done_at": "Done on the machine",
-    "before": "Before",
+    "pairs": "Lots", "point": "Home", "why": "Reason", "wrong": "Wrong",
+    "done_at": "Done on the machine", "before": "Before",
 }
 # the steps that have the same values before and after them
 PAIRS = {"named flags": ("before", "words"), "changed the draft of schools": ("before", "now")}

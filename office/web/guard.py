@@ -69,7 +69,7 @@ NOBODY = threading.Lock()
 ENDED = ("Your session has ended, and nothing was done. Sign in again, and then send once more what"
          " you typed: it is below.")
 BROKEN = ("Something went wrong in the application. Look whether what you sent is done, before you"
-          " send it again; and tell whoever maintains it.")
+          " send it again; and tell IT support.")
 EARLIER = ("This page was opened by another person, or before your password was changed, and"
            " nothing was done. What you typed is below: read it, and send it again if it still"
            " holds.")

@@ -1,11 +1,11 @@
-"""Whose pile of answers may be taken over, and by whom."""
+"""Whose batch of answers may be taken over, and by whom."""
 from .people import PEOPLE, RECORD, Person
 from .piles import Piles
 from .store import Store
 
 
 def why_away(store: Store, owner: str) -> str:
-    """Why somebody cannot record a pile, or ""."""
+    """Why somebody cannot record a batch, or ""."""
     row = store.row("SELECT role, is_locked FROM person WHERE name=?", owner)
     if row is None:
         return "is not here any more"
@@ -15,7 +15,7 @@ def why_away(store: Store, owner: str) -> str:
 
 
 def may_take(store: Store, who: Person, owner: str) -> bool:
-    """Whether somebody may take over the pile of another: of one who cannot record it; or, as head
+    """Whether somebody may take over the batch of another: of one who cannot record it; or, as head
     of the office, of anybody.
     """
     return who.name != owner and who.may(RECORD) and (
@@ -23,7 +23,7 @@ def may_take(store: Store, who: Person, owner: str) -> bool:
 
 
 def takeable(piles: Piles, who: Person) -> list[tuple[str, int, str]]:
-    """The piles that somebody may take over: whose, how many answers, and why."""
+    """The batches that somebody may take over: whose, how many answers, and why."""
     return [(owner, many, why_away(piles.store, owner))
             for owner, many in piles.waiting(who.name).items()
             if may_take(piles.store, who, owner)]

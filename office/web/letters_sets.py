@@ -47,7 +47,7 @@ SNAPSHOT = "letters.json"
 # the folder of the sets, and the one beside it that has what people previewed
 FOLDER, PREVIEWS = "letters", "previews"
 ENDED_BEFORE = "these letters were ended"
-BROKEN = "something went wrong in the application. Tell whoever maintains it"
+BROKEN = "something went wrong in the application. Tell IT support"
 
 
 class Twice(Refused):
@@ -221,7 +221,7 @@ class Sets:
             most = MOST_BYTES // inputs.MB
             raise Refused(f"the files of letters have more than {most} MB: remove some first")
         if shutil.disk_usage(self.folder).free < LEAST_FREE:
-            raise Refused("the disk of this machine is nearly full: tell whoever maintains it")
+            raise Refused("the disk of this machine is nearly full: tell IT support")
 
     def end(self, who: Person, number: int, standing: str) -> None:
         """Ends a set that is not made yet, or removes the file of one that is, as it was seen: of
@@ -477,7 +477,7 @@ class Sets:
                 [(found.number, *it[:4], zlib.compress(it[4].encode())) for it in rows])
 
     def write_merge(self, found: Set, rows: list[list[str]]) -> None:
-        """Writes the workbook of a mail merge: all cells are texts."""
+        """Writes the Excel file of a mail merge: all cells are texts."""
         made = [letter_fields.of_text(it[0]) for it in rows]
         lengths = range(1, max(len(it[3:]) for it in rows) + 1)
         addresses = {one.child: [*it[3:], *[""] * (len(lengths) - len(it[3:]))]

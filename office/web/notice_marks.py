@@ -1,5 +1,5 @@
 """What is said beside a child on the list of reminders or withdrawals: looked after, an answer that
-waits in a pile, and a reminder whose letter is not recorded as sent.
+waits in a batch, and a reminder whose letter is not recorded as sent.
 """
 import datetime
 
@@ -17,10 +17,10 @@ UNREAD = "Nothing was recorded: read what looks wrong, and say that it is right.
 
 
 def waiting(store: Store) -> dict[int, str]:
-    """The children whose answer waits in a pile, with whose it is and which."""
+    """The children whose answer waits in a batch, with whose it is and which."""
     rows = store.rows("SELECT child, person, kind FROM answer WHERE state<>? AND child IS NOT NULL"
                       " ORDER BY number", DONE)
-    return {it["child"]: f"{it['person']} has an answer for this child in a pile"
+    return {it["child"]: f"{it['person']} has an answer for this child in a batch"
             f" ({ANSWERS[it['kind']] if it['kind'] else 'not understood'})" for it in rows}
 
 
@@ -34,11 +34,11 @@ class Marks:
         names = answers.Names(register)
         for it in store.rows("SELECT person, name FROM answer WHERE state<>? AND child IS NULL",
                              DONE):
-            self.possible |= {child: f"{it['person']} has an answer in a pile that may be of this"
+            self.possible |= {child: f"{it['person']} has an answer in a batch that may be of this"
                               " child" for child in names.matches(it["name"])}
 
     def answered(self, child: int) -> str:
-        """Why an answer of a child may wait in a pile, or ""."""
+        """Why an answer of a child may wait in a batch, or ""."""
         return self.waiting.get(child, "") or self.possible.get(child, "")
 
     def of(self, child: int) -> tuple[str, ...]:

@@ -211,12 +211,12 @@ class People:
         return secret
 
     def see_removable(self, name: str) -> None:
-        """Refuses to remove a person whose answers wait in a pile, and would be gone with them."""
+        """Refuses to remove a person whose answers wait in a batch, and would be gone with them."""
         found = self.store.row(
             "SELECT count(*) AS many FROM answer WHERE person=? AND state<>'done'", name)
         if found and found["many"]:
             have = texts.count(found["many"], "answer")
-            raise Refused(f"{name} has {have} in a pile that nobody has recorded, which would be"
+            raise Refused(f"{name} has {have} in a batch that nobody has recorded, which would be"
                           f" lost: whoever records answers takes them over first, on the screen"
                           f" Answers. {name} can be locked")
 

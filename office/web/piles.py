@@ -1,5 +1,5 @@
-"""Piles of answers, one for each person: kept until they are recorded or removed, and recorded one
-after another.
+"""Batches of answers, one for each person: kept until they are recorded or removed, and recorded
+one after another.
 """
 import dataclasses
 import hashlib
@@ -25,7 +25,7 @@ from .wording import sentence
 
 WAITS, SENDING, DONE = "waits", "sending", "done"
 BEFORE_PLANS = "before EHC plans are recorded"
-# a pile of a season, and more than a person types in a day
+# a batch of a season, and more than a person types in a day
 MOST = 2000
 FIELDS = ("person", "typed", "kind", "child", "school", "name", "trouble", "seen", "state", "said",
           "after")
@@ -67,15 +67,15 @@ def digest(entries: Iterable[Entry]) -> str:
 
 
 def see_size(db: sqlite3.Connection, person: str) -> None:
-    """Refuses a pile that is too large."""
+    """Refuses a batch that is too large."""
     count = db.execute("SELECT count(*) FROM answer WHERE person=? AND state<>?",
                        (person, DONE)).fetchone()
     if count[0] > MOST:
-        raise Refused(f"a pile has at most {MOST:,} answers: record those that are there")
+        raise Refused(f"a batch has at most {MOST:,} answers: record those that are there")
 
 
 class Piles:
-    """The piles of one application, and which of them are being recorded."""
+    """The batches of one application, and which of them are being recorded."""
 
     def __init__(self, store: Store, desk: Desk, copies: Copies) -> None:
         self.store, self.desk, self.copies = store, desk, copies
@@ -167,13 +167,13 @@ class Piles:
                      tuple(answers.answers_to(names.register, entry)))
 
     def left_of(self, person: str) -> int:
-        """How many answers wait in the pile of a person."""
+        """How many answers wait in the batch of a person."""
         row = self.store.row("SELECT count(*) AS many FROM answer WHERE person=? AND state<>?",
                              person, DONE)
         return int(row["many"]) if row else 0
 
     def waiting(self, person: str) -> dict[str, int]:
-        """How many answers wait in the piles of others, by whose they are."""
+        """How many answers wait in the batches of others, by whose they are."""
         rows = self.store.rows("SELECT person, count(*) AS many FROM answer WHERE person<>?"
                                " AND state<>? GROUP BY person ORDER BY person", person, DONE)
         return {row["person"]: row["many"] for row in rows}
@@ -186,11 +186,11 @@ class Piles:
                 "UPDATE answer SET person=? WHERE person=? AND number=? AND state=?",
                 [(to, owner, it, WAITS) for it in numbers]).rowcount
             if moved != len(numbers):
-                raise Refused("the pile has changed since it was shown")
+                raise Refused("the batch has changed since it was shown")
             see_size(db, to)
 
     def is_running(self, person: str) -> bool:
-        """Whether the pile of a person is being recorded."""
+        """Whether the batch of a person is being recorded."""
         with self.lock:
             thread = self.running.get(person)
             return thread is not None and thread.is_alive()
@@ -200,7 +200,7 @@ class Piles:
         with self.lock:
             present = self.running.get(who.name)
             if present is not None and present.is_alive():
-                raise Refused("this pile is being recorded already")
+                raise Refused("this batch is being recorded already")
             thread = threading.Thread(target=self.send_all, args=(who, entries), daemon=True)
             self.running[who.name] = thread
             thread.start()

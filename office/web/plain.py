@@ -14,7 +14,7 @@ STORE = {
     "unable to open database file": "its files cannot be opened",
     "disk I/O error": "its disk does not answer",
 }
-ADVICE = "Tell whoever maintains it"
+ADVICE = "Tell IT support"
 
 
 def said(text: str) -> str:

@@ -41,7 +41,7 @@ DAY, DELETE = "deletion-day", "delete"
 SET_DAY, DELETED_SEASON = "set the day of deletion", "deleted the season"
 # what is counted by a name of its own before it is deleted, by its table
 CALLED = {
-    "staged_row": "rows of files of applications", "answer": "answers that wait in piles",
+    "staged_row": "rows of files of applications", "answer": "answers that wait in batches",
     "note": "notes of children", "child_file": "files of children", "letter": "letters",
     "letter_template": "templates of letters", "notice": "reminders and withdrawals",
     "lot": "lots that were typed or sealed", "figures": "figures that were made",
@@ -144,7 +144,7 @@ def in_progress(parts: Parts) -> list[Open]:
 def drafts(parts: Parts) -> list[Open]:
     """What somebody has begun in the application and not ended."""
     counted = (
-        ("Answers in piles", "SELECT count(*) FROM answer WHERE state<>?", (DONE,), "answer",
+        ("Answers in batches", "SELECT count(*) FROM answer WHERE state<>?", (DONE,), "answer",
          "answers.show"),
         ("Applications that are not stored",
          "SELECT count(*) FROM staged_row WHERE state IN (?, ?)", (OPEN, SENDING), "row",
@@ -298,7 +298,7 @@ class SeasonEnd:
                                  " day")
             soonest = self.today() + days.DELETION_NOTICE
             if day < soonest:
-                raise WrongField("day", "whoever runs the machine must have time to object: choose"
+                raise WrongField("day", "IT support must have time to object: choose"
                                  f" {days.in_words(soonest)} or a later day")
             see_line("reason", reason, "why")
             entry = self.parts.history.add(who.name, SET_DAY, {

@@ -24,7 +24,7 @@ MOST_SECONDS = 600
 # so many are kept, and those before them are forgotten
 KEPT = 10
 WAIT = "wait for its end, or end it"
-BROKEN = "the trial did not come to its end: tell whoever maintains the system"
+BROKEN = "the trial did not come to its end: tell IT support"
 SCHOOL_HEAD = ("school", "name", "admission number", "tried", "offers", "would be", "would gain",
                "would lose", "last offered", "would be last")
 CRITERION_HEAD = ("school", "children", "would gain", "would lose")
@@ -177,7 +177,7 @@ def asked_for(before: Register, after: Register | None, given: list[Line],
 
 
 def workbook(run: Run, found: Found) -> bytes:
-    """A trial as a workbook."""
+    """A trial as an Excel file."""
     pages = [
         Page("summary", "what was tried", [["summary"], *([it] for it in found.summary)]),
         sheet("schools", "schools where anything would be different", SCHOOL_HEAD, found.schools),
@@ -189,10 +189,10 @@ def workbook(run: Run, found: Found) -> bytes:
 
 
 def sheet(name: str, purpose: str, head: tuple[str, ...], rows: list[trial.Cells]) -> Page:
-    """A sheet of a workbook."""
+    """A sheet of an Excel file."""
     return Page(name, purpose, [list(head), *([value(it) for it in row] for row in rows)])
 
 
 def value(cell: object) -> Value:
-    """A cell of a table as a workbook has it."""
+    """A cell of a table as an Excel file has it."""
     return cell if isinstance(cell, int) or cell is None else str(cell)

@@ -26,7 +26,7 @@ REGISTER = b"SQLite format 3\0"
 # the only address that takes more than all others: for a file, and what a form has beside it
 LARGE, MOST_LARGE = "/applications/gazetteer/file", gazetteer_rows.MOST_BYTES + (1 << 16)
 # a form has a field for each child of a set of letters, and some more. Each costs some
-# microseconds, and a body of the size of a workbook could have millions
+# microseconds, and a body of the size of an Excel file could have millions
 FORM, MOST_FIELDS = "application/x-www-form-urlencoded", 30_000
 # somebody who is not signed in sends a name and a password, or what was typed in a session that
 # has ended
@@ -93,7 +93,7 @@ def bytes_of(given: FileStorage | None) -> bytes:
 
 
 def rows_of(given: FileStorage | None) -> list[Row]:
-    """The rows of an uploaded workbook or CSV."""
+    """The rows of an uploaded Excel file or CSV."""
     data = bytes_of(given)
     if len(data) > inputs.MOST_BYTES:
         most = f"a file has at most {inputs.MOST_BYTES // inputs.MB} MB here"

@@ -1,5 +1,5 @@
-"""Families' answers: typed by number and Enter into the pile, and recorded at once, by the keyboard
-alone.
+"""Families' answers: typed by number and Enter into the batch, and recorded at once, by the
+keyboard alone.
 """
 import random
 from collections.abc import Sequence
@@ -36,13 +36,13 @@ def recorded(office: Office, school: str) -> None:
     hal.press("Record answers")
     before = report.counts.keys
     typed(office, children, declined)
-    pile = {row[1]: row for row in hal.captioned("The pile")}
+    pile = {row[1]: row for row in hal.captioned("The batch")}
     for it in children:
         row = pile.get(str(it), [""] * 6)
         what = "decline" if it in declined else "accept"
         report.same(row[2:6], [season.children[it].name, what, season.places[it], ""],
-                    f"the answer of child {it} in the pile")
-    # (the button of the whole pile is in the head of the screen, right before the field)
+                    f"the answer of child {it} in the batch")
+    # (the button of the whole batch is in the head of the screen, right before the field)
     hal.press_by_keys(f"Record {ANSWERS} answers", Keys.SHIFT)
     hal.look("Answers, the question")
     hal.see(f"{len(declined)} of them are final:")
@@ -70,5 +70,5 @@ def typed(office: Office, children: Sequence[int], declined: set[int]) -> None:
     hal = office.people[HAL]
     for it in children:
         hal.type(f"{it}-\n" if it in declined else f"{it}\n")
-    until(lambda: hal.has(f"Record {ANSWERS} answers"), "the pile has all answers")
-    hal.look("Answers, a pile")
+    until(lambda: hal.has(f"Record {ANSWERS} answers"), "the batch has all answers")
+    hal.look("Answers, a batch")

@@ -1,5 +1,5 @@
-"""Applications from a workbook: what is wrong in it is corrected at its cells, and all are stored;
-and plans.
+"""Applications from an Excel file: what is wrong in it is corrected at its cells, and all are
+stored; and plans.
 """
 from typing import Any
 
@@ -16,14 +16,14 @@ AT_ONCE = 2
 
 
 def from_workbook(office: Office) -> None:
-    """The workbook is added, and what is wrong is named at its cells."""
+    """The Excel file is added, and what is wrong is named at its cells."""
     report, hal = office.report, office.people[HAL]
     given = list(office.season.children.values())
-    report.step("applications from a workbook, with ten that have an error")
+    report.step("applications from an Excel file, with ten that have an error")
     path = office.folder / "applications.xlsx"
     town.write(path, town.COLUMNS, town.rows(given))
-    hal.see("Add workbooks (.xlsx) or CSV files")
-    hal.choose("Add workbooks (.xlsx) or CSV files", path)
+    hal.see("Add Excel files (.xlsx) or CSV files")
+    hal.choose("Add Excel files (.xlsx) or CSV files", path)
     hal.see(f"applications.xlsx is added: {len(given) + 1} rows.")
     hal.look("Applications, with errors")
     report.see(hal.driver.execute_script(
@@ -164,7 +164,9 @@ def wanted_of(child: Child) -> dict[str, Any]:
 
 
 def plans(office: Office) -> None:
-    """Two plans, typed as a column into the pile, and recorded after a question that names them."""
+    """Two plans, typed as a column into the batch, and recorded after a question that names
+    them.
+    """
     report, hal, season = office.report, office.people[HAL], office.season
     report.step("two plans are recorded")
     children = list(season.children.values())
@@ -173,7 +175,7 @@ def plans(office: Office) -> None:
     hal.press("Record EHC plans")
     hal.tab_to("A column of numbers or names, or rows as 23 Bo Bell ELM decline")
     hal.type("\n".join(f"plan,{it.number},{school},{it.name}" for it, school in named))
-    hal.press("Add to the pile")
+    hal.press("Add to the batch")
     hal.press("Record 2 answers")
     hal.see("2 of them are final:")
     for it, school in named:

@@ -37,8 +37,8 @@ def first_sign_in(office: Office) -> None:
 
 
 def schools(office: Office) -> None:
-    """The schools from a workbook: shown whole, and stored."""
-    office.report.step("schools from a workbook")
+    """The schools from an Excel file: shown whole, and stored."""
+    office.report.step("schools from an Excel file")
     jane, path = office.jane, office.folder / "schools.xlsx"
     town.write_schools(path)
     jane.choose("Sheet", path)

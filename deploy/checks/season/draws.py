@@ -22,7 +22,7 @@ AGREED = "I have read what looks wrong above, and it is right"
 @dataclasses.dataclass(frozen=True)
 class Draw:
     """A draw: its first number; its day; the seed of the lots that decide nothing; the school and
-    the number of fills, or a round; and whether the other lots come in a workbook.
+    the number of fills, or a round; and whether the other lots come in an Excel file.
     """
 
     first: int
@@ -195,7 +195,7 @@ def sealed(office: Office, draw: Draw, lots: Lots) -> None:
 
 def by_workbook(office: Office, sup: Hands, draw: Draw, lots: dict[Pair, int]) -> None:
     """The sheet of the screen is filled in a spreadsheet, and taken."""
-    sup.press("a workbook", is_new=False)
+    sup.press("an Excel file", is_new=False)
     path = office.downloads(SUP) / f"lots-{draw.first}.xlsx"
     until(path.exists, "the sheet of lots")
     office.report.same(town.fill_lots(path, lots), len(lots), "pairs of the sheet with a lot")

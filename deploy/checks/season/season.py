@@ -53,7 +53,7 @@ def ready(office: Office) -> None:
 
 
 def first_round(office: Office) -> None:
-    """The first round, whose lots come in a workbook and by a seed."""
+    """The first round, whose lots come in an Excel file and by a seed."""
     draws.held(office, Draw(1, office.offer_day, "05 17 23 31 44 48", is_workbook=True))
 
 
@@ -136,7 +136,7 @@ STEPS: tuple[tuple[Callable[[Office], None], int], ...] = (
     # the row that is withdrawn
     (applications.corrected, 1),
     (applications.stored, 2),
-    # the screen, the pile, the question, and its answer
+    # the screen, the batch, the question, and its answer
     (applications.plans, 4),
     # for the head of the office the screen, the close and the draw; for the officer the draw and
     # the confirmation; for the supervisor the lots, the seal, and the sheet and its file

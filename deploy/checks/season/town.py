@@ -1,5 +1,5 @@
-"""The town of the season: its schools, its children and the workbooks of the office, with ten rows
-in which something is wrong.
+"""The town of the season: its schools, its children and the Excel files of the office, with ten
+rows in which something is wrong.
 """
 import dataclasses
 import datetime
@@ -33,8 +33,8 @@ LATE = (5, 9)
 
 @dataclasses.dataclass(frozen=True)
 class Fault:
-    """A cell of the office's workbook in which something is wrong, and what the screen must say of
-    it.
+    """A cell of the office's Excel file in which something is wrong, and what the screen must say
+    of it.
     """
 
     column: str
@@ -126,12 +126,12 @@ def wrong_rows(given: list[Child]) -> list[tuple[Child, Fault]]:
 
 
 def doubled(given: list[Child]) -> Child:
-    """The child that is in the workbook twice, the second time with another home."""
+    """The child that is in the Excel file twice, the second time with another home."""
     return dataclasses.replace(given[12], east=given[12].east + 100)
 
 
 def rows(given: list[Child]) -> list[dict[str, Any]]:
-    """The rows of the office's workbook, with all that is wrong in them."""
+    """The rows of the office's Excel file, with all that is wrong in them."""
     found = {it.number: cells_of(it) for it in given}
     for child, fault in wrong_rows(given):
         year = child.day.year
@@ -141,7 +141,7 @@ def rows(given: list[Child]) -> list[dict[str, Any]]:
 
 
 def write(path: pathlib.Path, columns: Iterable[str], lines: Iterable[Mapping[str, Any]]) -> None:
-    """Writes a workbook of one sheet."""
+    """Writes an Excel file of one sheet."""
     book = openpyxl.Workbook()
     page = book.active
     names = list(columns)
@@ -152,7 +152,7 @@ def write(path: pathlib.Path, columns: Iterable[str], lines: Iterable[Mapping[st
 
 
 def write_schools(path: pathlib.Path) -> None:
-    """Writes the workbook of the schools."""
+    """Writes the Excel file of the schools."""
     write(path, SCHOOL_COLUMNS, (
         {"school": it.code, "name": it.name, "pan": it.pan, "east": it.east, "north": it.north,
          "criteria": ";".join(it.criteria)} for it in SCHOOLS))

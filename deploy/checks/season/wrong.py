@@ -55,7 +55,7 @@ def answered(office: Office, *children: int) -> None:
     hal.go("Offers", "Answers")
     for it in children:
         hal.type(f"{it}\n")
-    until(lambda: hal.has("Record 2 answers"), "the pile has both answers")
+    until(lambda: hal.has("Record 2 answers"), "the batch has both answers")
     hal.press("Record 2 answers")
     hal.see("2 answers are accepts.")
     hal.press("Record 2 answers")

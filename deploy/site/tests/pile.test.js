@@ -118,7 +118,7 @@ test("'Record' shows first what was typed meanwhile, and a second press records"
   await settled();
   hold = Promise.resolve();
   assert.deepEqual([again, page.said.text],
-    [0, "Nothing was recorded yet: the pile now has what you typed meanwhile. Look at it, and press Record once more."]);
+    [0, "Nothing was recorded yet: the batch now has what you typed meanwhile. Look at it, and press Record once more."]);
   assert.equal(press(record), true);
 });
 

@@ -22,7 +22,7 @@ from ..wording import NOT_A_DAY, day_of, moment
 from .schools import attachment
 
 screen = flask.Blueprint("activity", __name__, url_prefix="/activity")
-# so many entries are on a page, and in a workbook
+# so many entries are on a page, and in an Excel file
 SHOWN, MOST_IN_FILE = 100, 5000
 SECONDS = len("2025-03-17T10:00:00")
 COLUMNS: dict[str, Column[Entry]] = {
@@ -164,7 +164,7 @@ def show() -> str | tuple[str, int]:
 @screen.get("/workbook")
 @needs(NOTES)
 def workbook() -> Response:
-    """The same as a workbook."""
+    """The same as an Excel file."""
     what, register = asked(), known()
     made = tables.table(COLUMNS, [] if any(what.wrong.values()) else found_of(what, register))
     cells: list[list[Any]] = [list(HEADER)]

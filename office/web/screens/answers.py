@@ -1,4 +1,4 @@
-"""Answers of families: a pile that grows by a number or a name and Enter, by a sheet or a pasted
+"""Answers of families: a batch that grows by a number or a name and Enter, by a sheet or a pasted
 column, and is recorded at once.
 """
 import dataclasses
@@ -27,18 +27,18 @@ WAIT_SECONDS = 20.0
 MOST_PASTED = 200_000
 # so many of those that were recorded are listed, the last
 MOST_RECORDED = 50
-# what is removed from a pile at once: all of it, or what is marked
+# what is removed from a batch at once: all of it, or what is marked
 MANY = ("all", "marked")
 
 
 def all_piles() -> Piles:
-    """The piles of this application."""
+    """The batches of this application."""
     made = Piles(parts().store, parts().desk, parts().copies)
     return cast(Piles, flask.current_app.extensions.setdefault("piles", made))
 
 
 def page(said: str = "", status: int = 200, pasted: str = "", typed: str = "") -> Answer:
-    """The pile, with the field for the next answer."""
+    """The batch, with the field for the next answer."""
     who, found = person().name, all_piles()
     register: Register | None = None
     try:
@@ -68,7 +68,7 @@ def page(said: str = "", status: int = 200, pasted: str = "", typed: str = "") -
 
 
 def digest_of(shown: list[Shown]) -> str:
-    """What is shown of a pile, in short."""
+    """What is shown of a batch, in short."""
     return piles.digest(it.entry for it in shown)
 
 
@@ -124,7 +124,7 @@ def several() -> Answer:
 
 
 def entry_of_form() -> Entry | None:
-    """The entry that a button of the pile concerns."""
+    """The entry that a button of the batch concerns."""
     number = flask.request.form.get("number", "")
     return next((it for it in all_piles().of(person().name) if str(it.number) == number), None)
 
@@ -162,11 +162,11 @@ def remove_all(which: str, seen: str) -> Answer:
     if seen == digest_of(shown):
         found.remove(who, (it.entry.number for it in shown))
         return back()
-    said = "The pile has changed since it was shown. Nothing was removed: look at it again."
+    said = "The batch has changed since it was shown. Nothing was removed: look at it again."
     items = [f"{it.entry.meant.typed}: {ANSWERS[it.entry.meant.kind]} {it.name}".rstrip()
              for it in shown]
     return flask.render_template(
-        "remove_all.html", said=said if seen else "", items=items, where="pile",
+        "remove_all.html", said=said if seen else "", items=items, where="batch",
         digest=digest_of(shown), back=flask.url_for("answers.show"), which=which,
         button=f"Remove {texts.count(len(shown), 'answer')}"), 409 if seen else 200
 
@@ -199,7 +199,7 @@ def choose() -> Answer:
 @screen.get("/record")
 @needs(RECORD)
 def ask() -> Answer:
-    """The question before the pile is recorded, which names whom it concerns."""
+    """The question before the batch is recorded, which names whom it concerns."""
     register = parts().desk.now()
     ready = ready_in(register, flask.request.args.get("digest", ""))
     if isinstance(ready, str):
@@ -216,12 +216,12 @@ def ask() -> Answer:
 
 
 def ready_in(register: Register, digest: str) -> list[Shown] | str:
-    """What can be recorded of the pile, which is what was shown; or why nothing is."""
+    """What can be recorded of the batch, which is what was shown; or why nothing is."""
     found, who = all_piles(), person().name
     found.settle(who)
     ready = [it for it in found.shown(who, register) if it.is_ready]
     if digest_of(ready) != digest:
-        return ("The pile has changed since it was shown. Nothing was recorded: look at it"
+        return ("The batch has changed since it was shown. Nothing was recorded: look at it"
                 " again.")
     return ready or "There is nothing to record."
 

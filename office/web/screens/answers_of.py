@@ -1,4 +1,4 @@
-"""The pile of a colleague, who has left or cannot record it: shown whole, and taken over by a
+"""The batch of a colleague, who has left or cannot record it: shown whole, and taken over by a
 button that names whose it is.
 """
 import flask
@@ -17,7 +17,7 @@ Answer = str | Response | tuple[str, int]
 
 
 def page(owner: str, said: str = "") -> Answer:
-    """The pile of somebody."""
+    """The batch of somebody."""
     found = all_piles()
     found.settle(owner)
     register = parts().desk.register()
@@ -29,7 +29,7 @@ def page(owner: str, said: str = "") -> Answer:
 
 
 def see_owner(owner: str) -> None:
-    """Refuses a pile that is not to be taken over."""
+    """Refuses a batch that is not to be taken over."""
     if not NAME.fullmatch(owner):
         flask.abort(404)
     if not handovers.may_take(parts().store, person(), owner):
@@ -53,9 +53,9 @@ def take(owner: str) -> Answer:
     shown = found.shown(owner, parts().desk.now())
     entries = [it.entry for it in shown]
     if found.is_running(owner):
-        return page(owner, "Nothing was taken over: the pile is being recorded now.")
+        return page(owner, "Nothing was taken over: the batch is being recorded now.")
     if not shown or digest_of(shown) != flask.request.form.get("digest", ""):
-        return page(owner, "Nothing was taken over: the pile has changed since it was shown.")
+        return page(owner, "Nothing was taken over: the batch has changed since it was shown.")
     try:
         with parts().store.writing():
             found.hand_over(owner, who, entries)

@@ -1,5 +1,5 @@
-"""The lists of an office: each with its options, what of it is to be seen, on paper, as a workbook
-and as CSV; and the views that a person has saved.
+"""The lists of an office: each with its options, what of it is to be seen, on paper, as an Excel
+file and as CSV; and the views that a person has saved.
 """
 import dataclasses
 import datetime
@@ -32,7 +32,7 @@ from .schools import attachment, title_of
 screen = flask.Blueprint("lists", __name__, url_prefix="/lists")
 Answer = str | Response | tuple[str, int]
 Address = dict[str, str | list[str]]
-# the lists whose children are ticked, to be put into a pile or written to; of so many at once
+# the lists whose children are ticked, to be put into a batch or written to; of so many at once
 TICKED, MOST_TICKED, SCHOOL = ("no-answer", "unplaced", "list"), 500, "school"
 SAID = {"saved": "The view is saved.", "removed": "The view is removed."}
 
@@ -203,7 +203,7 @@ def ticks_of(found: Asked, header: list[Cell], rows: Sequence[list[Cell]]) -> li
 @screen.post("/<name>/ticked")
 @needs(READ)
 def ticked(name: str) -> Answer:
-    """Puts the children that were ticked into the pile of the person, or leads to the question of
+    """Puts the children that were ticked into the batch of the person, or leads to the question of
     their letters.
     """
     form = flask.request.form
@@ -251,7 +251,7 @@ def whole(name: str) -> Asked:
 @screen.get("/<name>/workbook")
 @needs(READ)
 def workbook(name: str) -> Response:
-    """The same as a workbook."""
+    """The same as an Excel file."""
     found = whole(name)
     pages = [Page(name, worklists.purpose(name), found.rows)]
     title = ", ".join([worklists.title(name), *found.words])

@@ -143,7 +143,7 @@ def end(number: int) -> Answer:
 @screen.get("/<int:number>/workbook")
 @needs(READ)
 def workbook(number: int) -> Response:
-    """A trial as a workbook."""
+    """A trial as an Excel file."""
     run = run_of(number)
     return attachment(trials.workbook(run, found_of(run)), f"trial-{number}")
 
