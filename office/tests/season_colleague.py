@@ -78,7 +78,7 @@ def correction(lived: Room) -> Pressed:
     jane, olga = two(lived)
     jane.get("/children/5/correct").press("Compare with the register", {"east": "701"})
     corrected(olga, 5, east="702")
-    return jane, "Correct the data of ", NOTHING
+    return jane, "Correct the details of ", NOTHING
 
 
 def correcting(lived: Room) -> Pressed:
@@ -117,7 +117,7 @@ def pile(lived: Room) -> Pressed:
 def notices(lived: Room) -> Pressed:
     """Reminders, of which one child answers meanwhile."""
     jane, olga = two(lived)
-    jane.get("/notices/remind?tick=all").press("Show what is recorded of those ticked")
+    jane.get("/notices/remind?tick=all").press("Check what is ticked")
     answered(olga, "3")
     return jane, "Record ", NOTHING
 

@@ -47,7 +47,7 @@ def answers_go_on(lived: Room) -> None:
 def to_reminders(lived: Room) -> None:
     """Reminders of all who are due are shown."""
     lived.person("jane").get("/notices/remind?tick=all").press(
-        "Show what is recorded of those ticked")
+        "Check what is ticked")
 
 
 def record(lived: Room) -> None:

@@ -151,7 +151,7 @@ def seal(sup: Hand, page: int, seed: str, by_workbook: bool = False, types: bool
     """The supervisor has lots by an Excel file, and types or draws the others, and seals them."""
     if by_workbook:
         sheet = sup.file(f"/lots/{page}/sheet.xlsx")
-        sup.get(f"/lots/{page}").press("Take the lots of the file", files={
+        sup.get(f"/lots/{page}").press("Add the lots of the file", files={
             "file": ("lots.xlsx", lots_of_workbook(sheet))})
     sup.get(f"/lots/{page}")
     if types:
@@ -181,7 +181,7 @@ def first_round(lived: Room, trace: Trace) -> None:
 def corrected(hand: Hand, child: int, **given: str) -> None:
     """The data of a child are corrected in its form."""
     hand.get(f"/children/{child}/correct").press("Compare with the register", given)
-    hand.press("Correct the data of ")
+    hand.press("Correct the details of ")
 
 
 def notes(lived: Room, trace: Trace) -> None:
@@ -220,7 +220,7 @@ def first_letters(lived: Room, trace: Trace) -> None:
     olga.press("Store ")
     page = letters(jane, trace, "letters of draw 1", whom, "pdf", "3 March 2025")
     jane.press("Record ", {"day": "3 March 2025"})
-    jane.press("Take back the record of ", {"reason": "they are not in the post yet"})
+    jane.press("Undo the record of ", {"reason": "they are not in the post yet"})
     jane.get(page).press("Record ", {"day": "4 March 2025"})
 
 
@@ -248,9 +248,9 @@ def due(lived: Room, trace: Trace, kind: str, out: str) -> None:
     """Those who are due but one are recorded, and their letters, which are made by themselves."""
     jane = lived.person("jane")
     jane.get(f"/notices/{kind}?tick=all")
-    chosen = [it for it in jane.form("Show what is recorded of those ticked").values["child"]
+    chosen = [it for it in jane.form("Check what is ticked").values["child"]
               if it != out]
-    jane.press("Show what is recorded of those ticked", {"child": chosen}).press("Record ")
+    jane.press("Check what is ticked", {"child": chosen}).press("Record ")
     found = jane.get(jane.path)
     paths = [it for it in found.page.stops if it == "take"]
     assert paths, found.last.text
@@ -334,7 +334,7 @@ def read(lived: Room, trace: Trace) -> None:
     trace.file("why of child 12", rita.file("/children/12/why/1/family/pdf"))
     jane.get("/figures/").press("Make the figures, and show them", {"round": "1"})
     trace.page(jane, jane.path)
-    taken = jane.ask("POST", *jane.sent("Take the figures of round 1 "))
+    taken = jane.ask("POST", *jane.sent("Download the figures of round 1 "))
     trace.file("figures of round 1", taken.data)
     for path in ("/children/1", "/children/12", "/schools/OAK", "/draws/1", "/draws/3", "/draws/4",
                  "/letters/sets/2"):
@@ -347,7 +347,7 @@ def archived(lived: Room, trace: Trace) -> None:
     read_field = hal.get("/season-end/").page.fields.get("read")
     hal.press("Make the last copy and the archive",
               {"read": read_field["value"]} if read_field else {})
-    taken = hal.ask("POST", *hal.sent("Take the archive", {"kept": "the records office"}))
+    taken = hal.ask("POST", *hal.sent("Download the archive", {"kept": "the records office"}))
     trace.file("names of the archive", taken.data)
     hal.get("/season-end/").press("Store the rule", {"months": "1"})
     hal.press("Set the day of deletion", {"reason": "rule of retention 4.2"})

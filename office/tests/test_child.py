@@ -380,7 +380,7 @@ def test_a_correction_shows_what_it_changes(office: Site) -> None:
         ["Flags", "2;5", "5"], ["Siblings at", "A", "A;B"], ["Present school", "PRIM7", "none"]]
     assert "The home moves by 50 km" in page.text
     assert "The present school PRIM7 is removed" in page.text and sent(office) == []
-    button = "Correct the data of =Eve \"<i>Eden</i>\""
+    button = "Correct the details of =Eve \"<i>Eden</i>\""
     assert button in page.buttons()
     other = press(bo, path, Page(bo.get(path).text), "Compare with the register", east="7")
     press(bo, path, Page(other.text), button)
@@ -418,9 +418,9 @@ def test_a_correction_keeps_what_a_colleague_corrected(office: Site, is_wrong: b
     assert question.tables["changes"][1:] == [
         ["Name", "Ada Abel", "Ada Abell"], ["Present school", "none", "PRIM7"]]
     office.record("bo", {**moved, "looked_after": True})
-    late = press(jane, path, question, "Correct the data of Ada Abel")
+    late = press(jane, path, question, "Correct the details of Ada Abel")
     assert late.status_code == 409
-    done = press(jane, path, Page(late.text), "Correct the data of Ada Abel")
+    done = press(jane, path, Page(late.text), "Correct the details of Ada Abel")
     assert done.status_code == 303
     found = office.parts.desk.now().children[1]
     assert (found.name, found.north, found.siblings, found.present, found.looked_after) == (
@@ -453,7 +453,7 @@ def test_the_question_of_a_correction_has_an_address(office: Site) -> None:
     assert jane.post(path, {"what": "anew"}).location == path
     assert "kept" not in Page(jane.get(path).text).by_id and jane.get(second).status_code == 409
     question = Page(jane.get(asked("Ada Able")).text)
-    assert press(jane, path, question, "Correct the data of Ada Abel").status_code == 303
+    assert press(jane, path, question, "Correct the details of Ada Abel").status_code == 303
     assert "kept" not in Page(jane.get(path).text).by_id
     assert asked("Ada", "look").endswith("&look=yes")
     assert office.parts.desk.now().children[1].name == "Ada Able"

@@ -163,7 +163,7 @@ def test_who_takes_the_file_is_on_record(office: Site, browser: Browser) -> None
         entry = office.parts.history.entries[-1]
         assert (entry.who, entry.what) == (name, "took figures for publication")
         assert entry.about["digest"] == digest and entry.about["number"] == number
-    assert "Taken for publication by otto" in browser.get(f"/figures/{number}").text
+    assert "Downloaded for publication by otto" in browser.get(f"/figures/{number}").text
     reader = office.browser("rita", "reader")
     assert reader.get(f"/figures/{number}").status_code == 200
     assert reader.post(f"/figures/{number}/file", {"digest": digest}).status_code == 403

@@ -154,7 +154,7 @@ def test_what_is_recorded_as_sent_is_beside_the_button(office: Site) -> None:
         assert part in page, part
     assert hidden(jane.get(path), "day") == "2025-03-03"
     found = jane.post(f"{path}/record", {"count": "2", **SENT_ON})
-    assert found.status_code == 400 and "Nobody has taken the file" in found.text
+    assert found.status_code == 400 and "Nobody has downloaded these letters" in found.text
     assert count(office, "letter_set WHERE sent IS NOT NULL") == 0
     today = datetime.date.today()
     later = (today + datetime.timedelta(days=3)).isoformat()
@@ -178,7 +178,7 @@ def test_a_record_is_taken_back_with_a_reason(office: Site) -> None:
     jane = office.browser("jane")
     path = made(jane, asked(jane, "offers", "1", child=["1", "2"]))
     record(jane, path)
-    assert "Take back the record of 2 letters of 3 March 2025" in jane.get(path).text
+    assert "Undo the record of 2 letters of 3 March 2025" in jane.get(path).text
     found = jane.post(f"{path}/take-back", {"reason": " "})
     assert found.status_code == 400 and "say why" in found.text
     assert count(office, "letter_set WHERE sent IS NOT NULL") == 1

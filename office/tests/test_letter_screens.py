@@ -273,7 +273,7 @@ def test_neither_drafts_nor_fewer_letters_are_recorded_as_sent(tmp_path: pathlib
         sets.change(1, "is_draft=0")
         with pytest.raises(Refused, match="the set has changed since it was shown"):
             sets.record(jane, 1, day, 1, False)
-        with pytest.raises(Refused, match="nobody has taken the file of these letters"):
+        with pytest.raises(Refused, match="nobody has downloaded these letters"):
             sets.record(jane, 1, day, 2, False)
         assert not sets.get(1).sent
         sets.change(1, "taken=?", "2025-03-17T10:00:00.000+00:00")
@@ -429,7 +429,7 @@ def test_a_look_at_the_head_of_a_file_takes_no_letters(office: Site) -> None:
     assert jane.client.head(f"{path}/file", base_url=ORIGIN).status_code == 200
     found = jane.post(f"{path}/record", {**SENT_ON, "count": "1"})
     assert found.status_code == 400
-    assert "Nobody has taken the file of these letters yet" in Page(found.text).said()
+    assert "Nobody has downloaded these letters yet" in Page(found.text).said()
     assert not office.parts.store.rows("SELECT 1 FROM letter_set WHERE taken IS NOT NULL")
 
 

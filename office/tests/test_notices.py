@@ -116,7 +116,7 @@ def test_the_letters_of_a_row_are_made_by_themselves(office: Site, address: str)
     jane = office.browser("jane")
     row = confirmed(jane, shown(jane, "remind", "18 March 2025", [2, 3])).location
     page = waited(jane, row)
-    place = re.search(r'href="(/letters/sets/[0-9]+)/file">Take the file: 2 letters<', page)
+    place = re.search(r'href="(/letters/sets/[0-9]+)/file">Download 2 letters<', page)
     assert place and "made, not recorded as sent" in page
     assert "reminder of 18 March 2025: 2 letters" in page
     # (they are of the day on which they were made, before which nobody can have sent them)
@@ -125,7 +125,7 @@ def test_the_letters_of_a_row_are_made_by_themselves(office: Site, address: str)
     early = jane.post(f"{path}/record", {**given, "day": "18 March 2025", "sure_of": "2025-03-18"})
     assert early.status_code == 400 and "or a later day" in early.text
     found = jane.post(f"{path}/record", given)
-    assert found.status_code == 400 and "Nobody has taken the file" in found.text
+    assert found.status_code == 400 and "Nobody has downloaded these letters" in found.text
     for number, text in zip((2, 3), letter_pages(jane, path)):
         assert NAMES[number] in text
         assert "We offered this place on 3 March 2025 and reminded you on 18 March 2025" in text
@@ -139,7 +139,7 @@ def test_the_letters_of_a_row_are_made_by_themselves(office: Site, address: str)
     beside(office, address, [{"cmd": "accept", "child": 3, "school": "ELM"}])
     row = confirmed(jane, shown(jane, "lapse", "2 April 2025", [2])).location
     page = waited(jane, row)
-    assert "Take the file: 1 letter<" in page and "withdrawal of 2 April 2025: 1 letter" in page
+    assert "Download 1 letter<" in page and "withdrawal of 2 April 2025: 1 letter" in page
     place = re.search(r'href="(/letters/sets/[0-9]+)/file"', page)
     assert place and "The place at Elm has ended" in letter_pages(jane, place[1])[0]
     seen = office.browser("rita", "reader").get(row).text

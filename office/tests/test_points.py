@@ -282,7 +282,7 @@ def test_a_child_that_is_typed_or_moves_is_looked_up(office: Site, jane: Browser
     page = Page(press(jane, "/children/7/correct", page, "Compare with the register").text)
     whence = f"from property number 300000000001, {of_day}"
     assert page.by_id["point"] == f"The new point is {whence}."
-    found = press(jane, "/children/7/correct", page, "Correct the data of Old Hand")
+    found = press(jane, "/children/7/correct", page, "Correct the details of Old Hand")
     assert found.status_code == 303
     moved = office.parts.desk.now().children[7]
     assert (moved.east, moved.north) == (432000, 210000)
@@ -293,7 +293,7 @@ def test_a_child_that_is_typed_or_moves_is_looked_up(office: Site, jane: Browser
     page = Page(press(jane, "/children/7/correct", page, "Compare with the register",
                       east="432001").text)
     assert page.by_id["point"] == "The new point is typed."
-    press(jane, "/children/7/correct", page, "Correct the data of Old Hand")
+    press(jane, "/children/7/correct", page, "Correct the details of Old Hand")
     assert Page(jane.get("/children/7").text).by_id["point"] == "The point of the home is typed."
 
 

@@ -172,12 +172,12 @@ def test_a_correction_during_a_draw_keeps_what_was_typed(
                       name="Child Numbers24").text)
     with monkeypatch.context() as patch:
         patch.setattr(office.parts.desk, "closed", lambda: "Closed for draw 2 by hal since 10:02.")
-        late = press(jane, path, page, "Correct the data of Child Number24")
+        late = press(jane, path, page, "Correct the details of Child Number24")
         kept = Page(late.text)
         assert late.status_code == 409 and "Closed for draw 2 by hal" in kept.said()
         assert not of(office, 24)
         assert ["Name", "Child Number24", "Child Numbers24"] in kept.tables["changes"]
-    assert press(jane, path, kept, "Correct the data of Child Number24").status_code == 303
+    assert press(jane, path, kept, "Correct the details of Child Number24").status_code == 303
     assert office.parts.desk.now().children[24].name == "Child Numbers24"
 
 

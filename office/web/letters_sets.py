@@ -287,7 +287,7 @@ class Sets:
             if count != found.made:
                 raise Refused("the set has changed since it was shown. Nothing was recorded")
             if not found.taken:
-                raise Refused("nobody has taken the file of these letters yet: take it, and record"
+                raise Refused("nobody has downloaded these letters yet: download them, and record"
                               " them once they are in the post")
             if (doubled := self.again(number)) and not is_agreed:
                 have = texts.count(len(doubled), "child has", "children have")

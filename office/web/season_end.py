@@ -291,7 +291,7 @@ class SeasonEnd:
         """Sets the day of deletion, which the machine keeps and compares with its own clock."""
         with self.turn(seen) as found:
             if not found.digest or not found.taken:
-                raise Refused("make the archive first, and take it to where it is kept")
+                raise Refused("make the archive first, and download it to where it is kept")
             last = self.parts.desk.now().days[2]
             if day <= last:
                 raise WrongField("day", f"the lists end on {days.in_words(last)}: choose a later"

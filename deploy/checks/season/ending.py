@@ -47,7 +47,7 @@ def figures(office: Office) -> None:
     for name, count in met.items():
         report.see(is_shown(shown.get(name, ""), count), f"{name}: {shown}, and not {count}")
     report.see(WITHHELD != shown.get(met.most_common(1)[0][0]), f"all is withheld: {shown}")
-    hal.press("Take the figures of round 1 for publication", is_new=False)
+    hal.press("Download the figures of round 1 for publication", is_new=False)
     path = file_of(office, HAL, "figures-*.html")
     hal.driver.get(path.as_uri())
     there = {row[1]: row for row in hal.captioned("Places, applications and offers")}

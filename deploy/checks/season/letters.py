@@ -107,7 +107,7 @@ def taken_and_sent(office: Office, day: datetime.date, wanted: Mapping[int, Iter
     # (where no day can be today the letters are of another one, which the field proposes)
     on = day if office.clock else datetime.date.fromisoformat(field)
     address = hal.driver.find_element(By.ID, "take").get_attribute("href") or ""
-    hal.press(f"Take the file: {count}", is_new=False)
+    hal.press(f"Download {count}", is_new=False)
     number = address.split("/")[-2]
     letters = by_child(file_of(office, HAL, f"letters-{number}.pdf"))
     report.same(sorted(letters), sorted(wanted), f"whose letters about the {about} are in the file")
@@ -150,7 +150,7 @@ def due(office: Office, kind: str, day: datetime.date, children: Iterable[int],
     for it in out:
         hal.tab_to(f"Child {it}")
         hal.key(Keys.SPACE)
-    hal.press("Show what is recorded of those ticked")
+    hal.press("Check what is ticked")
     for it in wanted:
         code = season.places[it]
         hal.see(f"child {it}, {season.children[it].name}: {code} {NAMES[code]}")
