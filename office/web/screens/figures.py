@@ -128,7 +128,8 @@ def file(number: int) -> Answer:
     """The file for publication, which is on record before it is given."""
     made = found(number)
     if flask.request.form.get("digest") != made.digest:
-        return preview(made, "Nothing was downloaded: these are other figures than were shown."), 409
+        said = "Nothing was downloaded: these are other figures than were shown."
+        return preview(made, said), 409
     data = kept().page(number)
     guard.record("took figures for publication", of=made.title, number=number, digest=made.digest)
     kept().take(person().name, number)
