@@ -42,5 +42,5 @@ def in_words(school: School, number: int, flags: Mapping[int, str] | None = None
         words = (flags or {}).get(int(value))
         if words:
             return f"with a verified priority: {words}"
-        return f"with the priority that the office has verified as flag {value}"
+        return f"with the priority that the office has verified as reason {value}"
     return f"from the feeder school {value}"

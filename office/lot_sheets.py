@@ -192,13 +192,13 @@ class Filled:
         pair = (code, int(number)) if re.fullmatch(r"[0-9]{1,9}", number) else None
         is_known = pair in self.known
         if pair in self.rows:
-            return f"has a pair that row {self.rows[pair]} has: {code} {number}"
+            return f"is for the school and child of row {self.rows[pair]}: {code} {number}"
         if pair and is_known:
             self.rows[pair] = at
         if len(fields) == 2:
             return f"has no lot: {code} {number}"
         if not pair or not is_known:
-            return f"is none of the pairs: {code} {number}"
+            return f"is for no lot of this draw: {code} {number}"
         if said := wrong_lot(lot):
             return f"has a lot {said}: {lot}"
         if (code, int(lot)) in self.drawn:

@@ -66,7 +66,7 @@ def test_a_child_is_shown_with_its_place_its_list_and_its_data(office: Site) -> 
     assert page.buttons() == []
     assert not [it for it in page.stops if it.startswith("/children/3/") and "/w" not in it]
     page = Page(rita.get("/children/5").text)
-    assert "medical need; flag 5" in page.text and "The child has no application." in page.text
+    assert "medical need; reason 5" in page.text and "The child has no application." in page.text
     assert "&lt;i&gt;Eden" in page.text and "<i>Eden" not in page.text
     assert rita.get("/children/6").status_code == 404
 

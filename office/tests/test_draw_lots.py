@@ -303,13 +303,13 @@ def test_each_of_several_fills_has_a_sheet_that_names_it(small: Machine) -> None
 WRONG_SHEETS = {
     "a duplicate": (b"OAK,1,5\nOAK,2,5\n", "row 2 has a lot that row 1 has at OAK: 5"),
     "no number": (b"OAK,1,<b>\n", "row 1 has a lot that is no number: &lt;b&gt;"),
-    "another pair": (b"OAK,1,5\nOAK,99,6\n", "row 2 is none of the pairs: OAK 99"),
-    "a pair twice": (b"OAK,1,5\nOAK,1,6\n", "row 2 has a pair that row 1 has: OAK 1"),
-    "no lot": (b"OAK,1\nOAK,2\n", "the file has no lot of these pairs"),
+    "another pair": (b"OAK,1,5\nOAK,99,6\n", "row 2 is for no lot of this draw: OAK 99"),
+    "a pair twice": (b"OAK,1,5\nOAK,1,6\n", "row 2 is for the school and child of row 1: OAK 1"),
+    "no lot": (b"OAK,1\nOAK,2\n", "the file has no lot of this draw"),
     "a web page": (b"<html><body>1</body></html>", "a web page (HTML)"),
     "a register": (b"SQLite format 3\0" + bytes(200), "a register, or another database"),
     "no archive": (b"PK\x03\x04" + bytes(200), "the file is no workbook that can be read"),
-    "nothing": (b"", "the file has no lot of these pairs"),
+    "nothing": (b"", "the file has no lot of this draw"),
     "an old workbook": (b"\xd0\xcf\x11\xe0" + bytes(200), "a workbook of the older kind"),
     "too many columns": (b"x," * 100_000, "has too many columns"),
 }

@@ -1,6 +1,8 @@
 """No screen names a path, a command or a user of the machine, whatever the machine cannot do: a
-folder is missing or not writable, a disk is full, a program is not there.
+folder is missing or not writable, a disk is full, a program is not there. And none has a word that
+an officer does not use.
 """
+import ast
 import errno
 import io
 import os
@@ -20,13 +22,55 @@ from pages import Page
 from register_files import Refused
 from werkzeug.datastructures import FileStorage
 
-from office.web import copies, held_again, plain, rehearsal, trials, uploads
+from office.web import copies, entry_words, held_again, plain, rehearsal, trials, uploads
 from office.web.people import Person
 from office.web.trials import Asked, Run
 
 # what no text for an officer has
 FORBIDDEN = re.compile(
     r"(?<![\w<.])/[a-z]+/|admissions-[a-z]|Errno|\broot\b|sqlite|\bsudo\b|systemctl")
+
+# words that no screen has, each with the one that it has
+OLD = {
+    r"\b[Pp]iles?\b": "batch", "Came to": "Result", "Against it": "Problem",
+    r"To see\b(?! )|^Look at$": "To check", "Take (the )?(file|figures|archive)": "Download",
+    "[Tt]ake back|[Tt]aken back": "Undo", r"^Metres$": "Distance (m)", r"^Class$": "Criterion met",
+    "[Ww]hoever (runs|maintains)": "IT support", r"\b[Ww]orkbooks?\b": "Excel",
+    "[Cc]lose for all|[Oo]pen for all|closed for all": "Pause recording, Resume recording",
+    r"\b[Gg]ive up\b|\bgiven up\b": "Cancel", "SHA-256 sum": "Fingerprint",
+    "[Bb]ring back|[Bb]rought back": "Put back", "Store in the register": "Add to the register",
+    "Points of homes": "Homes to locate", r"\b[Ff]lags?\b(?!:)": "Verified reasons",
+    "Correct the data": "Correct the details", r"\bpairs?\b": "lots",
+}
+# the texts within what a template computes, and the texts of attributes that are read out
+QUOTED = re.compile(r"\"([^\"]*)\"")
+CODE = re.compile(r"{#.*?#}|{%.*?%}|{{.*?}}|<[^>]*>", re.DOTALL)
+READ_OUT = re.compile(r"(?:aria-label|placeholder|title)=\"([^\"]*)\"")
+
+
+def is_text(text: str) -> bool:
+    """Whether a literal is a text for people, and not a name or a question to the store."""
+    is_words = " " in text.strip() or text[:1].isupper()
+    return is_words and text not in entry_words.STEPS and not re.match(
+        r"\s*(SELECT|INSERT|UPDATE|DELETE|CREATE|ALTER|PRAGMA)\b", text)
+
+
+def texts_of(path: pathlib.Path) -> Iterator[str]:
+    """The texts for people of a template or a module."""
+    source = path.read_text("utf-8")
+    if path.suffix == ".py":
+        tree = ast.parse(source)
+        docs = {id(it.body[0].value) for it in ast.walk(tree)
+                if isinstance(it, (ast.Module, ast.ClassDef, ast.FunctionDef))
+                and isinstance(it.body[0], ast.Expr)}
+        found = (it.value for it in ast.walk(tree) if isinstance(it, ast.Constant)
+                 and isinstance(it.value, str) and id(it) not in docs)
+        yield from filter(is_text, found)
+        return
+    for code in CODE.findall(source):
+        if not code.startswith("{#"):
+            yield from filter(is_text, (QUOTED if code[0] == "{" else READ_OUT).findall(code))
+    yield CODE.sub("\n", source)
 
 
 @pytest.fixture(name="office")
@@ -233,3 +277,17 @@ def test_no_text_of_people_is_taken_for_markup() -> None:
              if path.suffix in (".html", ".py")
              and re.search(r"\|\s*safe\b|autoescape|Markup\(", path.read_text("utf-8"))]
     assert sorted(found) == ["help.py", "pictures.py"]
+
+
+def test_no_screen_has_a_word_that_was_replaced() -> None:
+    """Two words for one thing, or one that only who made this would use. Names of addresses, of
+    files and of steps in the history stay.
+    """
+    folder = ROOT / "office" / "web"
+    paths = [it for it in (*folder.rglob("*.py"), *(folder / "templates").glob("*.html"))
+             if it.name not in ("archive.html", "archive.py")]
+    assert len(paths) > 200
+    found = [f"{path.name}: {text.strip()[:90]!r}: say {new}" for path in paths
+             for text in texts_of(path) for part in text.split("\n")
+             for old, new in OLD.items() if re.search(old, part.strip())]
+    assert found == []

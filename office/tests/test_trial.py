@@ -197,12 +197,12 @@ def test_flags_in_the_words_of_the_office(tmp_path: Path) -> None:
     make(tmp_path / "b.db", [school("OAK", pan=1), child(1, flags=[3]), child(2), *applied])
     changes: Changes = {"OAK": ("criteria", ["flag:3"])}
     given: list[tuple[dict[int, str], str]] = [
-        ({}, "with the priority that the office has verified as flag 3"),
+        ({}, "with the priority that the office has verified as reason 3"),
         ({3: "medical need"}, "with a verified priority: medical need")]
     for flags, text in given:
         found, words = held(tmp_path / "b.db", None, changes, flags)
         seen = trial.page(found, words, True) + str(list(found.child_rows()))
-        assert text in seen and ("as flag 3" in seen) == (not flags)
+        assert text in seen and ("as reason 3" in seen) == (not flags)
 
 
 def test_what_is_refused(season: Path, tmp_path: Path) -> None:

@@ -403,13 +403,13 @@ def test_what_a_family_does_not_read(tmp_path: Path) -> None:
     assert (
         "700 metres" not in near
         and "the distance, or between equal distances the lot, decided" in near
-        and "as flag 7" in near
+        and "as reason 7" in near
     )
     whole = said(reg, 20, is_office=True)
     assert (
         whole.startswith("For the office alone")
         and "8 were admitted:\n- 1 looked after" in whole
-        and "\n- 7 with the priority that the office has verified as flag 7\n" in whole
+        and "\n- 7 with the priority that the office has verified as reason 7\n" in whole
         and "700 metres" in whole
         and "some" not in whole.lower()
     )

@@ -289,7 +289,7 @@ class Copies:
         except FileNotFoundError:
             return False
         except OSError as error:
-            raise Refused(f"a request cannot be taken back: {plain.reason(error)}") from error
+            raise Refused(f"a request cannot be undone: {plain.reason(error)}") from error
         return True
 
     def wait(self, what: str, is_so: Callable[[], bool]) -> None:

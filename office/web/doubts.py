@@ -13,7 +13,7 @@ from .history import Entry
 from .kinds import DRAWS, is_done
 from .parts import Parts
 
-LATER = "Record nothing, and tell whoever maintains the system."
+LATER = "Record nothing, and tell IT support."
 
 
 def has(register: Register, entry: Entry) -> bool:

@@ -23,7 +23,7 @@ from .store import Store
 MOST = 20
 SMALL = f"it is from 1 to {LEAST - 1}"
 BESIDE = f"a number from 1 to {LEAST - 1} could be worked out from it"
-PRIVATE = "the last place went to a child who is or was looked after, or by a flag"
+PRIVATE = "the last place went to a child who is or was looked after, or by a verified reason"
 BLANK = f"their squares of the map have fewer than {LEAST} homes"
 # (each makes charts, and needs much memory for some time)
 MAKING = turns.Turn(threading.Lock(), "others are having figures made")

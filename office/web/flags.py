@@ -54,7 +54,7 @@ def present() -> Words:
 
 def named(number: int, words: Mapping[int, str]) -> str:
     """A flag by its words, or by its number where it has none."""
-    return words.get(number) or f"flag {number}"
+    return words.get(number) or f"reason {number}"
 
 
 def flag_words(numbers: Iterable[int]) -> str:

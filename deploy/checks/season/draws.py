@@ -165,7 +165,7 @@ def drawn(office: Office, draw: Draw, pairs: Sequence[Pair], lots: Lots) -> None
     tied = [pair for group in office.season.ties(pairs) for pair in group]
     at_lots(sup, draw)
     report.same(sup.title.lower(), f"lots of {draw.title}".lower(), "what the supervisor sees")
-    sup.see(f"{len(pairs)} pairs of a school and a child. {len(tied)} ")
+    sup.see(f"{len(pairs)} lots, one for each child at each school of its list. {len(tied)} ")
     if draw.is_workbook:
         by_workbook(office, sup, draw, {pair: lots[pair][0] for pair in tied})
     elif tied:

@@ -233,7 +233,7 @@ def upload(number: int) -> Answer:
             return sheet_page(number, reason=f"Nothing was taken: {count} in the file.",
                               errors=errors[:SHOWN], status=409)
         if not lots:
-            raise Refused("the file has no lot of these pairs")
+            raise Refused("the file has no lot of this draw")
         changed = parts().lots.take(person(), number, fill, lots)
     except Refused as error:
         return sheet_page(number, reason=f"Nothing was taken: {error}.", status=409)
