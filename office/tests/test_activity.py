@@ -12,7 +12,7 @@ import pytest
 from applications import ROUND, Browser, Site, child, office_over, town
 from pages import Page
 
-from office.web import entry_words, wording
+from office.web import entry_words, kinds, wording
 from office.web.entry_words import Names
 from office.web.history import SENDS, Entry
 from office.web.people import Person
@@ -153,8 +153,9 @@ def test_what_is_empty_is_left_out() -> None:
 
 def test_each_step_that_is_recorded_has_words() -> None:
     """None is shown by its own name of the history, which the application has in its sources."""
-    for key, (kind, form) in {**entry_words.COMMANDS, **entry_words.STEPS}.items():
-        assert kind in entry_words.KINDS and form[0].isupper(), key
+    told = {name: (it.work, it.told) for name, it in kinds.KINDS.items()}
+    for key, (work, form) in {**told, **entry_words.STEPS}.items():
+        assert work in kinds.WORK and form[0].isupper(), key
         filled = said(Entry(1, "", "jane", key, {"child": 5, "restore": 1, "copy": 2}))
         assert "{" not in filled and "[" not in filled, filled
 

@@ -178,8 +178,8 @@ def test_a_copy_is_restored_and_what_is_ticked_is_sent_again(small: Machine) -> 
         page = room.hal.get(f"/restores/{number}").text
         listed = text_of(page, "since")
         for it in ("jane child 1 Ada =1+1 <b>: corrected the details",
-                   "hal admission number of OAK raised to 2", "jane child 6 Fay: added the child",
-                   "1 application stored from files"):
+                   "hal raised the admission number of OAK to 2",
+                   "jane child 6 Fay: added the child", "1 application stored from files"):
             assert it in listed, listed
         lost = text_of(page, "lost")
         for it in ("School OAK Admission number 2 1", "Child 6 Fay in the register not in the copy",
@@ -245,7 +245,7 @@ def test_what_had_no_answer_is_among_what_came_since(
             sent(office, (HAL, RAISED))
         number = room.begin(1)
         listed = text_of(room.hal.get(f"/restores/{number}").text, "since")
-        assert "hal admission number of OAK raised to 2" in listed
+        assert "hal raised the admission number of OAK to 2" in listed
         assert room.press(room.hal, number, "ask", (room.since()["raise_pan"],)).status_code == 303
         assert room.press(room.jane, number, "confirm").status_code == 303
         assert room.now().schools["OAK"].pan == 2

@@ -11,34 +11,13 @@ from office.model import Register
 
 from . import worklists
 from .history import SENDS, Entry
+from .kinds import (
+    APPLICATIONS, COPIES, KINDS, LETTERS, NOTES, OF_ANSWERS, OF_NOTICES, OTHERS, PEOPLE, REPORTS,
+    ROUNDS, SCHOOLS,
+)
 from .wording import label
 
 Command = Mapping[str, Any]
-ANSWERS, CHILDREN, APPLICATIONS, SCHOOLS = "answers", "children", "applications", "schools"
-ROUNDS, NOTICES, LETTERS, NOTES = "rounds", "notices", "letters", "notes"
-REPORTS, PEOPLE, COPIES, OTHERS = "reports", "people", "copies", "others"
-KINDS = {
-    ANSWERS: "Answers", CHILDREN: "Details of children", APPLICATIONS: "Applications",
-    SCHOOLS: "Schools", ROUNDS: "Rounds and fills", NOTICES: "Reminders and withdrawals",
-    LETTERS: "Letters", NOTES: "Notes and files", REPORTS: "Reports and downloads",
-    PEOPLE: "People and sign-in", COPIES: "Copies and restores", OTHERS: "Other work",
-}
-# what was sent to the register; in brackets is what the page of a child leaves out
-COMMANDS = {
-    "accept": (ANSWERS, "Accepted the place[ of {child}] at {school}"),
-    "decline": (ANSWERS, "Declined the place[ of {child}] at {school}"),
-    "leave_list": (ANSWERS, "Left the waiting list of {school}[: {child}]"),
-    "remind": (NOTICES, "Reminded[ {child}] on {day} of the offer of {school}"),
-    "lapse": (NOTICES, "Withdrew the offer of {school}[ from {child}] on {day}"),
-    "name_plan": (CHILDREN, "Recorded an EHC plan that names {school}[, for {child}]"),
-    "apply": (CHILDREN, "Recorded an application of {day}[ for {child}]"),
-    "add_child": (CHILDREN, "Added the child[ {child}]"),
-    "amend": (CHILDREN, "Corrected the details[ of {child}]"),
-    "add_school": (SCHOOLS, "Added the school {name}"),
-    "raise_pan": (SCHOOLS, "Raised the admission number of {school} to {pan}"),
-    "round": (ROUNDS, "Held a round of {day}"),
-    "fill": (ROUNDS, "Offered a place at {school} from the waiting list, on {day}"),
-}
 IMPORT, LINE = "import", "line"
 # what people did; a draw and a restore have steps of one name
 STEPS = {
@@ -66,10 +45,10 @@ STEPS = {
     "changed the draft of schools": (SCHOOLS, "Changed the draft of schools"),
     "removed from the draft of schools": (SCHOOLS, "Removed from the draft of schools"),
     "named flags": (SCHOOLS, "Changed the verified reasons"),
-    "records a pile": (ANSWERS, "Began to record a batch of {answers} answers"),
-    "took over a pile": (ANSWERS, "Took over the batch of {person}"),
-    "records reminders": (NOTICES, "Began to record reminders of {day} for {children}"),
-    "records withdrawals": (NOTICES, "Began to record withdrawals of {day} for {children}"),
+    "records a pile": (OF_ANSWERS, "Began to record a batch of {answers} answers"),
+    "took over a pile": (OF_ANSWERS, "Took over the batch of {person}"),
+    "records reminders": (OF_NOTICES, "Began to record reminders of {day} for {children}"),
+    "records withdrawals": (OF_NOTICES, "Began to record withdrawals of {day} for {children}"),
     "began a draw": (ROUNDS, "Began {for}"),
     "closed the register": (ROUNDS, "Paused recording for {for}"),
     "copied the register": (ROUNDS, "Copied the register for {for}"),
@@ -211,8 +190,8 @@ def key_of(it: Entry) -> str:
 def form_of(it: Entry) -> tuple[str, str]:
     """The kind of an entry, and its title with the places for names."""
     key = key_of(it)
-    if it.what == SENDS and key in COMMANDS:
-        return COMMANDS[key]
+    if it.what == SENDS and key in KINDS:
+        return KINDS[key].work, KINDS[key].told
     if "restore" in it.about and key in RESTORES:
         return COPIES, RESTORES[key]
     if it.what == SENDS:
@@ -230,8 +209,8 @@ def title_of(it: Entry, names: Names, of_child: bool = False) -> str:
 
 def command_title(command: Command, names: Names = Names(), of_child: bool = True) -> str:
     """The title of a command."""
-    form = COMMANDS.get(command["cmd"]) or STEPS[SENDS]
-    return filled(form[1], command, names, of_child)
+    found = KINDS.get(command["cmd"])
+    return filled(found.told if found else STEPS[SENDS][1], command, names, of_child)
 
 
 def child_of(about: Mapping[str, Any]) -> int | None:

@@ -98,7 +98,8 @@ def unpacked(file: IO[bytes], name: str) -> Iterator[IO[bytes]]:
     try:
         with zipfile.ZipFile(file) as parts:
             if any(it.filename == "xl/workbook.xml" for it in parts.infolist()):
-                raise Refused(f"{name} is an Excel file: save it as CSV, which has no limit of rows")
+                raise Refused(f"{name} is an Excel file: save it as CSV, which has no limit of"
+                              " rows")
             there = [it for it in parts.infolist() if not it.is_dir()]
             found = [it for it in there if it.filename.lower().endswith((".csv", ".txt"))] or there
             if len(found) != 1:

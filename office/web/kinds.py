@@ -6,12 +6,22 @@ import datetime
 from collections.abc import Callable, Mapping
 from typing import Any
 
-from office import days, model, rules, texts
+from office import days, model, rules
 from office.model import Members, Register
 
 from . import effects, wording
 
 Command = Mapping[str, Any]
+# the kinds of work of an office, by which the history is looked through
+OF_ANSWERS, CHILDREN, APPLICATIONS, SCHOOLS = "answers", "children", "applications", "schools"
+ROUNDS, OF_NOTICES, LETTERS, NOTES = "rounds", "notices", "letters", "notes"
+REPORTS, PEOPLE, COPIES, OTHERS = "reports", "people", "copies", "others"
+WORK = {
+    OF_ANSWERS: "Answers", CHILDREN: "Details of children", APPLICATIONS: "Applications",
+    SCHOOLS: "Schools", ROUNDS: "Rounds and fills", OF_NOTICES: "Reminders and withdrawals",
+    LETTERS: "Letters", NOTES: "Notes and files", REPORTS: "Reports and downloads",
+    PEOPLE: "People and sign-in", COPIES: "Copies and restores", OTHERS: "Other work",
+}
 
 
 def place_in(register: Members, command: Command) -> Any:
@@ -88,14 +98,17 @@ def day_in(command: Command) -> str:
 @dataclasses.dataclass(frozen=True, kw_only=True)
 class Kind:
     """A kind of command: what it rests on, as a person saw it; whether a register is as after it;
-    and what was recorded, of its child if it has one. `noun` completes 'Jane recorded ..', `deeds`
+    `noun` completes 'Jane recorded ..', `deeds`
     names many, and `ended` says how a child lost a school by it.
     """
 
     name: str
     rests_on: Callable[[Members, Command], Any]
     is_done: Callable[[Register, Command], bool]
-    words: Callable[[Command], str]
+    # the kind of work that it is, and its title in the history, where what is in brackets is of
+    # the child
+    work: str
+    told: str
     noun: str = ""
     deeds: str
     ended: str = ""
@@ -106,7 +119,7 @@ class Kind:
     button: str = ""
     becomes: str = ""
     is_final: bool = False
-    # of an answer of a family: its word in a pile, the words by which it is read, and what speaks
+    # of an answer of a family: its word in a batch, the words by which it is read, and what speaks
     # against it
     answer: str = ""
     read: tuple[str, ...] = ()
@@ -129,56 +142,56 @@ class Kind:
 
 KINDS = {it.name: it for it in (
     Kind(name="add_school", rests_on=school_in, is_done=effects.has_school,
-         words=lambda it: f"school {it['school']} {it['name']} added, with"
-                          f" {texts.count(it['pan'], 'place')}", deeds="Added schools"),
+         work=SCHOOLS, told="Added the school {name}, with {pan} places", deeds="Added schools"),
     Kind(name="raise_pan", rests_on=school_in, is_done=effects.has_pan,
-         words=lambda it: f"admission number of {it['school']} raised to {it['pan']}",
+         work=SCHOOLS, told="Raised the admission number of {school} to {pan}",
          deeds="Raised numbers"),
     Kind(name="add_child", rests_on=data_in, is_done=effects.has_data,
-         words=lambda it: "child added", noun="the child", deeds="Added children"),
+         work=CHILDREN, told="Added the child[ {child}]", noun="the child", deeds="Added children"),
     Kind(name="amend", rests_on=data_in, is_done=effects.has_data,
-         words=lambda it: "data corrected", noun="a correction", deeds="Corrected details"),
+         work=CHILDREN, told="Corrected the details[ of {child}]",
+         noun="a correction", deeds="Corrected details"),
     Kind(name="apply", rests_on=application_in, is_done=effects.has_applied,
-         words=lambda it: f"application of {day_in(it)}: {', '.join(it['preferences'])}",
+         work=CHILDREN, told="Recorded an application of {day}[ for {child}]: {preferences}",
          noun="an application", deeds="Recorded applications"),
     Kind(name="accept", rests_on=place_in, is_done=effects.has_kind(model.ACCEPTED),
-         words=lambda it: f"accepted the place at {it['school']}",
+         work=OF_ANSWERS, told="Accepted the place[ of {child}] at {school}",
          noun="accept", deeds="Recorded answers",
          path="accept", title="Accept a place", button="Accept {school} for {child}",
          becomes="The place is accepted. It can be declined later, but it can never be an open"
                  " offer again.",
          answer="accept", read=("accept", "accepts", "accepted", "yes"), against=against_place),
     Kind(name="decline", rests_on=place_in, is_done=effects.has_kind(None),
-         words=lambda it: f"declined the place at {it['school']}",
+         work=OF_ANSWERS, told="Declined the place[ of {child}] at {school}",
          noun="decline", deeds="Recorded answers", ended="declined",
          path="decline", title="Decline a place", button="Decline {school} for {child}",
          becomes=f"The place becomes vacant. {wording.FOREVER} {wording.WRONG_DECLINE}",
          is_final=True,
          answer="decline", read=("decline", "declines", "declined", "no"), against=against_place),
     Kind(name="remind", rests_on=place_in, is_done=effects.is_reminded,
-         words=lambda it: f"reminded on {day_in(it)} of the offer of {it['school']}",
+         work=OF_NOTICES, told="Reminded[ {child}] on {day} of the offer of {school}",
          noun="a reminder", deeds="Recorded reminders",
          path="remind", title="Record a reminder",
          button="Record the reminder of {child} about {school}",
          becomes="The offer may be withdrawn from {withdrawn} on, if it is not answered. A reminder"
-                 " cannot be taken back.",
+                 " cannot be undone.",
          due="remind-due", row="Reminders", one="reminder"),
     Kind(name="lapse", rests_on=place_in, is_done=effects.has_kind(None),
-         words=lambda it: f"offer of {it['school']} withdrawn on {day_in(it)}",
+         work=OF_NOTICES, told="Withdrew the offer of {school}[ from {child}] on {day}",
          noun="a withdrawal of the offer", deeds="Withdrew offers", ended="offer withdrawn",
          path="lapse", title="Withdraw an offer",
          button="Withdraw the offer of {school} from {child}",
          becomes=f"The offer ends, and the place becomes vacant. {wording.FOREVER}", is_final=True,
          due="lapse-due", row="Withdrawals of offers", one="withdrawal"),
     Kind(name="leave_list", rests_on=wait_in, is_done=effects.has_left,
-         words=lambda it: f"left the waiting list of {it['school']}",
+         work=OF_ANSWERS, told="Left the waiting list of {school}[: {child}]",
          noun="a departure from a list", deeds="Took children off waiting lists", ended="left",
          path="leave", title="Leave a waiting list", button="Take {child} off the list of {school}",
          becomes=f"The child does not return to this list. {wording.FOREVER}", is_final=True,
          answer="leave the list", read=("leave", "leave the list", "leave_list"),
          against=against_leaving),
     Kind(name="name_plan", rests_on=place_in, is_done=effects.has_kind(model.PLAN),
-         words=lambda it: f"plan that names {it['school']}",
+         work=CHILDREN, told="Recorded an EHC plan that names {school}[, for {child}]",
          noun="a plan", deeds="Recorded EHC plans",
          path="plan", title="Record an EHC plan",
          button="Give {child} a place at {school} by a plan",
@@ -188,10 +201,11 @@ KINDS = {it.name: it for it in (
                  " nobody can read it for some seconds.", is_final=True,
          answer="plan", read=("plan", "name_plan"), against=against_plan),
     Kind(name="round", rests_on=draws_in, is_done=effects.is_held,
-         words=lambda it: f"draw {it['draw']}: round of {day_in(it)}",
+         work=ROUNDS, told="Held a round of {day} (draw {draw})",
          noun="a round", deeds="Held a round"),
     Kind(name="fill", rests_on=draws_in, is_done=effects.is_held,
-         words=lambda it: f"draw {it['draw']}: fill at {it['school']} of {day_in(it)}",
+         work=ROUNDS,
+         told="Offered a place at {school} from the waiting list on {day} (draw {draw})",
          noun="a fill", deeds="Held fills"),
 )}
 # what can be recorded on a child's screen, by the end of its address

@@ -12,7 +12,7 @@ from office.model import Register
 from . import effects, entry_words, lineage
 from .entry_words import Names
 from .history import ANSWER, RESTORED, SENDS, SETTLED, Entry, History, says_done
-from .kinds import DRAWS, KINDS, WHOLE, day_in
+from .kinds import DRAWS, KINDS, NOTES, WHOLE, day_in
 from .wording import draw_in_words, moment, sentence
 
 Command = Mapping[str, Any]
@@ -137,7 +137,7 @@ def of_child(
              and result(history, it)[1]}
     for it in history.of_child(number):
         kind = entry_words.form_of(it)[0]
-        if it.what in LEFT_OUT or (kind == entry_words.NOTES and not may_notes):
+        if it.what in LEFT_OUT or (kind == NOTES and not may_notes):
             continue
         came_to, is_done = result(history, it)
         lines = [of_row(it, number) if "import" in it.about else more_of(history, it, names),

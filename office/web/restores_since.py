@@ -10,7 +10,7 @@ from office.model import Register
 
 from . import effects, lineage, records, wording
 from .history import SENDS, Entry, History, says_done
-from .kinds import DRAWS, KINDS
+from .kinds import DRAWS
 
 BY_DRAW = "A draw is held again on the screen of draws."
 BY_HAND = "The application knows no command of it."
@@ -44,7 +44,7 @@ def in_words(entry: Entry, names: dict[int, str]) -> str:
         return f"a line that is no command: {texts.visible(entry.about['line'])}"
     command = entry.about["command"]
     if "child" not in command:
-        return KINDS[command["cmd"]].words(command)
+        return records.in_words(command)
     number = command["child"]
     name = names.get(number) or str(command.get("name", ""))
     return f"child {number} {name}: {records.in_words(command)}"

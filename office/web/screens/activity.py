@@ -13,9 +13,10 @@ from office.book import Page
 from office.model import Register
 
 from .. import entry_words, flags, records, tables
-from ..entry_words import KINDS, Names
+from ..entry_words import Names
 from ..guard import needs, parts
 from ..history import ANSWER, SETTLED, Entry
+from ..kinds import WORK
 from ..people import NOTES
 from ..tables import Column
 from ..wording import NOT_A_DAY, day_of, moment
@@ -139,7 +140,7 @@ def rows_of(entries: Sequence[Entry], register: Register | None) -> list[Row]:
     for it in entries:
         result, is_done = records.result(record, it)
         kind, more = entry_words.form_of(it)[0], records.more_of(record, it, names)
-        found.append(Row(it, KINDS[kind], entry_words.title_of(it, names), more,
+        found.append(Row(it, WORK[kind], entry_words.title_of(it, names), more,
                          result[:1].upper() + result[1:], is_done))
     return found
 
@@ -154,7 +155,7 @@ def show() -> str | tuple[str, int]:
     shown = tables.paged(made.rows, flask.request.args.get("page", ""), SHOWN)
     return flask.render_template(
         "activity.html", rows=rows_of(shown.rows, register), columns=made.columns, sort=made.sort,
-        asked=what, wrong=what.wrong, kinds=KINDS,
+        asked=what, wrong=what.wrong, kinds=WORK,
         names=sorted({it.who for it in list(parts().history.entries)}),
         count_all=len(made.rows), page=shown, most=MOST_IN_FILE,
         page_address=tables.pages("activity.show", **what.values),
