@@ -156,7 +156,7 @@ def test_who_takes_the_file_is_on_record(office: Site, browser: Browser) -> None
     digest = browser.get(f"/figures/{number}").text.split('name="digest" value="')[1][:64]
     wrong = browser.post(f"/figures/{number}/file", {"digest": "0" * 64})
     assert wrong.status_code == 409 and "other figures than were shown" in wrong.text
-    assert "Nobody has taken them" in browser.get(f"/figures/{number}").text
+    assert "Nobody has downloaded them" in browser.get(f"/figures/{number}").text
     for name in ("otto", "olga"):
         other = office.browser(name, "officer")
         assert other.post(f"/figures/{number}/file", {"digest": digest}).status_code == 200

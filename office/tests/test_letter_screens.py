@@ -412,11 +412,11 @@ def test_letters_that_were_taken_meanwhile_are_not_removed_by_an_older_page(
                          (untaken, "Remove this file and its 2 letters")):
         late = press(jane, path, page, button)
         assert late.status_code == 409 and Page(late.text).said() == (
-            "Nothing was ended or removed: these letters are made, taken or sent since they were"
-            " shown.")
+            "Nothing was ended or removed: these letters are made, downloaded or sent since they"
+            " were shown.")
         assert count(office, "letter") == 2
     page = Page(jane.get(path).text)
-    assert page.by_id["taken"].startswith("Somebody took this file on ")
+    assert page.by_id["taken"].startswith("Somebody downloaded this file on ")
     assert recorded(hal, path)[0] == 303
     late = press(jane, path, page, "Remove this file and its 2 letters")
     assert late.status_code == 409 and "sent on 3 March 2025, by hal" in late.text

@@ -143,7 +143,7 @@ def test_the_letters_of_a_row_are_made_by_themselves(office: Site, address: str)
     place = re.search(r'href="(/letters/sets/[0-9]+)/file"', page)
     assert place and "The place at Elm has ended" in letter_pages(jane, place[1])[0]
     seen = office.browser("rita", "reader").get(row).text
-    assert "made, not recorded as sent" in seen and "Take the file" not in seen
+    assert "made, not recorded as sent" in seen and ">Download " not in seen
 
 
 def test_letters_that_nobody_can_send_are_not_made_by_themselves(office: Site) -> None:

@@ -162,7 +162,7 @@ def test_the_office_has_a_rule_for_how_long_it_keeps(tmp_path: pathlib.Path) -> 
         refused = head.browser.post("/season-end/day", {
             "seen": "0", "day": "30/6/2026", "reason": "why"})
         assert refused.status_code == 409
-        assert "Make the archive first, and take it to where it is kept." in refused.text
+        assert "Make the archive first, and download it to where it is kept." in refused.text
 
 
 # the archive

@@ -232,8 +232,8 @@ class Sets:
             if found.state in (ENDED, GONE):
                 return
             if found.standing != standing:
-                raise Refused("Nothing was ended or removed: these letters are made, taken or sent"
-                              " since they were shown")
+                raise Refused("Nothing was ended or removed: these letters are made, downloaded or"
+                              " sent since they were shown")
             self.history.add(who.name, "ended letters", {"for": found.asked.words, "set": number})
             self.change(number, "state=?, ended=?", ENDED if found.is_open else GONE, now())
             if number in self.running:

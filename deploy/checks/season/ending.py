@@ -150,7 +150,7 @@ def archived(office: Office) -> None:
     jane.key(Keys.ENTER)
     seen_archive(office)
     jane.reload()
-    jane.see(f"Taken by {jane.who},")
+    jane.see(f"Downloaded by {jane.who},")
     jane.see(f"kept at {KEPT}.")
     day = max(office.lists_end, office.day) + NOTICE
     jane.fill("Day of deletion", in_words(day))
