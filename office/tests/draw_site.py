@@ -118,13 +118,16 @@ class Person:
     """Somebody at the draw's screens, in a browser."""
 
     def __init__(self, office: Site, name: str, role: str) -> None:
-        self.browser: Browser = office.browser(name, role)
+        self.office, self.browser = office, office.browser(name, role)
 
     def step(self, number: int, name: str, **given: str) -> Any:
-        """Presses the button of a step on the page as it is now."""
-        page = self.browser.get(f"/draws/{number}")
-        assert page.status_code == 200, page.text
-        return self.press(number, Fields(page.text).values["seen"], name, **given)
+        """Presses the button of a step on the page as it is now, or on that which cancels; also
+        where neither has one for this person.
+        """
+        pages = [self.browser.get(f"/draws/{number}{it}") for it in ("", "/cancel")]
+        assert [it.status_code for it in pages] == [200, 200], pages
+        seen = {it for page in pages if (it := Fields(page.text).values.get("seen"))}
+        return self.press(number, *(seen or {str(version(self.office, number))}), name, **given)
 
     def press(self, number: int, seen: str, name: str, **given: str) -> Any:
         """Presses a button of a page that was shown at a version."""

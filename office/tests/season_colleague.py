@@ -127,7 +127,7 @@ def closing(lived: Room) -> Pressed:
     hal, jane = lived.person("hal"), lived.person("jane")
     hal.get("/draws/").press("Begin draw 2", {
         "kind": "fill", "day": "18 March 2025", "school": "ELM", "fills": "1"})
-    jane.get(hal.path).press("Give up ")
+    jane.get(f"{hal.path}/cancel").press("Cancel ")
     return hal, "Close for all others", NOTHING
 
 
@@ -159,14 +159,14 @@ def holding(lived: Room) -> Pressed:
     """A draw that is to be held, and that is asked to be given up meanwhile."""
     hal, jane = lived.person("hal"), lived.person("jane")
     hal.get(hal.path)
-    jane.get(hal.path).press("Ask to give up ", {"reason": "a lot was mistyped"})
+    jane.get(f"{hal.path}/cancel").press("Ask a second person ", {"reason": "a lot was mistyped"})
     return hal, "Hold ", NOTHING
 
 
 def restoring(lived: Room) -> Pressed:
     """A restore that is to be asked for, and is given up meanwhile."""
     hal, jane = lived.person("hal"), lived.person("jane")
-    hal.get("/draws/3").press("This draw was wrong: close for all others, to restore copy ")
+    hal.get("/draws/3/cancel").press("Close for all others, to restore copy ")
     jane.get(hal.path).press("Give up the restore of copy ")
     return hal, "Ask to restore copy ", NOTHING
 
@@ -174,7 +174,7 @@ def restoring(lived: Room) -> Pressed:
 def confirming_restore(lived: Room) -> Pressed:
     """A restore that is to be confirmed, and is chosen anew meanwhile."""
     hal, jane = lived.person("hal"), lived.person("jane")
-    hal.get("/draws/3").press("This draw was wrong: close for all others, to restore copy ")
+    hal.get("/draws/3/cancel").press("Close for all others, to restore copy ")
     hal.press("Ask to restore copy ")
     jane.get(hal.path)
     hal.press("Choose once more what is sent again")

@@ -66,7 +66,7 @@ def reminders_go_on(lived: Room) -> None:
 def to_restore(lived: Room) -> None:
     """A restore is asked for."""
     hal = lived.person("hal")
-    hal.get("/draws/3").press("This draw was wrong: close for all others, to restore copy ")
+    hal.get("/draws/3/cancel").press("Close for all others, to restore copy ")
     hal.press("Ask to restore copy ")
     lived.person("jane").get(hal.path)
 

@@ -299,7 +299,7 @@ def restored(lived: Room, trace: Trace) -> None:
     once more on another day; an answer to an offer that it makes is sent after it.
     """
     hal, jane, sup = (lived.person(it) for it in ("hal", "jane", "sup"))
-    hal.get("/draws/3").press("This draw was wrong: close for all others, to restore copy ")
+    hal.get("/draws/3/cancel").press("Close for all others, to restore copy ")
     trace.page(hal, hal.path)
     hal.press("Ask to restore copy ")
     path = hal.path

@@ -40,12 +40,15 @@ def test_a_fill_that_ends_an_accepted_place_says_so_before_it_is_confirmed(
         brought(office, number, "rehearsed")
         jane = office.browser("jane")
         page = Page(jane.get(f"/draws/{number}").text)
-        assert page.by_id["accepted-ended"].startswith(
-            "1 child gives up a place that it had accepted.")
+        said = "1 child gives up a place that it had accepted: they move to a school higher on"
+        assert said in " ".join(page.by_id["to-look-at"].split())
         rows = {it[1]: it[3:] for it in page.tables["By child"][1:]}
         assert rows == {
-            "2": ["ELM", "OAK", "moves; had accepted ELM: that place ends"],
-            "3": ["ELM", "OAK", "moves"]}
+            "2": ["ELM", "OAK", "first of 2: moves",
+                  "By a lot Accepted place ends It had accepted ELM."],
+            "3": ["ELM", "OAK", "first of 2: moves", ""]}
+        only = Page(jane.get(f"/draws/{number}?what=ends").text).tables["By child: 1 of 2"]
+        assert [it[1] for it in only[1:]] == ["2"]
         office.parts.draws.confirm(JANE, number, version(office, number))
         for step in ("send", "audit", "open"):
             getattr(office.parts.draws, step)(HAL, number, version(office, number))
@@ -63,4 +66,4 @@ def test_a_draw_that_ends_no_accepted_place_says_nothing_of_it(small: Machine) -
         number = begun(office)
         brought(office, number, "rehearsed")
         page = Page(office.browser("jane").get(f"/draws/{number}").text)
-        assert "accepted-ended" not in page.by_id and "By child" in page.tables
+        assert "had accepted" not in page.text and "By child" in page.tables

@@ -14,8 +14,8 @@ from draw_site import (
 )
 from register_files import Refused
 
+from office.web import draws_page
 from office.web.draws import Draws
-from office.web.screens import draws as draws_screen
 
 # what only the office may see of a draw: names, what came of it, and why it does not go on
 HIDDEN = ("Child 1", "new place", "keeps its place", "moves", "Audit of", "rehears", "no answer")
@@ -50,7 +50,7 @@ def test_a_step_that_ends_while_its_page_is_made_was_not_cut_off(
         number = begun(office)
         following, go_on = office.parts.following, threading.Event()
         monkeypatch.setattr(following, "wait", 0.0)
-        real_copy, real_outcome = Draws.copy, draws_screen.outcome_of
+        real_copy, real_outcome = Draws.copy, draws_page.outcome_of
 
         def copy(*given: Any) -> Any:
             assert go_on.wait(60)
@@ -65,7 +65,7 @@ def test_a_step_that_ends_while_its_page_is_made_was_not_cut_off(
         monkeypatch.setattr(Draws, "copy", copy)
         hal = Person(office, HAL.name, "head")
         assert hal.step(number, "close").status_code == 303
-        monkeypatch.setattr(draws_screen, "outcome_of", outcome_of)
+        monkeypatch.setattr(draws_page, "outcome_of", outcome_of)
         page = hal.browser.get(f"/draws/{number}").text
         assert 'id="work"' in page and 'id="cut-off"' not in page
         assert following.under_way() is None
@@ -102,7 +102,7 @@ def test_the_rehearsal_follows_the_seal(small: Machine) -> None:
             ("sup", "sealed the lots"), ("sup", "rehearsed")]
         jane = Person(office, "jane", "officer")
         page = jane.browser.get(f"/draws/{number}").text
-        assert "Outcome of the rehearsal" in page and ">Confirm draw 1</button>" in page
+        assert "Children to look at" in page and ">Confirm round 1</button>" in page
         assert jane.step(number, "confirm").status_code == 303
 
 
@@ -202,7 +202,9 @@ def test_what_differs_stays_closed(small: Machine, monkeypatch: pytest.MonkeyPat
             for path in ("/", f"/draws/{number}"):
                 page = who.browser.get(path).text
                 assert "Closed for draw 1 by hal" in page
-            assert "Ask to restore the copy from before draw 1</button>" in page
+            assert ">Cancel this round</a>" in page
+            assert "Ask a second person to undo round 1</button>" in who.browser.get(
+                f"/draws/{number}/cancel").text
             assert "Inform no family" in page and "open for all again" not in page
         assert office.parts.draws.get(number) == draw
         assert not any(it.what == "opened the register" for it in office.parts.history.entries)
@@ -289,7 +291,7 @@ def test_long_work_says_that_it_runs(small: Machine, monkeypatch: pytest.MonkeyP
             page = who.browser.get(f"/draws/{number}").text
             assert f'data-running="/draws/{number}"' in page and "begun by hal" in page
             assert "the draw is held, and then audited." in page
-            assert "Audit draw 1</button>" not in page and "Ask to restore" not in page
+            assert "Audit round 1</button>" not in page and "Cancel this" not in page
             assert "Draw 1: a round. A step of it runs now." in who.browser.get("/").text
         found = jane.press(number, seen, "go-on")
         assert found.status_code == 409 and "A step is under way, which hal began" in found.text
@@ -322,4 +324,4 @@ def test_what_is_refused_after_the_answer_is_said(
         assert work and work.is_over.wait(600)
         page = hal.browser.get(f"/draws/{number}").text
         assert "The last step was not done: The disk is full." in page
-        assert "Hold draw 1</button>" in page
+        assert "Hold round 1</button>" in page

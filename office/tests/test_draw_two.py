@@ -18,11 +18,10 @@ from pages import Page, press
 from register_files import Refused
 from served import do_over
 
-from office.web import copies, people
+from office.web import copies, draws_page, people
 from office.web.draws_drafts import Typed
 from office.web.draws_terms import Draw, Terms
 from office.web.history import Entry
-from office.web.screens import draws
 from office.web.step_store import Done
 
 STATES = ("begun", "closed", "copied", "lots", "sealed", "rehearsed", "confirmed", "sending",
@@ -70,9 +69,10 @@ def locked(office: Site, name: str) -> None:
 
 
 def ends(browser: Browser, number: int) -> set[str]:
-    """The buttons of a draw's page by which it ends, or goes on."""
+    """The buttons of a draw's pages by which it ends, or goes on."""
     # (nor does the search of its outcome)
-    return set(Page(browser.get(f"/draws/{number}").text).buttons()) - {"Find"}
+    return {button for it in ("", "/cancel")
+            for button in Page(browser.get(f"/draws/{number}{it}").text).buttons()} - {"Find"}
 
 
 def wanted(state: str, of: str, how: str, who: str) -> set[str]:
@@ -81,19 +81,19 @@ def wanted(state: str, of: str, how: str, who: str) -> set[str]:
     """
     is_steady = who != of
     goes_on = {"closed": "Make the copy", "copied": "Give the pairs to the supervisor",
-               "sealed": "Rehearse", "sending": "Audit draw 1", "audited": "Open for all"}
+               "sealed": "Rehearse", "sending": "Audit round 1", "audited": "Open for all"}
     found = {goes_on[state]} if state in goes_on else set()
     if state in UNSEALED:
-        found.add("Give up draw 1")
+        found.add("Cancel round 1")
     elif is_steady:
-        found.add("Give up draw 1 alone" if state in UNSENT
-                  else "Restore the copy from before draw 1 alone")
+        found.add("Cancel round 1 alone" if state in UNSENT
+                  else "Undo round 1 alone")
     if state == "begun" and who == "hal":
         found.add("Close for all others")
     if state == "rehearsed" and who == "jane" and is_steady:
-        found.add("Confirm draw 1")
+        found.add("Confirm round 1")
     if state == "confirmed" and who == "hal":
-        found.add("Hold draw 1")
+        found.add("Hold round 1")
     return found
 
 
@@ -148,11 +148,11 @@ def test_one_gives_up_alone_whom_nobody_can_confirm(small: Machine) -> None:
         assert found.status_code == 409 and "Somebody else can confirm it" in found.text
         for name in ("confirm", "ask-give-up", "confirm-give-up"):
             assert jane.press(number, seen, name).status_code == 409, name
-        page = hal.browser.get(f"/draws/{number}").text
-        assert re.search(r"Nobody else can confirm it now: Jane was given another password by root"
+        page = hal.browser.get(f"/draws/{number}/cancel").text
+        assert re.search(r"Nobody else can confirm it now: jane was given another password by root"
                          r" at \d\d:\d\d, after this draw was begun\.", page)
         found = hal.step(number, "give-up-alone")
-        assert found.status_code == 409 and "Type the reason for giving the draw up" in found.text
+        assert found.status_code == 409 and "Type the reason for cancelling the draw" in found.text
         assert hal.step(number, "give-up-alone", reason=MISTYPED).status_code == 303
         assert office.parts.desk.closed() == "" and office.parts.desk.now().draws == []
         last = office.parts.history.entries[-1]
@@ -163,7 +163,7 @@ def test_one_gives_up_alone_whom_nobody_can_confirm(small: Machine) -> None:
         for state in ("begun", "rehearsed"):
             brought(office, again, state)
             page = " ".join(jane.browser.get(f"/draws/{again}").text.split())
-            assert re.search("Draw 1 was begun before, and given up after the lots were sealed,"
+            assert re.search("Draw 1 was begun before, and cancelled after the lots were sealed,"
                              " when the outcome could be known: by hal alone, [^<]*, because:"
                              f" <bdi>{MISTYPED}</bdi>", page)
         assert jane.step(again, "confirm").status_code == 303
@@ -200,10 +200,10 @@ def test_a_draw_with_lots_is_given_up_for_a_reason(small: Machine) -> None:
         brought(office, first, "lots")
         office.parts.lots.save(SUP, first, {(("OAK", 2), 0): Typed("", "14")})
         found = hal.step(first, "give-up")
-        assert found.status_code == 409 and "Type the reason for giving the draw up" in found.text
+        assert found.status_code == 409 and "Type the reason for cancelling the draw" in found.text
         assert jane.step(first, "give-up", reason=MISTYPED).status_code == 303
-        said = ("Draw 2 was begun before, and given up after the lots were entered, and before they"
-                " were sealed: by jane alone, ")
+        said = ("Draw 2 was begun before, and cancelled after the lots were entered, and before"
+                " they were sealed: by jane alone, ")
         for school_code in (None, "OAK"):
             number = begun(office, school_code)
             assert said in words(hal, number) and f"because: {MISTYPED}" in words(jane, number)
@@ -272,7 +272,7 @@ def test_who_could_act_in_both_names_does_not_confirm(small: Machine, what: str)
         brought(office, number, "rehearsed")
         assert re.search(f"May confirm it pat. Others may not: hal began this draw; {why}",
                          words(pat, number))
-        assert "Confirm draw 1" not in ends(jane.browser, number)
+        assert "Confirm round 1" not in ends(jane.browser, number)
         found = jane.step(number, "confirm")
         assert found.status_code == 409 and re.search(why, found.text, re.I)
         assert office.parts.draws.get(number).state == "rehearsed"
@@ -340,9 +340,9 @@ def test_another_head_holds_what_was_confirmed(small: Machine) -> None:
         office.parts.people.set_role("pat", "head")
         pat = Person(office, "pat", "head")
         found = pat.press(number, str(version(office, number)), "confirm")
-        assert found.status_code == 409 and "Pat was given another role by root" in found.text
+        assert found.status_code == 409 and "pat was given another role by root" in found.text
         assert jane.step(number, "confirm").status_code == 303
-        assert "Hold draw 1</button>" in pat.browser.get(f"/draws/{number}").text
+        assert "Hold round 1</button>" in pat.browser.get(f"/draws/{number}").text
         assert pat.step(number, "send").status_code == 303
         assert office.parts.draws.get(number).who("sending") == "pat"
         small.do([RAISED])
@@ -459,7 +459,7 @@ def test_who_sealed_the_lots_reads_who_confirms(tmp_path: pathlib.Path) -> None:
                            ("hal", "hal began this draw. Somebody else confirms it."),
                            ("jane", "")):
             flask.g.person = people.Person(name, "officer")
-            assert draws.why_not(draw, "confirmed", register) == said
+            assert draws_page.why_not(draw, "confirmed", register) == said
 
 
 def test_nothing_is_confirmed_before_its_rehearsal(small: Machine) -> None:
@@ -539,11 +539,11 @@ def test_what_moved_a_class_or_a_limit_is_named(small: Machine) -> None:
         number = begun(office)
         wanted = [
             ["", "", "admission number of ELM raised to 10", "jane"],
-            ["4", "Child 4", "plan that names OAK", "pat"],
-            ["5", "Child 5 x", "data corrected; what they were before is not in the history",
+            ["4", "Child 4", "recorded an EHC plan that names OAK", "pat"],
+            ["5", "Child 5 x", "details corrected; those before are not in the history",
              "jane"],
-            ["5", "Child 5 x", "North, in metres 400 → 390", "pat"],
-            ["6", "Fay Fox", "North, in metres 450 → 50; Siblings at none → OAK", "jane"]]
+            ["5", "Child 5 x", "North, in metres: 400 → 390", "pat"],
+            ["6", "Fay Fox", "North, in metres: 450 → 50; Siblings at: none → OAK", "jane"]]
         for state in ("begun", "rehearsed"):
             brought(office, number, state)
             rows_shown = Page(jane.browser.get(f"/draws/{number}").text).tables["changes"][1:]
@@ -619,11 +619,12 @@ def test_an_undone_draw_is_named_so(small: Machine) -> None:
         brought(office, again, "lots")
         both = [["Draw 1 (page 2): a round"], ["Draw 1, undone: a round"]]
         assert [it[:1] for it in Page(hal.browser.get("/draws/").text).tables[
-            "Rounds and fills"][1:]] == both
+            "Rounds and offers from waiting lists"][1:]] == [
+                ["Round 1 draw 1 (page 2)"], ["Round 1, undone draw 1"]]
         assert [it[:1] for it in Page(at_lots(office).get("/lots/").text).tables[
             "Draws with lots"][1:]] == both
-        assert "Repeats Draw 1, undone: a round".lower() in words(hal, again).lower()
-        assert "<h1 id=\"heading\" tabindex=\"-1\">Draw 1, undone: a round</h1>" in (
+        assert "Repeats Round 1, undone, " in words(hal, again)
+        assert "<h1 id=\"heading\" tabindex=\"-1\">Round 1, undone</h1>" in (
             hal.browser.get(f"/draws/{first}").text)
         page = hal.browser.get("/").text
         assert f'<a href="/draws/{again}"' in page and "Draw 1 (page 2): a round." in page

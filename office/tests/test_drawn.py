@@ -85,3 +85,30 @@ def test_the_map_of_a_school_has_each_home_in_reach() -> None:
     assert [it.text for it in found.iter(f"{SVG}text")][:3] == ["B", "A", "1,500 metres"]
     [circle] = found.iter(f"{SVG}circle")
     assert abs(float(circle.get("r", "")) - 1500 * 720 / 4000) < 0.1
+
+
+def test_a_flow_is_as_thick_as_its_counts() -> None:
+    """From each node of the left to each of the right, within both; and nothing where nobody went.
+    """
+    counts = [[30, 10, 0], [5, 0, 40], [1, 2, 3]]
+    right = [("First", "first"), ("Second", "second"), ("No place", "none")]
+    found = parsed(str(pictures.flow(
+        "f", "Flow", "said", ["A&B", "C", "D"], right, counts, ("from", "to"))))
+    paths = {it[0].text: float(it.get("stroke-width", "")) for it in found.iter(f"{SVG}path")}
+    assert len(paths) == 7 and "A&B to no place: 0" not in paths
+    for words, many in (("C to no place: 40", 40), ("A&B to second: 10", 10), ("D to first: 1", 1)):
+        # (widths have one decimal)
+        assert abs(paths[words] / paths["A&B to first: 30"] - many / 30) < 0.01
+    nodes = [it for it in found.iter(f"{SVG}rect") if "node" in it.get("class", "")]
+    heights = [float(it.get("height", "")) for it in nodes]
+    every = [*map(sum, counts), *map(sum, zip(*counts))]
+    assert all(abs(it / heights[0] - many / 40) < 0.01 for it, many in zip(heights, every))
+    texts = [it.text for it in found.iter(f"{SVG}text")]
+    assert "C  45" in texts and "43 (47.3%)" in texts
+
+
+def test_stacked_bars_stay_within_the_whole() -> None:
+    """Also where plans go beyond the places."""
+    found = parsed(str(pictures.stacked([(60, "has"), (30, "second"), (30, "plan")], 100)))
+    assert [float(it.get("width", "")) for it in found] == [100, 60, 30, 10]
+    assert len(list(parsed(str(pictures.stacked([(0, "has")], 0))))) == 1

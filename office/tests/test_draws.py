@@ -180,6 +180,7 @@ def test_a_round_by_five_hands(machine: Machine, town: Town) -> None:
         assert (found.status_code, found.location) == (303, "/draws/1")
         page = hal.browser.get("/draws/1").text
         assert "Monday 3 March 2025." in page and "Is this right?" not in page
+        assert "from then on until the register is open again. All can still read" in page
         assert f"{len(lots)} pairs of 40 children and 4 schools." in page
         page = sup.get("/lots/")
         assert page.status_code == 200 and "Draw 1: a round" not in page.text
@@ -216,10 +217,9 @@ def test_a_round_by_five_hands(machine: Machine, town: Town) -> None:
         assert ">Draw 1: a round. A second person has to confirm it.<" in page
         wanted = town.allotted(lots)
         shown = hal.browser.get("/draws/1").text
-        assert "from then on until the register is open again. All can still read" in shown
         placed = sum(it is not None for it in wanted.values())
-        for words, many in (("A new place", placed), ("No place", 40 - placed)):
-            assert re.search(rf'>{words}</a></dt><dd class="number">{many}</dd>', shown)
+        for words, many in (("Offered a place", placed), ("No place</a>", 40 - placed)):
+            assert f'>{words}</dt><dd class="number">{many}</dd>' in shown, words
         assert "<bdi>&lt;script&gt;alert(1)&lt;/script&gt; 3</bdi>" in shown
         assert hal.step(1, "confirm").status_code == 409
         assert jane.step(1, "confirm").status_code == 303
@@ -265,15 +265,15 @@ def test_the_outcome_is_found_and_put_in_order(small: Machine) -> None:
         def children(given: str) -> list[str]:
             found = next(rows for name, rows in tables(given).items()
                          if name.startswith("By child"))
-            return [it[1] for it in found[1:]]
+            return [it[1] for it in found[1:] if len(it) > 1]
 
-        schools = [["ELM ELM School", "9", "4", "0", "0", "0", "5", "0", "0"],
-                   ["OAK OAK School", "1", "1", "0", "0", "0", "0", "4", "0"]]
-        assert tables()["By school"][1:] == schools
-        assert tables("order=schools.waiting.down&q=x")["By school"][1:] == (
+        # (school, places, offered, plans, left free, wait, first preferences, last place)
+        schools = [["ELM School ELM", "9", "4", "0", "5", "0", "0", "Nobody waits"],
+                   ["OAK School OAK", "1", "1", "0", "0", "4", "5",
+                    "Ranked by distance alone, 100 m"]]
+        assert tables()["by-school"][1:] == schools
+        assert tables("order=schools.waiting.down&q=x")["by-school"][1:] == (
             schools[::-1])
-        assert tables()["met"][1:] == [["First preference", "1", "20.0"],
-                                       ["Second preference", "4", "80.0"]]
         assert children("") == ["1", "2", "3", "4", "5"]
         assert children("order=children.has") == ["2", "3", "4", "5", "1"]
         assert children("q=elm&order=children.child.down") == ["5", "4", "3", "2"]
@@ -313,14 +313,14 @@ def test_a_second_round(machine: Machine, town: Town) -> None:
                  for it in office.parts.draws.get(number).rehearsal["outcomes"]]
         assert {it.child: (it.had or None, it.has or None) for it in found} == {
             it: (own.get(it), wanted[it]) for it in town.lists}
-        counts = draws_outcome.counts(office.parts.draws.get(number).rehearsal["outcomes"])
+        counts = draws_outcome.whole(register, office.parts.draws.get(number), {}).counts
         moved = [it for it in own if wanted[it] != own[it]]
         assert moved and counts == {
             "a new place": sum(bool(code) for it, code in wanted.items() if it not in own),
             "moves": len(moved), "keeps its place": len(own) - len(moved),
-            "no place": sum(code is None for code in wanted.values())}
-        schools = {it.school: it for it in draws_outcome.by_school(
-            register, office.parts.draws.get(number).rehearsal["outcomes"])}
+            "no place": sum(code is None for code in wanted.values()),
+            "late: not in this round": 0}
+        schools = {it.school: it for it in draws_outcome.by_school(register, found)}
         for code in CODES:
             new = [it for it in wanted if wanted[it] == code and own.get(it) != code]
             assert (schools[code].offers, schools[code].moves, schools[code].kept,
@@ -340,7 +340,7 @@ def test_what_follows_a_step_and_cannot_be_done_has_a_button(
         number = begun(office)
         hal, rita = Person(office, "hal", "head"), office.browser("rita", "reader")
         for name, state, button in (("close", "closed", "Make the copy"),
-                                    ("send", "sending", "Audit draw 1")):
+                                    ("send", "sending", "Audit round 1")):
             with monkeypatch.context() as patch:
                 patch.setattr(office.parts.copies, "asked", no_answer)
                 found = hal.step(number, name)
@@ -371,16 +371,16 @@ def test_a_draw_is_not_said_to_be_missing_while_the_register_is_away(small: Mach
         hal = office.browser("hal", "head")
         page = hal.get(f"/draws/{number}").text
         assert "the register has 1 of 1 draw" in page
-        assert "Next: audit draw 1" in page and "Audit draw 1</button>" in page
+        assert "Next: audit round 1" in page and "Audit round 1</button>" in page
         small.stop()
         # (what was read within two seconds is shown as it was)
         office.parts.desk.copy = None
         page = hal.get(f"/draws/{number}").text
         assert "The register does not answer now." in page
-        for said in ("the register has", "Next:", "Hold draw 1", "Audit draw 1"):
+        for said in ("the register has", "Next:", "Hold round 1", "Audit round 1"):
             assert said not in page, said
         small.start()
-        assert "Audit draw 1</button>" in hal.get(f"/draws/{number}").text
+        assert "Audit round 1</button>" in hal.get(f"/draws/{number}").text
 
 
 def test_three_fills_in_one_closure(small: Machine) -> None:
@@ -463,7 +463,8 @@ def test_a_round_cannot_be_sent_as_a_command(small: Machine) -> None:
 
 RIGHTS = [
     ("GET /draws/", "head officer reader"), ("GET /draws/1", "head officer reader"),
-    ("GET /draws/1/sealed.txt", "head officer reader"), ("POST /draws/", "head"),
+    ("GET /draws/1/sealed.txt", "head officer reader"), ("GET /draws/1/cancel", "head officer"),
+    ("POST /draws/", "head"),
     *((f"POST /draws/1/{it}", "head") for it in ("close", "send")),
     *((f"POST /draws/1/second/{it}", "head officer") for it in (
         "confirm", "go-on", "give-up", "ask-give-up", "keep-on", "confirm-give-up",
@@ -612,7 +613,7 @@ def test_a_register_that_changed_behind_is_refused(small: Machine) -> None:
         given_up(office, number)
         number = begun(office)
         behind(office, small, number, "confirmed", {**RAISED, "pan": 3})
-        with pytest.raises(Refused, match="is not as it was rehearsed. The draw must be given up"):
+        with pytest.raises(Refused, match="is not as it was rehearsed. The draw must be cancelled"):
             office.parts.draws.send(HAL, number, version(office, number))
         assert office.parts.desk.now().draws == []
         assert office.parts.draws.get(number).state == "confirmed"
@@ -767,7 +768,7 @@ def test_a_difference_of_the_audit_stops_it(
         assert draw.state == "sealed" and any("not best" in it for it in draw.rehearsal["wrong"])
         hal = Person(office, "hal", "head")
         page = hal.browser.get(f"/draws/{number}").text
-        assert "the draw cannot go on" in page and "not best: child 1" in page
+        assert "It cannot go on: cancel round 1" in page and "not best: child 1" in page
         found = hal.step(number, "go-on")
         assert found.status_code == 409 and "The rehearsal has found a difference." in found.text
         for name in ("confirm", "send"):
@@ -919,34 +920,36 @@ def test_two_give_up_a_draw_whose_lots_are_sealed(small: Machine) -> None:
         hal, jane = Person(office, "hal", "head"), Person(office, "jane", "officer")
         number = begun(office)
         brought(office, number, "lots")
-        page = hal.browser.get(f"/draws/{number}").text
-        assert "Give up draw 1</button>" in page and "Ask to give up" not in page
+        page = hal.browser.get(f"/draws/{number}/cancel").text
+        assert ">Cancel round 1</button>" in page and "Ask a second person" not in page
         brought(office, number, "rehearsed")
         digest = office.parts.lots.sheet(number)[1].digest()
-        page = hal.browser.get(f"/draws/{number}").text
-        assert "Ask to give up draw 1</button>" in page and ">Give up draw 1</button>" not in page
-        assert f"their SHA-256 sum <code>{digest}</code> stays on record" in page
+        page = hal.browser.get(f"/draws/{number}/cancel").text
+        assert "Ask a second person to cancel round 1</button>" in page
+        assert ">Cancel round 1</button>" not in page
+        assert f"The fingerprint of its lots stays on record: <code>{digest}</code>" in page
         found = hal.step(number, "give-up")
         assert found.status_code == 409 and "in which this cannot be done" in found.text
         found = jane.step(number, "confirm-give-up")
-        assert found.status_code == 409 and "Nobody has asked to give up the draw." in found.text
+        assert found.status_code == 409 and "Nobody has asked to cancel the draw." in found.text
         seen = Fields(jane.browser.get(f"/draws/{number}").text).values["seen"]
         assert hal.step(number, "ask-give-up", reason=MISTYPED).status_code == 303
         stale = jane.press(number, seen, "confirm").text
         assert re.search("hal changed it at .+, and it is in the state &#39;rehearsed&#39;", stale)
         page = hal.browser.get(f"/draws/{number}").text
-        assert "hal has asked to give up the draw." in page and ">Confirm draw 1<" not in page
-        assert ">Give up draw 1</button>" not in page
+        assert "hal has asked to cancel round 1" in page and ">Confirm round 1<" not in page
+        page = hal.browser.get(f"/draws/{number}/cancel").text
+        assert "Somebody else confirms it." in page and ">Cancel round 1</button>" not in page
         found = hal.step(number, "confirm-give-up")
         assert found.status_code == 409 and "somebody else confirms it" in found.text
         found = jane.step(number, "confirm")
-        assert found.status_code == 409 and "Hal has asked to give up the draw" in found.text
+        assert found.status_code == 409 and "hal has asked to cancel the draw" in found.text
         # (it is taken back, and asked for once more)
         assert hal.step(number, "keep-on").status_code == 303
-        assert ">Confirm draw 1<" in jane.browser.get(f"/draws/{number}").text
+        assert ">Confirm round 1<" in jane.browser.get(f"/draws/{number}").text
         assert hal.step(number, "ask-give-up", reason=MISTYPED).status_code == 303
         assert office.parts.desk.closed()
-        assert ">Give up draw 1</button>" in jane.browser.get(f"/draws/{number}").text
+        assert ">Cancel round 1</button>" in jane.browser.get(f"/draws/{number}/cancel").text
         assert jane.step(number, "confirm-give-up").status_code == 303
         assert office.parts.desk.closed() == "" and office.parts.desk.now().draws == []
         last = office.parts.history.entries[-1]
@@ -964,18 +967,22 @@ def test_a_draw_whose_lots_are_sealed_is_given_up_for_a_reason(small: Machine) -
         hal, jane = Person(office, "hal", "head"), Person(office, "jane", "officer")
         number = begun(office)
         brought(office, number, "rehearsed")
-        assert hal.browser.get(f"/draws/{number}").text.count('name="reason"') == 1
+        asked = hal.browser.get(f"/draws/{number}/cancel").text
+        assert asked.count('name="reason"') == 1
         for reason in ("", " ", "two\nlines", 501 * "x"):
             found = hal.step(number, "ask-give-up", reason=reason)
             assert found.status_code == 409, reason
-            assert "Type the reason for giving the draw up in one line" in found.text
+            assert "Type the reason for cancelling the draw in one line" in found.text
             assert office.parts.draws.get(number).give_up_by == ""
         assert f'value="{501 * "x"}"' in found.text
         assert hal.step(number, "ask-give-up", reason=f" {MISTYPED} <b>").status_code == 303
-        said = f"because: <bdi>{MISTYPED} &lt;b&gt;</bdi>"
+        said = f"<bdi>The reason: {MISTYPED} &lt;b&gt;</bdi>"
         page = jane.browser.get(f"/draws/{number}").text
-        assert f"hal has asked for it, {said}" in page and 'name="reason"' not in page
-        assert f"Asked to give it up. Reason: {MISTYPED} &lt;b&gt;" in page
+        assert "hal has asked to cancel round 1" in page and said in page
+        assert f"Asked to cancel it. Reason: {MISTYPED} &lt;b&gt;" in page
+        page = jane.browser.get(f"/draws/{number}/cancel").text
+        assert f"The reason: <bdi>{MISTYPED} &lt;b&gt;</bdi>" in page
+        assert "hal has asked for it." in page and 'name="reason"' not in page
         # (a reason that is taken back is not that of the next request)
         assert jane.step(number, "keep-on").status_code == 303
         assert said not in jane.browser.get(f"/draws/{number}").text
@@ -1022,22 +1029,24 @@ def test_a_second_person_is_not_made_up(small: Machine, how: str) -> None:
         def refused(name: str) -> None:
             found = pat.press(number, str(version(office, number)), name)
             assert found.status_code == 409 and ", after this draw was begun:" in found.text
-            assert said.title()[:3] + said[3:] in found.text, found.text
+            assert said in found.text, found.text
 
         page = pat.browser.get(f"/draws/{number}").text
-        assert page.count(said) == 3 and ">Confirm draw 1<" not in page
-        assert "Ask to give up draw 1</button>" not in page
+        assert page.count(said) == 2 and ">Confirm round 1<" not in page
+        page = pat.browser.get(f"/draws/{number}/cancel").text
+        assert said in page and "</button>" not in page.split("<main>")[1]
         for it in ("confirm", "ask-give-up"):
             refused(it)
         office.parts.draws.ask_give_up(HAL, number, version(office, number), MISTYPED)
-        assert ">Give up draw 1</button>" not in pat.browser.get(f"/draws/{number}").text
+        page = pat.browser.get(f"/draws/{number}/cancel").text
+        assert said in page and ">Cancel round 1</button>" not in page
         refused("confirm-give-up")
         office.parts.draws.go_on(HAL, number, version(office, number))
         brought(office, number, "sending")
         refused("ask-restore")
         office.parts.draws.ask_restore(HAL, number, version(office, number))
-        page = pat.browser.get(f"/draws/{number}").text
-        assert said in page and "Restore the copy from before draw 1</button>" not in page
+        page = pat.browser.get(f"/draws/{number}/cancel").text
+        assert said in page and ">Undo round 1</button>" not in page
         refused("restore")
         # (who was there before goes on; and in the next draw of hal pat is none of the two either)
         office.parts.draws.restore(JANE, number, version(office, number))
@@ -1076,13 +1085,13 @@ def test_what_looks_wrong_is_read_before_it_closes(small: Machine) -> None:
         # (who confirms it is asked the same, and finds what is to be done before the long tables)
         brought(office, number, "rehearsed")
         page = Page(Person(office, "jane", "officer").browser.get(f"/draws/{number}").text)
-        doubts = " ".join(page.by_id["doubts"].split())
-        assert doubts.startswith("When hal closed the register, this looked wrong: ")
+        doubts = " ".join(page.by_id["to-look-at"].split())
+        assert "Is this right? When hal closed the register, this looked wrong: " in doubts
         assert "It is 5 days after today." in doubts and "It is a Saturday." in doubts
-        assert doubts.endswith("hal said that it is right. Is it right?")
-        at = page.text.index(">Confirm draw 1</button>")
-        assert page.text.index("<caption>By school</caption>") < at
-        assert at < page.text.index("<caption>By child</caption>")
+        assert doubts.endswith("hal said that it is right.") and "Agrees" in doubts
+        at = page.text.index(">Confirm round 1</button>")
+        assert page.text.index('id="to-look-at"') < at < page.text.index('id="checked"')
+        assert at < page.text.index('id="by-school"') < page.text.index("By child</caption>")
         assert at < page.text.index('aria-label="Steps"')
 
 

@@ -674,9 +674,9 @@ def test_a_draw_with_a_wrong_day_is_held_again_with_its_lots(small: Machine) -> 
         sent(office, (JANE, {"cmd": "accept", "child": 4, "school": had[4]}),
              (JANE, {"cmd": "accept", "child": 3, "school": had[3]}), (JANE, ADDED))
         other = office.parts.history.entries[-6].number
-        opened = Page(room.hal.get(f"/draws/{number}").text)
+        opened = Page(room.hal.get(f"/draws/{number}/cancel").text)
         found = press(room.hal, "/copies/1/restore", opened,
-                      "This draw was wrong: close for all others, to restore copy 1")
+                      "Close for all others, to restore copy 1")
         restore = int(found.headers["Location"].rsplit("/", 1)[1])
         rows = office.parts.restores.sending.rows(office.parts.restores.get(restore))
         entries = {office.parts.history.entries[it.entry - 1].about["command"]["cmd"]: it
@@ -694,10 +694,10 @@ def test_a_draw_with_a_wrong_day_is_held_again_with_its_lots(small: Machine) -> 
 
         link = f'<a href="/draws/?again={number}#begin">'
         page = room.hal.get(f"/draws/{number}").text
-        assert "This draw was undone." in page and f"{link}Begin draw 1: a round again</a>" in page
+        assert "It was undone." in page and f"{link}Begin round 1 again</a>" in page
         page = room.hal.get("/draws/").text
-        assert page.count(f"{link}begin draw 1 again</a>") == 2
-        assert "This form is for another draw. To hold draw 1 again, follow" in page
+        assert page.count(f"{link}begin round 1 again</a>") == 2
+        assert "This form is for another one. To hold round 1 again, follow" in page
         assert link not in room.jane.get("/draws/").text + room.jane.get(f"/draws/{number}").text
         page = room.hal.get(f"/draws/?again={number}").text
         assert "This form is for another draw" not in page

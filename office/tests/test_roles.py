@@ -50,6 +50,7 @@ OTHERS: dict[tuple[str, str], set[str]] = {
     ("letters.audit", "POST"): {HEAD}, ("letters.text", "GET"): RECORDS,
     ("letter_templates.previewed", "GET"): {HEAD}, ("notices.choose", "GET"): RECORDS,
     ("notices.ask", "GET"): RECORDS, ("draws.second", "POST"): {HEAD, OFFICER},
+    ("draws.cancel", "GET"): {HEAD, OFFICER},
     **{(f"season_end.{it}", "POST"): {HEAD, OFFICER} for it in ("confirm", "go_on", "take_back")},
     ("restores.second", "POST"): {HEAD, OFFICER},
     ("schools.one", "GET"): READS | {SCHOOL}, ("schools.workbook", "GET"): READS | {SCHOOL},

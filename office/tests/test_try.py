@@ -179,7 +179,7 @@ def test_a_round_that_waits_is_kept_in_a_folder(tmp_path: pathlib.Path) -> None:
     with tried(tmp_path / "one", "AT=round", kept) as one:
         people = one.people
         officer, _ = one.signed_in(ROLES[1])
-        assert "Confirm draw 1" in officer.get("/draws/1")
+        assert "Confirm round 1" in officer.get("/draws/1")
         second = subprocess.run(["make", "-s", "-C", str(ROOT), "try", f"PROGRAM={PROGRAM}", kept],
                                 capture_output=True, text=True, check=False)
         assert second.returncode and "in use by another try" in second.stderr
@@ -187,7 +187,7 @@ def test_a_round_that_waits_is_kept_in_a_folder(tmp_path: pathlib.Path) -> None:
     with tried(tmp_path / "two", kept) as two:
         assert two.people == people
         officer, _ = two.signed_in(ROLES[1])
-        assert "Confirm draw 1" in officer.get("/draws/1")
+        assert "Confirm round 1" in officer.get("/draws/1")
         two.end()
 
 

@@ -28,7 +28,7 @@ from .people import Person
 from .rehearsal import Rehearsal, see_accepted
 from .store import Store
 
-GIVE_UP = "The draw must be given up, and begun again."
+GIVE_UP = "The draw must be cancelled, and begun again."
 RESTORE = "The draw cannot go on: the copy from before it must be restored."
 STEADY = "somebody does this who had their role and their password before"
 
@@ -271,7 +271,7 @@ class Draws(DrawStore):
             self.see_second(who)
             why = reason_to_give_up(why)
             self.record(who, "asked to give up", draw, lots=draw.digest, reason=why)
-            with self.moving(draw, who, draw.state, f"Asked to give it up. Reason: {why}",
+            with self.moving(draw, who, draw.state, f"Asked to cancel it. Reason: {why}",
                              give_up_by=who.name, give_up_why=why):
                 pass
 
@@ -279,7 +279,7 @@ class Draws(DrawStore):
         """Takes back that a draw is to be given up."""
         with self.turn(number, seen, *UNSENT_SEALED) as draw:
             self.record(who, "took back the giving up", draw)
-            with self.moving(draw, who, draw.state, "Took back the giving up.", give_up_by=None,
+            with self.moving(draw, who, draw.state, "Took back the cancelling.", give_up_by=None,
                              give_up_why=""):
                 pass
 
@@ -287,8 +287,8 @@ class Draws(DrawStore):
         """Ends a draw whose lots are sealed and not sent, as a second person."""
         with self.turn(number, seen, *UNSENT_SEALED) as draw:
             if not draw.give_up_by:
-                raise Refused("nobody has asked to give up the draw")
-            self.see_second(who, Case(others={draw.give_up_by: "has asked to give up the draw"}),
+                raise Refused("nobody has asked to cancel the draw")
+            self.see_second(who, Case(others={draw.give_up_by: "has asked to cancel the draw"}),
                             "somebody else confirms it")
             self.record(who, "gave up", draw, lots=draw.digest, reason=draw.give_up_why)
             said = f"In the state '{draw.state}'. Digest of the lots {draw.digest}."
@@ -370,7 +370,7 @@ def case_of(draw: Draw) -> Case:
 
 def reason_to_give_up(text: str) -> str:
     """Why a draw with lots is given up, or a refusal."""
-    return draws_again.reason_in(text, "giving the draw up", "who confirms the next draw")
+    return draws_again.reason_in(text, "cancelling the draw", "who confirms the next draw")
 
 
 def held_in(register: Register, draw: Draw) -> int:
@@ -381,7 +381,7 @@ def held_in(register: Register, draw: Draw) -> int:
 def see_goes_on(draw: Draw) -> None:
     """Refuses to go on with a draw that is to be given up or undone."""
     if draw.give_up_by:
-        raise Refused(f"{draw.give_up_by} has asked to give up the draw: that is to be confirmed or"
+        raise Refused(f"{draw.give_up_by} has asked to cancel the draw: that is to be confirmed or"
                       " taken back first")
     if draw.restore_by:
         raise Refused(f"{draw.restore_by} has asked to restore the copy from before the draw: that"
@@ -401,7 +401,7 @@ def see_terms(register: Register, terms: Terms) -> None:
     """Refuses a draw that cannot be the next one."""
     if terms.first != len(register.draws) + 1:
         raise Refused(f"another draw was held meanwhile: the next one is"
-                      f" {len(register.draws) + 1}. Give this one up, and begin again")
+                      f" {len(register.draws) + 1}. Cancel this one, and begin again")
     if terms.school is None:
         if terms.fills != 1:
             raise Refused("a round is one draw")

@@ -18,7 +18,7 @@ from .draws_store import SAVED
 from .draws_terms import LOTS, SEALED, Draw
 from .people import Person
 
-CLOSED = "the lots of this draw cannot be changed: they are sealed, or the draw was given up"
+CLOSED = "the lots of this draw cannot be changed: they are sealed, or the draw was cancelled"
 
 
 @dataclasses.dataclass(frozen=True)

@@ -10,6 +10,7 @@ from register_files import Refused
 from office import model
 
 from .desk import local
+from .draws_made import Made
 from .draws_terms import (
     CLOSED, CLOSING, ENDED, GIVEN_UP, HELD, Draw, Terms, of_rows,
 )
@@ -29,6 +30,8 @@ class DrawStore(StepStore[Draw]):
 
     def __init__(self, store: Store, record: History) -> None:
         super().__init__(store, record)
+        # what was made out of the register for the screens
+        self.made = Made()
         # why no draw can begin, or ""
         self.closed_by_another: Callable[[], str] = str
 

@@ -4,6 +4,7 @@ A draw is a round, or a row of fills at one school that are held in one closure.
 """
 import dataclasses
 import datetime
+import functools
 import json
 import sqlite3
 from typing import Any
@@ -150,14 +151,21 @@ class Draw:
         return self.state in FOLLOWED and not is_held
 
 
+@functools.lru_cache(32)
+def kept_in(text: str) -> dict[str, Any]:
+    """What is kept of a rehearsal or an audit, which is read many times, and changed by nobody."""
+    found: dict[str, Any] = json.loads(text)
+    return found
+
+
 def of_rows(row: sqlite3.Row, steps: list[sqlite3.Row]) -> Draw:
     """A draw of the store."""
     terms = Terms(row["first"], row["school"], row["fills"],
                   datetime.date.fromisoformat(row["day"]))
     return Draw(
         row["id"], terms, row["state"], row["version"], row["copy_before"],
-        row["copy_after"], row["digest"] or "", json.loads(row["rehearsal"] or "{}"),
-        json.loads(row["audit"] or "{}"), row["restore_by"] or "", row["give_up_by"] or "",
+        row["copy_after"], row["digest"] or "", kept_in(row["rehearsal"] or "{}"),
+        kept_in(row["audit"] or "{}"), row["restore_by"] or "", row["give_up_by"] or "",
         row["give_up_why"], row["trouble"] or "", steps_in(steps), row["repeats"],
         row["other_lots"])
 
@@ -170,7 +178,7 @@ IN_WORDS = {
     REHEARSED: "closed, and rehearsed: not confirmed yet",
     CONFIRMED: "closed, and confirmed: not held yet", SENDING: "closed, and being held",
     AUDITED: "held, and the audit agrees", OPENED: "held, and open for all",
-    GIVEN_UP: "given up: nothing was recorded", RESTORED: "undone: the copy was restored",
+    GIVEN_UP: "cancelled: nothing was recorded", RESTORED: "undone: the copy was restored",
 }
 # the same in one to three words, and how it looks
 TAGS = {
@@ -178,7 +186,7 @@ TAGS = {
     LOTS: ("Waits for the lots", "warn"), SEALED: ("Lots sealed", "info"),
     REHEARSED: ("Waits for a second person", "warn"), CONFIRMED: ("Confirmed", "info"),
     SENDING: ("Being held", "warn"), AUDITED: ("Audited", "info"), OPENED: ("Held", "good"),
-    GIVEN_UP: ("Given up", "plain"), RESTORED: ("Undone", "bad"),
+    GIVEN_UP: ("Cancelled", "plain"), RESTORED: ("Undone", "bad"),
 }
 RUNS = {
     BEGUN: "the register is closed for all others", CLOSED: "the register is copied",
@@ -199,32 +207,28 @@ class Step:
 
 
 STEPS = (
-    Step(BEGUN, "What is drawn, and for which day", "Nothing is closed yet."),
-    Step(CLOSED, "Closed for all others",
+    Step(BEGUN, "Begin", "Nothing is closed yet."),
+    Step(CLOSED, "Close for all others",
          "Nobody can record anything from then on until the register is open again. All can still"
          " read, and what somebody has typed stays. The next two steps follow by themselves.",
          "Close for all others"),
-    Step(COPIED, "Copy of the register",
-         "The register is copied, and the copy is compared with it. For some seconds nobody can"
-         " read it. The copy can be restored if the draw goes wrong.", "Make the copy"),
-    Step(LOTS, "Pairs for the supervisor",
-         "The register names each pair of a school and a child for which a lot is drawn, and the"
-         " supervisor finds them on the screen of lots.", "Give the pairs to the supervisor"),
-    Step(SEALED, "Lots of the supervisor",
-         "The supervisor draws the lots, and seals them on the screen of lots. After that nobody"
-         " changes them. The rehearsal follows by itself."),
-    Step(REHEARSED, "Rehearsal on a scratch copy",
-         "The draw is held on a scratch copy, and audited by a second program. Nothing is"
-         " recorded. The outcome is shown here.", "Rehearse"),
-    Step(CONFIRMED, "Confirmed by a second person",
-         "Somebody other than those who began the draw and closed the register for it has read the"
-         " outcome, and says that it may be held.", "Confirm"),
-    Step(SENDING, "Held",
-         "The lots are sent to the register, which allots the places. Only a restore of the copy"
-         " undoes it. The audit follows by itself.", "Hold"),
-    Step(AUDITED, "Audit",
-         "The register is copied once more. A second program works out the draw from the two"
-         " copies, and the outcome is compared with that of the rehearsal. Where"
-         " both agree the register is opened by itself.", "Audit"),
+    Step(COPIED, "Copy the register",
+         "For some seconds nobody can read it. The copy can be restored if something goes wrong.",
+         "Make the copy"),
+    Step(LOTS, "List the lots for the supervisor",
+         "A lot is drawn for each child at each school where it takes part.",
+         "Give the pairs to the supervisor"),
+    Step(SEALED, "Draw and seal the lots",
+         "The supervisor draws and seals them on the screen of lots. Nobody changes them after"
+         " that, and the rehearsal follows by itself."),
+    Step(REHEARSED, "Rehearse on a copy, and audit",
+         "A second program audits the outcome. Nothing is recorded.", "Rehearse"),
+    Step(CONFIRMED, "Confirm", "Nothing is recorded yet.", "Confirm"),
+    Step(SENDING, "Hold",
+         "The register allots the places. Only a restore of the copy by two persons undoes it. The"
+         " audit follows by itself.", "Hold"),
+    Step(AUDITED, "Audit once more",
+         "The register is copied, and audited against the copy from before and the rehearsal. If"
+         " they agree it is opened by itself.", "Audit"),
     Step(OPENED, "Open for all", "Everybody can record again.", "Open for all"),
 )

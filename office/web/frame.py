@@ -8,7 +8,7 @@ from typing import Any
 import flask
 
 from . import guard, wording
-from .draws_terms import LOTS, REHEARSED, Draw
+from .draws_terms import CONFIRMED, LOTS, REHEARSED, Draw
 from .parts import Parts
 from .people import CONFIRM, LISTS, NOTES, PEOPLE, READ, RECORD, Person
 from .people import LOTS as OF_LOTS
@@ -121,10 +121,14 @@ def here(own: dict[str, list[Screen]]) -> Iterator[tuple[str, Screen, bool]]:
             yield group, it, False
 
 
+# of a draw whose outcome is known, on each page
+BEFORE = " Until it is held, all pages but its own show the register from before it."
+
+
 def turn(draw: Draw) -> str:
     """Who goes on with a draw in progress."""
     if asker := draw.give_up_by:
-        return f"{asker} has asked to give it up: a second person confirms that, or does not."
+        return f"{asker} has asked to cancel it: a second person confirms that, or does not."
     if asker := draw.restore_by:
         return (f"{asker} has asked to restore the copy from before it: a second person confirms"
                 " that, or does not.")
@@ -156,9 +160,11 @@ def now(parts: Parts) -> Now | None:
         return Now(closed, "", "", "") if closed else None
     words, view, number = where
     is_draw = draw is not None and view == "draws.one"
+    whose = turn(draw) if draw and is_draw else ""
+    if whose and draw and draw.state in (REHEARSED, CONFIRMED):
+        whose += BEFORE
     return Now(closed or wording.sentence(f"{draw.in_words} is in progress" if draw else ""),
-               turn(draw) if draw and is_draw else "", f"To {words}",
-               flask.url_for(view, number=number))
+               whose, f"To {words}", flask.url_for(view, number=number))
 
 
 def foot(parts: Parts) -> str:

@@ -134,12 +134,21 @@ def has_words(words: str, row: list[Cell], register: Register) -> bool:
     """Whether each word is in some cell, as it is stored or as it is shown, or in the name of a
     school there, whatever capitals and accents. A number is only found whole.
     """
+    return is_in(words, text_of(row, register))
+
+
+def text_of(row: list[Cell], register: Register) -> str:
+    """What is looked for words in a row, which is made once where it is looked at often."""
     there = [str(it) for it in row if it is not None]
     there += [worklists.in_words(it) for it in row if isinstance(it, str)]
     there += [register.schools[it].name for it in row
               if isinstance(it, str) and it in register.schools]
     # (once for all: a long list has many cells)
-    text = texts.folded(" ".join(there))
+    return texts.folded(" ".join(there))
+
+
+def is_in(words: str, text: str) -> bool:
+    """Whether each word is in the text of a row."""
     whole = set(text.split())
     return all(it in whole if it.isdigit() else it in text
                for it in texts.folded(words).split())

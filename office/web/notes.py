@@ -117,6 +117,11 @@ class Notes:
         rows = self.store.rows("SELECT * FROM note WHERE child=? ORDER BY number DESC", child)
         return [Note(**dict(it)) for it in rows]
 
+    def children(self) -> set[int]:
+        """The children with a note that is not struck out."""
+        rows = self.store.rows("SELECT DISTINCT child FROM note WHERE struck_by IS NULL")
+        return {it["child"] for it in rows}
+
     def files_of(self, child: int) -> list[File]:
         """The files of a child, the last first."""
         columns = ", ".join(it.name for it in dataclasses.fields(File))

@@ -97,7 +97,7 @@ def two_persons(parts: Parts) -> Iterator[tuple[str, str, str, Case]]:
         if draw.state in IN_ORDER[:IN_ORDER.index(CONFIRMED)]:
             yield title, "confirm it", CONFIRM, draws.case_of(draw)
         if draw.give_up_by or draw.restore_by:
-            what = "confirm its restore" if draw.state in SENT else "confirm that it is given up"
+            what = "confirm its restore" if draw.state in SENT else "confirm that it is cancelled"
             asker = draw.give_up_by or draw.restore_by
             yield title, what, CONFIRM, Case(others={asker: "has asked for it"})
     if (restore := parts.restores.present()) and restore.state in (CLOSED, ASKED):

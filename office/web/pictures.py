@@ -64,6 +64,19 @@ def bar(value: float, of: float, kind: str) -> Markup:
                   f' aria-hidden="true">{rect(0, 0, 100, 10, "trough")}{drawn}</svg>')
 
 
+def stacked(values: Sequence[tuple[float, str]], of: float) -> Markup:
+    """The same of several parts of a whole, one after the other, each with the class of its colour.
+    """
+    parts, x = [rect(0, 0, 100, 10, "trough")], 0.0
+    for value, kind in values:
+        width = min(100 * value / of if of else 0, 100 - x)
+        if width > 0:
+            parts.append(rect(x, 0, width, 10, kind))
+            x += width
+    return Markup('<svg class="bar" viewBox="0 0 100 10" preserveAspectRatio="none"'
+                  f' aria-hidden="true">{"".join(parts)}</svg>')
+
+
 class Ground:
     """The ground of a map: from metres on the national grid to the picture."""
 
@@ -368,3 +381,70 @@ def movement(
         if track[-1]:
             parts.append(label(stops[-1][0] + 10, stops[-1][1] + 5, str(track[-1]), "strong"))
     return svg(name, width, top + high + low, title, text, parts, "moves")
+
+
+# the size of a flow, and the least room of a node on each side, for its words
+FLOW_WIDTH, FLOW_HEIGHT, FLOW_TOP, FLOW_SIDE, NODE = 760.0, 420.0, 34.0, 190.0, 14.0
+LEAST_LEFT, LEAST_RIGHT = 24.0, 40.0
+
+
+def flow(
+    name: str, title: str, text: str, left: Sequence[str], right: Sequence[tuple[str, str]],
+    counts: Sequence[Sequence[int]], heads: tuple[str, str],
+) -> Markup:
+    """From what was wanted to what came of it. `left` are names, `right` are names with the class
+    of their colour, and counts[i][j] is how many went from the one to the other.
+    """
+    sums_left = [sum(row) for row in counts]
+    sums_right = [sum(column) for column in zip(*counts)]
+    total, high = sum(sums_left), max(FLOW_HEIGHT, LEAST_LEFT * len(left) / 0.8)
+    scale = 0.62 * high / total
+    y_left = starts([it * scale for it in sums_left], LEAST_LEFT, high)
+    y_right = starts([it * scale for it in sums_right], LEAST_RIGHT, high)
+    parts = [label(0, 14, heads[0], "strong"),
+             label(FLOW_WIDTH, 14, heads[1], "strong", "end"),
+             *ribbons(left, right, counts, scale, (list(y_left), list(y_right)))]
+    for words, many, y in zip(left, sums_left, y_left):
+        parts += [rect(FLOW_SIDE, y, NODE, many * scale, "node"),
+                  label(FLOW_SIDE - 10, y + many * scale / 2 + 5, f"{words}  {many:,}", "", "end")]
+    at = FLOW_WIDTH - FLOW_SIDE
+    for (words, kind), many, y in zip(right, sums_right, y_right):
+        middle = y + many * scale / 2
+        parts += [rect(at, y, NODE, many * scale, f"node {kind}"),
+                  label(at + NODE + 10, middle + 1, words, "strong"),
+                  label(at + NODE + 10, middle + 18, f"{many:,} ({100 * many / total:.1f}%)",
+                        "quiet")]
+    return svg(name, FLOW_WIDTH, high + FLOW_TOP + 22, title, text, parts, "flow")
+
+
+def starts(lengths: Sequence[float], least: float, high: float) -> list[float]:
+    """Where each node of a side begins: each has room for its words, and the room that is left is
+    between them.
+    """
+    rooms = [max(it, least) for it in lengths]
+    between, y, found = max(high - sum(rooms), 0) / max(len(rooms) - 1, 1), FLOW_TOP, []
+    for it, room in zip(lengths, rooms):
+        found.append(y + (room - it) / 2)
+        y += room + between
+    return found
+
+
+def ribbons(
+    left: Sequence[str], right: Sequence[tuple[str, str]], counts: Sequence[Sequence[int]],
+    scale: float, ends: tuple[list[float], list[float]],
+) -> Iterable[str]:
+    """What leads from the nodes of the left to those of the right, which begin at `ends`."""
+    x1, x2 = FLOW_SIDE + NODE, FLOW_WIDTH - FLOW_SIDE
+    for i, row in enumerate(counts):
+        for j, many in enumerate(row):
+            thick = many * scale
+            y1, y2 = ends[0][i] + thick / 2, ends[1][j] + thick / 2
+            ends[0][i], ends[1][j] = ends[0][i] + thick, ends[1][j] + thick
+            if many:
+                half = (x1 + x2) / 2
+                yield (
+                    f'<path class="ribbon {right[j][1]}" stroke-width="{max(thick, 0.6):.1f}"'
+                    f' d="M{x1:g} {y1:.1f}C{half:.0f} {y1:.1f} {half:.0f} {y2:.1f} {x2:g}'
+                    f' {y2:.1f}">'
+                    f"<title>{escape(left[i])} to {escape(right[j][0].lower())}: {many}</title>"
+                    "</path>")

@@ -25,6 +25,8 @@ from .draws_terms import Command, Terms
 # an outcome as numbers: the draw, the child, the school that it had, the one that it has, and
 # whether that is new
 Outcome = list[Any]
+# what became of who put a school first: 0 is the first preference, 1 the second, 2 the third
+LOWER, NO_PLACE = 3, 4
 
 
 def outcomes(before: Register, after: Register, number: int) -> list[Outcome]:
@@ -180,19 +182,42 @@ class Rehearsal:
         """What is kept of it: numbers and codes alone."""
         return {"answers": self.answers, "audits": self.found.lines, "outcomes": self.outcomes,
                 "accepted_ended": self.accepted_ended, "wrong": self.found.wrong,
-                "schools": self.schools(), "met": self.met()}
+                "schools": self.schools(), "firsts": self.firsts(), **self.explained()}
 
     def schools(self) -> dict[str, list[int]]:
         """The places of each school after the draws: its admission number, how many are held by
-        plans, how many are vacant, and how many children wait for one.
+        plans, how many are vacant, how many children wait for one, and how many places are held.
         """
-        return {code: [it.pan, it.plans, it.vacancies, it.waiting]
+        return {code: [it.pan, it.plans, it.vacancies, it.waiting, it.taken]
                 for code, it in self.registers[-1].schools.items()}
 
-    def met(self) -> list[tuple[int | str, int, str]]:
-        """How many children a round leaves with which preference."""
-        is_round = self.outcomes and not self.terms.school
-        return draw_lists.met(self.registers[-1], self.terms.first) if is_round else []
+    def firsts(self) -> dict[str, list[int]]:
+        """Of the children who put each school first: how many a round leaves with their first,
+        second, third or a lower preference, and how many without a place.
+        """
+        found: dict[str, list[int]] = {}
+        register = self.registers[-1]
+        for _, child, _, has, _ in [] if self.terms.school else self.outcomes:
+            listed = register.applications[child].preferences
+            came = min(listed.index(has), LOWER) if has else NO_PLACE
+            found.setdefault(listed[0], [0] * (NO_PLACE + 1))[came] += 1
+        return found
+
+    def explained(self) -> dict[str, Any]:
+        """The class and the metres of the last child that each school takes in; what put each child
+        that is refused at a school after that one; and of whom a lot decides, with the draw.
+        """
+        register = self.registers[-1]
+        draws = [it for it in register.draws if it.number >= self.terms.first]
+        last: dict[str, list[int]] = {}
+        refused: dict[str, dict[str, list[int]]] = {}
+        for it in draws:
+            drawn = register.drawn(it.number)
+            last |= {code: [found.number, found.metres] for code, found in drawn.cutoffs.items()}
+            for (code, child), by in drawn.refusals.items():
+                refused.setdefault(code, {}).setdefault(by or "", []).append(child)
+        lots = draw_lists.equal_at_limit(dataclasses.replace(register, draws=draws))[1:]
+        return {"last": last, "refused": refused, "by_lot": [[it[0], it[2]] for it in lots]}
 
     def has_outcome(self, kept: dict[str, Any]) -> bool:
         """Whether its answers and outcomes are those that were kept of another one."""

@@ -31,6 +31,8 @@ class Draw:
     school: str = ""
     fills: int = 1
     is_workbook: bool = False
+    # the number of the round, if it is one
+    round: int = 1
     # the number of its page, if that is another one than that of the draw in the register
     page: int = 0
     # the day of the office when the draw is held, if its own is wrong
@@ -54,8 +56,23 @@ class Draw:
         return f"{self.numbers} (page {self.page})" if self.page else self.numbers
 
     @property
+    def name(self) -> str:
+        """How its own screen names it: by the number of the round, or by its places."""
+        if not self.school:
+            return f"round {self.round}"
+        school = next(it.name for it in town.SCHOOLS if it.code == self.school)
+        places = f"{self.fills} places" if self.fills > 1 else "1 place"
+        return f"the offer of {places} at {school}"
+
+    @property
+    def heading(self) -> str:
+        """The same as the heading of its screen."""
+        text = self.name.removeprefix("the ")
+        return text[0].upper() + text[1:]
+
+    @property
     def title(self) -> str:
-        """The same as a heading."""
+        """How the screen of lots names it."""
         text = self.words.replace(self.numbers, self.numbered)
         return text[0].upper() + text[1:]
 
@@ -86,7 +103,7 @@ def held_again(office: Office, draw: Draw, lots: Lots) -> None:
     office.report.step(f"{draw.words}: held again on {draw.day}")
     jane.type_day("Day of the draw", draw.day)
     jane.enter()
-    office.report.same(jane.title, draw.title, "the heading of the draw that is held again")
+    office.report.same(jane.title, draw.heading, "the heading of the draw that is held again")
     closed(office, draw, len(lots))
     at_lots(sup, draw)
     sup.see(f"{len(lots)} lots were sealed in the draw that this one repeats, and stay as they"
@@ -130,21 +147,20 @@ def begun(office: Office, draw: Draw) -> None:
     jane = office.jane
     jane.go("Offers", "Draws")
     if draw.school:
-        jane.pick("What is drawn", "fills", "fills")
+        jane.pick("What is drawn", "places", "places")
     jane.type_day("Day of the draw", draw.day)
     if draw.school:
-        jane.pick("School, for fills", f"{draw.school} ", f"{draw.school} ")
-        jane.fill("How many fills there", str(draw.fills))
+        jane.pick("School, for places from its waiting list", f"{draw.school} ", f"{draw.school} ")
+        jane.fill("How many places there", str(draw.fills))
     jane.enter()
-    office.report.same(jane.title, draw.title, "the heading of the draw")
+    office.report.same(jane.title, draw.heading, "the heading of the draw")
 
 
 def closed(office: Office, draw: Draw, pairs: int) -> None:
     """The register is closed for all others, copied, and its pairs are given to the supervisor."""
     report, jane = office.report, office.jane
-    facts = jane.facts()
-    report.see(facts.get("Lots", "").startswith(f"{pairs} pairs of "),
-               f"pairs: {facts.get('Lots')}")
+    checks = jane.text("#checks")
+    report.see(f"{pairs} pairs of " in checks, f"pairs: {checks}")
     if jane.has(AGREED):
         jane.press(AGREED, is_new=False)
         office.ticks += 1
@@ -253,8 +269,7 @@ def rehearsed(office: Office, draw: Draw, lots: Lots) -> None:
     else:
         outcome = season.round({pair: it[0] for pair, it in lots.items()}, draw.day)
         got = [(draw.first, child, school) for child, school in outcome.items()]
-    shown = sorted((int(row[0]), int(row[1]), row[3], row[4])
-                   for row in jane.captioned("By child"))
+    shown = sorted(it for row in jane.captioned("By child") if (it := came(draw, row)))
     wanted = sorted((number, child, before.get(child, "none"), school or "none")
                     for number, child, school in got)
     report.same(shown, wanted, f"the outcome of the rehearsal of {draw.numbers}")
@@ -262,7 +277,16 @@ def rehearsed(office: Office, draw: Draw, lots: Lots) -> None:
     office.report.see("A second person has to confirm it." in hal.text(".closed"),
                       f"hal is not told whose turn it is: {hal.text('.closed')}")
     hal.press(f"To {draw.numbered}")
-    hal.press(f"Confirm {draw.numbers}")
+    hal.press(f"Confirm {draw.name}")
+
+
+def came(draw: Draw, row: list[str]) -> tuple[int, int, str, str] | None:
+    """The draw, the child, what it had and what it has, of a row of the outcome; None of a child
+    that was late.
+    """
+    number = int(row[2]) if draw.fills > 1 else draw.first
+    had, has, what = ["none", *row[2:4]] if draw.first == 1 else row[-4:-1]
+    return None if what.startswith("late") else (number, int(row[1]), had, has)
 
 
 def rested(who: Hands) -> None:
@@ -274,7 +298,7 @@ def sent(office: Office, draw: Draw) -> None:
     """It is held, and the audit that agrees opens the register for all."""
     report, jane = office.report, office.jane
     jane.reload()
-    jane.press(f"Hold {draw.numbers}")
+    jane.press(f"Hold {draw.name}")
     rested(jane)
     jane.see("The audit agrees, and the register is open for all again.")
     jane.see("The outcome is that of the rehearsal, and the second program has worked out the"

@@ -94,7 +94,7 @@ def withdrawals(office: Office) -> None:
 def second_round(office: Office) -> None:
     """The second round, in which late applications take part too, with a wrong day at first."""
     day = office.offer_day + datetime.timedelta(days=AFTER_SECOND)
-    wrong.held(office, Draw(2 + FILLS, day, "02 03 19 28 41 47", page=3))
+    wrong.held(office, Draw(2 + FILLS, day, "02 03 19 28 41 47", round=2, page=3))
 
 
 def other_screens(office: Office) -> None:
@@ -152,10 +152,10 @@ STEPS: tuple[tuple[Callable[[Office], None], int], ...] = (
     (fills, 7),
     # the same, and the ticks
     (withdrawals, 6),
-    # the wrong draw (7) and two answers with their question (3); the close, the question, and for
-    # the officer the restore and its confirmation (4); the draw again (6 and the seal of all lots);
-    # and the answer to its offer (2)
-    (second_round, 22),
+    # the wrong draw (7) and two answers with their question (3); the page that undoes it, the
+    # close, the question, and for the officer the restore and its confirmation (5); the draw again
+    # (6 and the seal of all lots); and the answer to its offer (2)
+    (second_round, 23),
     # the screen, what is made, and the file
     (ending.figures, 3),
     (ending.question, 4),

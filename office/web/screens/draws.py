@@ -1,8 +1,7 @@
-"""The draw: what it is, the steps with what is done, and the next one as a button."""
+"""Rounds and offers from waiting lists: their list, the page of one, and its steps."""
 import dataclasses
 import datetime
 from collections.abc import Callable, Mapping, Sequence
-from typing import Any
 
 import flask
 from register_files import Refused
@@ -11,51 +10,20 @@ from werkzeug.wrappers import Response
 from office import days, texts
 from office.model import Register
 
-from .. import (
-    draws_again, draws_changes, draws_checks, draws_outcome, draws_second, explanations,
-    list_choice, numbers, restores_terms, step_store, tables,
-)
-from ..draws import case_of, held_in, next_state
-from ..draws_changes import Change
+from .. import draws_again, draws_cancel, draws_checks, draws_words, numbers, step_store
+from .. import draws_page as page
+from ..draws_checks import Check
 from ..draws_following import Work
 from ..draws_lots import sheet_of
-from ..draws_second import Case, Second
-from ..draws_outcome import OfChild, OfSchool
-from ..draws_terms import (
-    AUDITED, BEGUN, CLOSED, CONFIRMED, FOLLOWED, IN_ORDER, IN_WORDS, MOST_FILLS, OPENED, REHEARSED,
-    RUNS, SEALED, SENDING, SENT, STEPS, TAGS, UNSEALED, UNSENT_SEALED, Draw,
-)
+from ..draws_page import AGAIN
+from ..draws_terms import BEGUN, IN_WORDS, MOST_FILLS, OPENED, RUNS, TAGS, Draw
 from ..guard import needs, parts, person
 from ..parts import Parts
-from ..people import CONFIRM, DRAW, READ, Person
-from ..tables import Column
+from ..people import CONFIRM, DRAW, LOTS, READ, Person
 from ..wording import day_of, sentence
 
 screen = flask.Blueprint("draws", __name__, url_prefix="/draws")
 Answer = str | Response | tuple[str, int]
-# the request by which a draw comes to a state, where that does not follow by itself; and the one by
-# which what follows is tried again
-ACTIONS, AGAIN = {CLOSED: "close", CONFIRMED: "confirm", SENDING: "send"}, "go-on"
-# what a button says of the draws that it concerns
-NAMING = (CONFIRMED, SENDING, AUDITED)
-# in these a draw is still to be confirmed
-TO_CONFIRM = IN_ORDER[:IN_ORDER.index(CONFIRMED)]
-# who does a step that does not follow by itself
-DOES = {CLOSED: "by a head of the office", SEALED: "by the supervisor",
-        CONFIRMED: "by a second person", SENDING: "by a head of the office"}
-SCHOOLS: dict[str, Column[OfSchool]] = {
-    "school": Column("School", "", lambda it: it.school),
-    "pan": Column("Places", "number", lambda it: it.pan),
-    "offers": Column("New places", "number", lambda it: it.offers),
-    "moves": Column("of these, moves", "number", lambda it: it.moves),
-    "kept": Column("Kept", "number", lambda it: it.kept),
-    "plans": Column("EHC plans", "number", lambda it: it.plans),
-    "vacancies": Column("Vacant", "number", lambda it: it.vacancies),
-    "waiting": Column("Waiting", "number", lambda it: it.waiting),
-    "gone": Column("Left for another", "number", lambda it: it.gone),
-}
-# those of which a rehearsal of an earlier release says nothing
-LATER = ("pan", "plans", "vacancies", "waiting")
 
 
 def register_now() -> tuple[Register | None, str]:
@@ -75,6 +43,8 @@ def list_page(reason: str = "", status: int = 200, field: str = "") -> Answer:
     given = flask.request.form or repeated(listed) or of_school()
     return flask.render_template(
         "draws.html", draws=listed, present=draws.present(), register=register,
+        titles={it.number: draws_words.title_of(it, register) for it in listed},
+        heads=page.who_may(DRAW), supervisors=page.who_may(LOTS), name_of=draws_words.name_of,
         reason=reason or trouble, kind=given.get("kind", "round"), given=given,
         day=given.get("day", days.in_words(day)), most=MOST_FILLS, choices=schools_of(register),
         wrong={field: sentence(reason.partition(": ")[2])} if field else {}, tags=TAGS,
@@ -125,10 +95,10 @@ def begin() -> Answer:
             raise Refused("type the day of the draw as 3 March 2025 or 3/3/2025")
         field = "school"
         if school == "":
-            raise Refused("choose the school of the fills")
+            raise Refused("choose the school of the places")
         field = "fills"
         if school and count < 0:
-            raise Refused(f"the number of fills is from 1 to {MOST_FILLS}")
+            raise Refused(f"the number of places is from 1 to {MOST_FILLS}")
         field = "reason"
         reason = reason_of(form)
         field = ""
@@ -160,263 +130,61 @@ def work_on(number: int) -> Work | None:
 
 
 def draw_page(number: int, reason: str = "", status: int = 200) -> Answer:
-    """A draw with its steps."""
+    """A draw: who has to do what now, what was checked, its outcome, and its steps."""
     # (before the draw is read: what ends meanwhile was not cut off)
     work = work_on(number)
     draw, (register, trouble) = found_draw(number), register_now()
-    standing, state = standing_of(draw, register), state_to_come(draw, register)
-    step = next((it for it in STEPS if it.state == state), None)
-    checks = checks_of(draw, register)
-    agreed = draws_checks.agreed_to(checks)
-    button, outcome = button_of(draw, state, standing), outcome_of(draw, register)
+    outcome, changes = page.outcome_of(draw, register), page.changes_of(draw, register)
+    shown = page.shown_outcome(draw, register, outcome) if outcome and register else {}
     work = work or work_on(number)
+    found = page.seen(draw, register, work)
     # (who saw the page before the end of a step reads here why it was not done)
     if not work and not reason and not draw.trouble and (
             said := parts().following.refused(number)):
         reason = f"The last step was not done: {sentence(said)}"
     # (while something runs the register may be away for some seconds)
     trouble = "" if work else trouble
+    checks = checks_of(draw, register)
+    to_look_at, checked = page.verdicts_of(draw, register, outcome, changes)
+    agreed = draws_checks.agreed_to(checks)
     return flask.render_template(
-        "draw.html", draw=draw, reason=reason or trouble, step=step, tag=TAGS[draw.state],
-        steps=step_store.shown(STEPS, draw.done, "" if work else state, DOES, end_of(draw)),
-        history=step_store.history(draw.done),
-        action=action_of(draw, state), by_second=SECOND, button=button, standing=standing,
-        why_not=why_not(draw, state, register), register=register,
-        checks=checks, outcome=outcome, agreed=agreed,
-        is_agreed=flask.request.form.get("agreed") == agreed,
-        round_held=round_held(draw, register),
-        may_give_up=draw.state in UNSEALED, has_lots=parts().draws.has_lots(draw),
-        second=second_of(draw), changes=changes_of(draw, register),
-        needs_two=draw.state in UNSENT_SEALED,
-        may_restore=draw.state in SENT, not_second=not_second(draw), alone=alone(draw),
-        is_opened=draw.state == OPENED, halted="" if reason else draw.trouble,
-        before=draws_again.given_up(parts().draws, draw), is_explained=is_explained(draw, register),
-        is_tried=is_tried(draw, register),
+        "draw.html", draw=draw, register=register, name=found.name, work=work,
+        kind=draws_words.kind_of(draw.terms), title=draws_words.title_of(draw, register),
+        about=draws_words.about(draw, register), tags=page.tags_of(found), standing=found.standing,
+        reason=reason or trouble, halted="" if reason else draw.trouble,
+        decision=page.decision_of(found), by_second=page.OF_SECOND, steps=page.steps_of(found),
+        history=step_store.history(draw.done), checks=checks, agreed=agreed,
+        is_agreed=flask.request.form.get("agreed") == agreed, to_look_at=to_look_at,
+        checked=checked, changes=changes, outcome=shown, whole=outcome,
+        runs=RUNS.get(draw.state, "a step is done"), in_words=page.state_in_words(found),
+        is_opened=draw.state == OPENED, round_held=page.round_held(draw, register),
+        may_cancel=page.may_be_cancelled(draw), second=page.second_of(draw),
+        who_did=page.taking_part(found), before=draws_again.given_up(parts().draws, draw),
+        is_explained=page.is_explained(draw, register), is_tried=page.is_tried(draw, register),
         repeats=found_draw(draw.repeats) if draw.repeats else None,
-        may_undo=draw.state == OPENED and bool(draw.before), unsent=unsent_of(draw),
-        work=work, most_reason=draws_again.MOST_REASON,
-        typed=flask.request.form.get("reason", ""),
-        is_read_first=bool(outcome) and draw.state == REHEARSED, again=again_of(draw),
-        doubts="" if draw.is_ended else draw.came_to(CLOSED).said,
-        runs=RUNS.get(draw.state, "a step is done"), in_words=state_in_words(draw, standing),
+        title_of=draws_words.title_of,
+        unsent=page.unsent_of(draw), again=page.again_of(draw),
     ), status
 
 
-def state_in_words(draw: Draw, standing: int) -> str:
-    """The state of a draw as an office reads it."""
-    if draw.state == SENDING and standing == draw.terms.fills:
-        return "closed, and held; not audited yet"
-    return IN_WORDS[draw.state]
+def cancel_page(number: int, reason: str = "", status: int = 200) -> Answer:
+    """How a draw is cancelled, or undone: what that does, who takes part, and the one button."""
+    draw, (register, trouble) = found_draw(number), register_now()
+    found = page.seen(draw, register, work_on(number))
+    is_later = draws_cancel.is_undone_later(draw) and person().may(DRAW)
+    return flask.render_template(
+        "draw_cancel.html", draw=draw, name=found.name, title=draws_words.title_of(draw, register),
+        kind=draws_words.kind_of(draw.terms), work=found.work, is_later=is_later,
+        way=None if found.work else page.cancel_way(found), reason=reason or trouble,
+        typed=flask.request.form.get("reason", ""), most_reason=draws_again.MOST_REASON,
+    ), status
 
 
-def end_of(draw: Draw) -> str:
-    """How a draw has ended that was not held to its end, in words; or ""."""
-    return sentence(IN_WORDS[draw.state]) if draw.is_ended and draw.state != OPENED else ""
-
-
-def round_held(draw: Draw, register: Register | None) -> int:
-    """The number of a round that the register has, or 0."""
-    return next((it.round or 0 for it in (register.draws if register else [])
-                 if it.number == draw.terms.first and draw.state in (AUDITED, OPENED)), 0)
-
-
-def again_of(draw: Draw) -> bool:
-    """Whether a draw was undone, and the person can begin it again now."""
-    found = parts().draws
-    return person().may(DRAW) and found.present() is None and any(
-        it.number == draw.number for it in draws_again.undone(found.listed()))
-
-
-def action_of(draw: Draw, state: str) -> str:
-    """The request of the next button, or ""."""
-    return AGAIN if state and draw.state in FOLLOWED else ACTIONS.get(state, "")
-
-
-def unsent_of(draw: Draw) -> tuple[int, int] | None:
-    """The restore by which the draw that this one repeats was undone, and how many entries that
-    came after that one can be sent again now; for who may send them.
-    """
-    if draw.state != OPENED or not draw.repeats or not person().may(DRAW):
-        return None
-    restores = parts().restores
-    found = next((it for it in restores.listed() if it.draw == draw.repeats
-                  and it.state == restores_terms.OPENED), None)
-    if found is None:
-        return None
-    may = restores.later(found)
-    count = sum(may.get(it.entry) == "" for it in restores.sending.rows(found)
-                if it.state in (restores_terms.LATER, restores_terms.REFUSED))
-    return (found.number, count) if count else None
-
-
-def alone(draw: Draw) -> str:
-    """Why nobody else can be the second of two persons, where two are needed to end it; or ""."""
-    is_for_two = draw.state in (*UNSENT_SEALED, *SENT)
-    return draws_second.alone(parts().store, parts().history, person().name) if is_for_two else ""
-
-
-def is_explained(draw: Draw, register: Register | None) -> bool:
-    """Whether each child of a draw can be explained: it was held."""
-    return draw.state in (AUDITED, OPENED) and any(
-        it.number == draw.terms.first for it in (register.draws if register else []))
-
-
-def is_tried(draw: Draw, register: Register | None) -> bool:
-    """Whether other schools can be tried: it is a round, and the copy from before it is kept."""
-    return is_explained(draw, register) and any(
-        it.number == draw.terms.first and explanations.kept_before(parts(), it)
-        for it in (register.rounds if register else []))
-
-
-def standing_of(draw: Draw, register: Register | None) -> int:
-    """How many draws of the row the register has."""
-    return held_in(register, draw) if register and draw.state in SENT else 0
-
-
-def state_to_come(draw: Draw, register: Register | None) -> str:
-    """The state to which the next step leads, or "": the same of a row that is not held to its end.
-    """
-    is_held = draw.state != SENDING or standing_of(draw, register) == draw.terms.fills
-    return next_state(draw) if is_held else SENDING
-
-
-def button_of(draw: Draw, state: str, standing: int) -> str:
-    """The text of the next button."""
-    text = next((it.button for it in STEPS if it.state == state), "")
-    if state == SENDING and standing:
-        return f"Go on, and hold the last {draw.terms.fills - standing}"
-    return f"{text} {draw.terms.numbers}" if text and state in NAMING else text
-
-
-def not_second(draw: Draw) -> str:
-    """Why the person is none of two who end a draw together, or ""."""
-    asker = draw.give_up_by or draw.restore_by
-    others = {asker: "has asked for it"} if asker not in ("", person().name) else {}
-    found = "" if draw.is_ended else draws_second.hindered(
-        parts().history, person().name, Case(others=others))
-    return f"{found}." if found else ""
-
-
-def second_of(draw: Draw) -> Second | None:
-    """Who may confirm a draw that is to be held, as far as it is brought now; before it is closed,
-    if the person who looks and may hold draws closes it.
-    """
-    if draw.state not in TO_CONFIRM:
-        return None
-    case = case_of(draw)
-    if draw.state == BEGUN and person().may(DRAW):
-        closes = {person().name: "would have closed the register for it"}
-        case = dataclasses.replace(case, others={**closes, **case.others})
-    return draws_second.second_of(parts().store, parts().history, case)
-
-
-def why_not(draw: Draw, state: str, register: Register | None) -> str:
-    """Why the person cannot do the next step, or ""."""
-    who = person()
-    if register is None:
-        return "The register does not answer now. Load this page again in a moment."
-    if draw.give_up_by:
-        return f"{draw.give_up_by} has asked to give up the draw."
-    if draw.restore_by:
-        return f"{draw.restore_by} has asked to restore the copy from before the draw."
-    if state == SEALED:
-        return "The supervisor does this, on the screen of lots."
-    said = draws_second.hindered(parts().history, who.name, case_of(draw)) if (
-        state == CONFIRMED and who.may(CONFIRM)) else ""
-    if said:
-        return f"{said}. Somebody else confirms it."
-    action = action_of(draw, state)
-    if action and not who.may(CONFIRM if action in SECOND else DRAW):
-        return "Your role does not do this."
-    return ""
-
-
-def checks_of(draw: Draw, register: Register | None) -> list[Any]:
+def checks_of(draw: Draw, register: Register | None) -> list[Check]:
     """What is to be read before the register is closed."""
     if register is None or draw.state != BEGUN:
         return []
     return parts().draws.checks(draw)
-
-
-def changes_of(draw: Draw, register: Register | None) -> list[Change] | None:
-    """What was changed since the applications were stored, for who reads it before the register is
-    closed, or before the draw is confirmed.
-    """
-    if register is None or draw.state not in (BEGUN, REHEARSED):
-        return None
-    return draws_changes.changes(parts().history, register, draw.terms)
-
-
-def outcome_of(draw: Draw, register: Register | None) -> dict[str, Any]:
-    """The outcome of the rehearsal, with the names of the children: how many have which, and the
-    tables of the schools and of the children.
-    """
-    found = draw.rehearsal.get("outcomes", [])
-    if not found or register is None:
-        return {}
-    names = {it.number: it.name for it in register.children.values()}
-    # (a rehearsal of an earlier release did not keep these)
-    accepted_ended = draw.rehearsal.get("accepted_ended", [])
-    places = draw.rehearsal.get("schools", {})
-    columns = {name: it for name, it in SCHOOLS.items() if places or name not in LATER}
-    return {
-        "counts": figures_of(draw, found), "accepted_ended": len(accepted_ended), "names": names,
-        "met": draws_outcome.met_in_words(draw.rehearsal.get("met", [])),
-        "schools": tables.table(columns, draws_outcome.by_school(register, found, places),
-                                "schools"),
-        "children": children_of(draw, register, draws_outcome.by_child(found, accepted_ended)),
-    }
-
-
-def with_children(draw: Draw, **given: str) -> str:
-    """The address of the rows of the children, with what was chosen before."""
-    kept = {name: text for name, text in flask.request.args.items() if name != "page"}
-    values: dict[str, Any] = {**kept, **given}
-    return flask.url_for("draws.one", number=draw.number, _anchor="children", **values)
-
-
-def figures_of(draw: Draw, found: Sequence[Any]) -> list[tuple[str, str, str, str, str]]:
-    """How many children have each outcome, each with the address of their rows."""
-    counts = draws_outcome.counts(found)
-    return [(f"{counts[words]:,}", words.capitalize(),
-             "child" if counts[words] == 1 else "children", with_children(draw, what=name),
-             "warn" if name == "none" and counts[words] else "")
-            for name, words in draws_outcome.NAMES.items()]
-
-
-def children_of(draw: Draw, register: Register, rows: list[OfChild]) -> dict[str, Any]:
-    """The rows of the children as they were asked for: by words and an outcome, in an order, on a
-    page.
-    """
-    given, named = flask.request.args, draws_outcome.NAMES
-    words, what = given.get("q", "").strip(), given.get("what", "")
-    names = {it.number: it.name for it in register.children.values()}
-    found = [it for it in rows if not words or list_choice.has_words(
-        words, [it.draw, it.child, names.get(it.child), it.had, it.has], register)]
-    chosen = [it for it in found if it.what == named.get(what, it.what)]
-    columns: dict[str, Column[OfChild]] = {
-        "draw": Column("Draw", "", lambda it: it.draw),
-        "child": Column("Child", "", lambda it: it.child),
-        "name": Column("Name", "", lambda it: names.get(it.child)),
-        "had": Column("Before", "", lambda it: it.had),
-        "has": Column("After", "", lambda it: it.has),
-        "what": Column("Outcome", "", lambda it: it.what),
-    }
-    table = tables.table(columns, chosen, "children")
-    filters = [("All", with_children(draw, what=""), len(found), "")]
-    filters += [(text.capitalize(), with_children(draw, what=name),
-                 sum(it.what == text for it in found), "") for name, text in named.items()]
-    return {
-        "page": tables.paged(table.rows, given.get("page", "")), "columns": table.columns,
-        "sort": table.sort, "words": words, "filters": filters,
-        "filter": named.get(what, "all").capitalize(),
-        "caption": f": {len(chosen):,} of {len(rows):,}" if len(chosen) < len(rows) else "",
-        "all": flask.url_for("draws.one", number=draw.number, _anchor="children"),
-        "kept": [(it, text) for it, text in given.items() if it not in ("q", "page")],
-        "whole": with_children(draw, page="all"),
-        "address": tables.pages("draws.one", number=draw.number, q=words or None,
-                                what=what or None, _anchor="children"),
-    }
 
 
 @screen.get("/<int:number>")
@@ -425,6 +193,13 @@ def one(number: int) -> Answer:
     """A draw, which goes on where the application had ended in between."""
     parts().following.look(person(), found_draw(number))
     return draw_page(number)
+
+
+@screen.get("/<int:number>/cancel")
+@needs(CONFIRM)
+def cancel(number: int) -> Answer:
+    """How a draw is cancelled, or undone."""
+    return cancel_page(number)
 
 
 @screen.get("/<int:number>/sealed.txt")
@@ -491,7 +266,8 @@ def done(number: int, steps: dict[str, Step], name: str) -> Answer:
     try:
         found.following.begin(person(), number, lambda: step(found, asked))
     except Refused as error:
-        return draw_page(number, sentence(str(error)), 409)
+        shown = cancel_page if name in draws_cancel.ALL else draw_page
+        return shown(number, sentence(str(error)), 409)
     return flask.redirect(flask.url_for("draws.one", number=number), 303)
 
 

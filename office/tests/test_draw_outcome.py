@@ -1,0 +1,170 @@
+"""The outcome of a rehearsed round as its page shows it: what the register has after it, by another
+computation of its own document.
+"""
+import json
+import pathlib
+import random
+import re
+from collections.abc import Iterator
+from typing import Any
+
+import pytest
+from applications import Site
+from conftest import apply, child, make, school
+from draw_site import (
+    HAL, Command, Machine, begun, brought, machine_over, sealed, typed, version,
+)
+from pages import Page
+
+from office.web import people
+
+CODES = ("ASH", "BAY", "CLY", "DUN")
+# more children than a page has; 131 is prime, so that each has a lot of its own
+COUNT, LATE, CARE, PLANNED = 130, range(121, 131), (3, 50), 7
+
+
+def commands() -> list[Command]:
+    """Four schools on a line, and children of whom some live equally far; some are late, two are
+    looked after, and one gets a plan.
+    """
+    drawn = random.Random(5)
+    found = [school(code, pan, 900 * at, ["sibling"] if at else [])
+             for at, (code, pan) in enumerate(zip(CODES, (12, 20, 9, 70)))]
+    for it in range(1, COUNT + 1):
+        found.append(child(it, 50 * drawn.randrange(60), looked_after=it in CARE,
+                           siblings=["BAY"] if it % 9 == 0 else []))
+        found.append(apply(it, drawn.sample(CODES, drawn.randrange(1, 4)),
+                           "2024-11-20" if it in LATE else "2024-10-20"))
+    return [*found, {"cmd": "name_plan", "child": PLANNED, "school": "CLY"}]
+
+
+@pytest.fixture(name="town")
+def town_fixture(tmp_path: pathlib.Path, monkeypatch: pytest.MonkeyPatch) -> Iterator[Machine]:
+    """A machine with this register."""
+    path = tmp_path / "town.db"
+    make(path, commands())
+    with machine_over(tmp_path, path, monkeypatch) as found:
+        yield found
+
+
+def rehearsed(office: Site) -> int:
+    """A round that is rehearsed."""
+    number = begun(office)
+    brought(office, number, "lots")
+    typed(office, number, lambda pair, _: pair[1] * 31 % (COUNT + 1))
+    sealed(office, number)
+    brought(office, number, "rehearsed")
+    return number
+
+
+class Shown:
+    """What a page of a round shows, and the register's own documents."""
+
+    def __init__(self, office: Site, number: int) -> None:
+        self.office, self.number, self.jane = office, number, office.browser("jane")
+        self.page = self.at("")
+
+    def at(self, given: str) -> Page:
+        """The page with a choice."""
+        return Page(self.jane.get(f"/draws/{self.number}?{given}").text)
+
+    def children(self, given: str) -> list[list[str]]:
+        """The rows of the children, on all pages."""
+        tables = self.at(f"{given}&page=all").tables
+        rows = next(it for name, it in tables.items() if name.startswith("By child"))
+        return [it for it in rows[1:] if len(it) > 1]
+
+    def numbers(self, given: str) -> set[int]:
+        """The children of a choice."""
+        return {int(it[1]) for it in self.children(given)}
+
+    def read(self, path: str) -> dict[str, Any]:
+        """A document of the register."""
+        found: dict[str, Any] = json.loads(self.office.parts.desk.sender.read(path))
+        return found
+
+
+def flow_of(register: dict[str, Any]) -> dict[str, list[int]]:
+    """For each school how many that put it first have which preference."""
+    lists = {it["child"]: [one["school"] for one in it["application"]["preferences"]]
+             for it in register["children"] if it["application"]}
+    found: dict[str, list[int]] = {}
+    for it in register["draws"][0]["outcomes"]:
+        row = found.setdefault(lists[it["child"]][0], [0, 0, 0, 0, 0])
+        row[4 if it["school"] is None else min(lists[it["child"]].index(it["school"]), 3)] += 1
+    return found
+
+
+def test_the_flow_and_the_places_are_those_of_the_register(town: Machine) -> None:
+    """Before the round is held, and after it: the picture, its table, the places of each school and
+    the groups of children.
+    """
+    with town.office() as office:
+        number = rehearsed(office)
+        before = Shown(office, number)
+        brought(office, number, "opened")
+        for shown in (before, Shown(office, number)):
+            register, draw = shown.read("/register"), shown.read("/draw/1")
+            has = {it["child"]: it["school"] for it in register["draws"][0]["outcomes"]}
+            flow, names = flow_of(register), {it: f"{it} School" for it in CODES}
+            tables = shown.page.tables
+            rows = {it[0]: [int(one) for one in it[1:]] for it in tables["flow-table"][1:]}
+            every = rows.pop("All schools")
+            assert rows == {names[it]: flow[it] for it in flow} and sum(every) == len(has)
+            ribbons = re.findall(r'class="ribbon (\w+)".*?<title>(\w+) to [^<]*: (\d+)</title>',
+                                 shown.page.text)
+            kinds = ("first", "second", "third", "lower", "none")
+            assert sorted(ribbons) == sorted(
+                (kind, code, str(many)) for code, row in flow.items()
+                for kind, many in zip(kinds, row) if many)
+            places = {it[0].split()[-1]: it[1:7] for it in tables["by-school"][1:]}
+            assert places == {it["school"]: [str(one) for one in (
+                it["pan"], sum(code == it["school"] for code in has.values()), it["plans"],
+                it["vacancies"], it["waiting"],
+                sum(flow.get(it["school"], [])))] for it in register["schools"]}
+            by_lot = {it["child"] for it in draw["refusals"] if it["by"] == "lot"}
+            assert by_lot and by_lot < (found := shown.numbers("what=lot"))
+            assert all(has[it] is not None for it in found - by_lot)
+
+
+def test_children_to_look_at_are_found_by_group(town: Machine) -> None:
+    """Late ones are named, though they are not in the round; and one with a note."""
+    with town.office() as office:
+        office.parts.notes.add(people.Person("jane", "officer"), 12, "Ann", "A note.")
+        number = rehearsed(office)
+        shown = Shown(office, number)
+        assert shown.numbers("what=late") == set(LATE)
+        assert {it[3] for it in shown.children("what=late")} == {"late: not in this round"}
+        assert shown.numbers("what=care") == set(CARE)
+        assert shown.numbers("what=note") == {12}
+        checked = " ".join(shown.page.by_id["checked"].split())
+        assert "10 late Not in this round: they applied after the closing date" in checked
+        assert "1 by a plan" in checked and "119 children take part." in checked
+        assert 'href="?what=late#children"' in shown.page.text
+        assert "Agrees The independent audit" in " ".join(shown.page.by_id["next"].split())
+        # (a page has a hundred rows; who may not read notes is not told who has one)
+        assert [len(shown.at(it).tables["By child"]) - 1 for it in ("", "page=2")] == [100, 29]
+        assert "With a note" not in office.browser("rita", "reader").get(f"/draws/{number}").text
+        none = shown.children("what=none")
+        assert none and all(it[2] == "none" and "Why not " in it[4] for it in none)
+        # (what other pages show is of before it, and they say so)
+        said = "Until it is held, all pages but its own show the register from before it."
+        assert said in shown.jane.get("/children/1").text
+        assert said in shown.jane.get("/schools/ASH").text
+        office.parts.draws.confirm(people.Person("jane", "officer"), number,
+                                   version(office, number))
+        office.parts.draws.send(HAL, number, version(office, number))
+        assert said not in shown.jane.get("/children/1").text
+
+
+def test_a_rehearsal_of_an_earlier_release_is_shown(town: Machine) -> None:
+    """Without what that did not keep."""
+    with town.office() as office:
+        number = rehearsed(office)
+        draw = office.parts.draws.get(number)
+        kept = {it: draw.rehearsal[it] for it in ("answers", "audits", "outcomes", "wrong")}
+        with office.parts.store.writing() as db:
+            db.execute("UPDATE draw SET rehearsal=?", (json.dumps(kept),))
+        page = office.browser("jane").get(f"/draws/{number}")
+        assert page.status_code == 200 and "flow-table" not in page.text
+        assert ">Confirm round 1</button>" in page.text and "By child</caption>" in page.text

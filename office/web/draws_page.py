@@ -1,0 +1,305 @@
+"""What the page of a draw shows of it to the person who looks: who does what next, what was
+checked, and its outcome.
+"""
+import dataclasses
+from collections.abc import Mapping
+from typing import Any
+
+from office.model import Register
+
+from . import (
+    draws_again, draws_cancel, draws_changes, draws_second, draws_shown, draws_verdict,
+    draws_words, explanations, flags, restores_terms, step_store,
+)
+from .draws import case_of, held_in, next_state
+from .draws_cancel import Way
+from .draws_changes import Change
+from .draws_decision import Decision, Known, decision
+from .draws_following import Work
+from .draws_outcome import Whole, whole
+from .draws_second import Case, Second
+from .draws_shown import Grouped
+from .draws_terms import (
+    AUDITED, BEGUN, CLOSED, CONFIRMED, FOLLOWED, IN_ORDER, IN_WORDS, OPENED, REHEARSED, SEALED,
+    SENDING, SENT, STEPS, TAGS, UNSENT_SEALED, Draw,
+)
+from .guard import parts, person
+from .history import ANSWER, SENDS, SETTLED
+from .people import CONFIRM, DRAW, LOTS, NOTES, PERSON, Person
+from .wording import sentence
+
+# the request by which a draw comes to a state, where that does not follow by itself; and the one by
+# which what follows is tried again
+ACTIONS, AGAIN = {CLOSED: "close", CONFIRMED: "confirm", SENDING: "send"}, "go-on"
+# those of who may confirm draws; the others are of who may hold them
+OF_SECOND = ("confirm", AGAIN)
+# what a button says of the draws that it concerns
+NAMING = (CONFIRMED, SENDING, AUDITED)
+# in these a draw is still to be confirmed
+TO_CONFIRM = IN_ORDER[:IN_ORDER.index(CONFIRMED)]
+# who does a step that does not follow by itself
+DOES = {CLOSED: "by a head of the office", SEALED: "by the supervisor",
+        CONFIRMED: "by a second person", SENDING: "by a head of the office"}
+
+
+@dataclasses.dataclass(frozen=True)
+class Seen:
+    """A draw as somebody looks at it: the register, or None while that does not answer; what runs
+    now, if anything does; how many draws of the row the register has; and the state to which the
+    next step leads, or "".
+    """
+
+    draw: Draw
+    register: Register | None
+    work: Work | None
+    standing: int
+    state: str
+
+    @property
+    def name(self) -> str:
+        """It within a sentence."""
+        return draws_words.name_of(self.draw.terms, self.register)
+
+
+def seen(draw: Draw, register: Register | None, work: Work | None) -> Seen:
+    """A draw as it is now."""
+    standing = held_in(register, draw) if register and draw.state in SENT else 0
+    # (the same state of a row that is not held to its end)
+    is_held = draw.state != SENDING or standing == draw.terms.fills
+    return Seen(draw, register, work, standing, next_state(draw) if is_held else SENDING)
+
+
+def button_of(found: Seen) -> str:
+    """The text of the next button."""
+    text = next((it.button for it in STEPS if it.state == found.state), "")
+    if found.state == SENDING and found.standing:
+        return f"Go on, and hold the last {found.draw.terms.fills - found.standing}"
+    return f"{text} {found.name}" if text and found.state in NAMING else text
+
+
+def action_of(draw: Draw, state: str) -> str:
+    """The request of the next button, or ""."""
+    return AGAIN if state and draw.state in FOLLOWED else ACTIONS.get(state, "")
+
+
+def why_not(draw: Draw, state: str, register: Register | None) -> str:
+    """Why the person cannot do the next step, or ""."""
+    who = person()
+    if register is None:
+        return "The register does not answer now. Load this page again in a moment."
+    if draw.give_up_by or draw.restore_by:
+        return "It is not decided whether it goes on."
+    if state == SEALED:
+        return "The supervisor does this, on the screen of lots."
+    said = draws_second.hindered(parts().history, who.name, case_of(draw)) if (
+        state == CONFIRMED and who.may(CONFIRM)) else ""
+    if said:
+        return f"{said}. Somebody else confirms it."
+    action = action_of(draw, state)
+    if action and not who.may(CONFIRM if action in OF_SECOND else DRAW):
+        return "Your role does not do this."
+    return ""
+
+
+def second_of(draw: Draw) -> Second | None:
+    """Who may confirm a draw that is to be held, as far as it is brought now; before it is closed,
+    if the person who looks and may hold draws closes it.
+    """
+    if draw.state not in TO_CONFIRM:
+        return None
+    case = case_of(draw)
+    if draw.state == BEGUN and person().may(DRAW):
+        closes = {person().name: "would have closed the register for it"}
+        case = dataclasses.replace(case, others={**closes, **case.others})
+    return draws_second.second_of(parts().store, parts().history, case)
+
+
+def sealers_of(draw: Draw) -> tuple[str, ...]:
+    """Who may seal its lots."""
+    found = draws_second.second_of(parts().store, parts().history, case_of(draw), LOTS)
+    return tuple(found.may)
+
+
+def decision_of(found: Seen) -> Decision:
+    """Who has to do what now."""
+    draw = found.draw
+    return decision(draw, Known(
+        found.name, found.register is None, found.state, action_of(draw, found.state),
+        button_of(found), why_not(draw, found.state, found.register), second_of(draw),
+        sealers_of(draw)))
+
+
+def not_second(draw: Draw) -> str:
+    """Why the person is none of two who end a draw together, or ""."""
+    asker = draw.give_up_by or draw.restore_by
+    others = {asker: "has asked for it"} if asker not in ("", person().name) else {}
+    found = "" if draw.is_ended else draws_second.hindered(
+        parts().history, person().name, Case(others=others))
+    return f"{found}." if found else ""
+
+
+def alone(draw: Draw) -> str:
+    """Why nobody else can be the second of two persons, where two are needed to end it; or ""."""
+    is_for_two = draw.state in (*UNSENT_SEALED, *SENT)
+    return draws_second.alone(parts().store, parts().history, person().name) if is_for_two else ""
+
+
+def cancel_way(found: Seen) -> Way | None:
+    """How the person who looks cancels it now, if it can be."""
+    draw = found.draw
+    if not person().may(CONFIRM):
+        return None
+    return draws_cancel.way_of(draw, found.name, draws_cancel.Known(
+        person().name, alone(draw), not_second(draw), parts().draws.has_lots(draw)))
+
+
+def may_be_cancelled(draw: Draw) -> bool:
+    """Whether the person finds a way to cancel it on its screen."""
+    return not draw.is_ended and person().may(CONFIRM) or (
+        draws_cancel.is_undone_later(draw) and person().may(DRAW))
+
+
+# ----------------------------------------------------------------------------------- the outcome
+
+
+def outcome_of(draw: Draw, register: Register | None) -> Whole | None:
+    """The outcome of the rehearsal, if there is one."""
+    if not draw.rehearsal.get("outcomes") or register is None:
+        return None
+    words = flags.present()
+    key = draw.number, draw.version, tuple(sorted(words.items()))
+    return parts().draws.made.of("outcome", key, register, lambda: whole(register, draw, words))
+
+
+def flow_of(draw: Draw, register: Register, found: Whole) -> dict[str, Any]:
+    """The flow of a round from first preferences."""
+    return parts().draws.made.of("flow", (draw.number, draw.version), register,
+                                 lambda: draws_shown.flow(register, found))
+
+
+def grouped_of(draw: Draw, register: Register, found: Whole) -> Grouped:
+    """Its children in groups. (Who may not read notes is not told who has one.)"""
+    notes = frozenset(parts().notes.children() if person().may(NOTES) else ())
+    return parts().draws.made.of(f"groups {bool(notes)}", (draw.number, draw.version, notes),
+                                 register, lambda: draws_shown.grouped(found, register, notes))
+
+
+def shown_outcome(draw: Draw, register: Register, found: Whole) -> dict[str, Any]:
+    """The outcome as the page shows it."""
+    schools, bars = draws_shown.schools(draw, found)
+    return {
+        "figures": draws_shown.figures(draw, found), "flow": flow_of(draw, register, found),
+        "schools": schools, "bars": bars, "marks": draws_shown.MARKS,
+        "children": draws_shown.children(
+            draw, found, register, grouped_of(draw, register, found)),
+    }
+
+
+def changes_of(draw: Draw, register: Register | None) -> list[Change] | None:
+    """What was changed since the applications were stored, for who reads it before the register is
+    closed, or before the draw is confirmed.
+    """
+    if register is None or draw.state not in (BEGUN, REHEARSED):
+        return None
+    entries = parts().history.entries
+    last = next((it.number for it in reversed(entries) if it.what in (SENDS, ANSWER, SETTLED)), 0)
+    return parts().draws.made.of(
+        "changes", (draw.number, last), register,
+        lambda: draws_changes.changes(parts().history, register, draw.terms))
+
+
+def verdicts_of(
+    draw: Draw, register: Register | None, found: Whole | None, changes: list[Change] | None,
+) -> tuple[list[draws_verdict.Verdict], list[draws_verdict.Verdict]]:
+    """What is to be looked at before it is confirmed, and the other checks."""
+    if draw.state != REHEARSED or found is None or register is None:
+        return [], []
+    same = parts().draws.made.of(
+        "same", (draw.number, draw.version), register,
+        lambda: draws_verdict.unchanged(register, parts().copies, draw))
+    known = draws_verdict.Known(
+        found, draws_again.given_up(parts().draws, draw), changes or [], same)
+    return (draws_verdict.to_look_at(draw, known),
+            list(draws_verdict.checked(draw, known, register)))
+
+
+# ------------------------------------------------------------------------------ what is beside it
+
+
+def steps_of(found: Seen) -> list[dict[str, str]]:
+    """The steps with who did each; what the next one does is said there alone."""
+    draw = found.draw
+    end = sentence(IN_WORDS[draw.state]) if draw.is_ended and draw.state != OPENED else ""
+    rows = step_store.shown(STEPS, draw.done, "" if found.work else found.state, DOES, end)
+    return [{**it, "does": it["does"] if it["state"] == "now" else ""} for it in rows]
+
+
+def state_in_words(found: Seen) -> str:
+    """The state of a draw as an office reads it."""
+    if found.draw.state == SENDING and found.standing == found.draw.terms.fills:
+        return "closed, and held; not audited yet"
+    return IN_WORDS[found.draw.state]
+
+
+def tags_of(found: Seen) -> list[tuple[str, str]]:
+    """The state in one to three words."""
+    is_known = found.draw.state in (REHEARSED, CONFIRMED)
+    return [*([("Rehearsed", "info")] if is_known else []), TAGS[found.draw.state]]
+
+
+def again_of(draw: Draw) -> bool:
+    """Whether a draw was undone, and the person can begin it again now."""
+    found = parts().draws
+    return person().may(DRAW) and found.present() is None and any(
+        it.number == draw.number for it in draws_again.undone(found.listed()))
+
+
+def round_held(draw: Draw, register: Register | None) -> int:
+    """The number of a round that the register has, or 0."""
+    return next((it.round or 0 for it in (register.draws if register else [])
+                 if it.number == draw.terms.first and draw.state in (AUDITED, OPENED)), 0)
+
+
+def is_explained(draw: Draw, register: Register | None) -> bool:
+    """Whether each child of a draw can be explained: it was held."""
+    return draw.state in (AUDITED, OPENED) and any(
+        it.number == draw.terms.first for it in (register.draws if register else []))
+
+
+def is_tried(draw: Draw, register: Register | None) -> bool:
+    """Whether other schools can be tried: it is a round, and the copy from before it is kept."""
+    return is_explained(draw, register) and any(
+        it.number == draw.terms.first and explanations.kept_before(parts(), it)
+        for it in (register.rounds if register else []))
+
+
+def unsent_of(draw: Draw) -> tuple[int, int] | None:
+    """The restore by which the draw that this one repeats was undone, and how many entries that
+    came after that one can be sent again now; for who may send them.
+    """
+    if draw.state != OPENED or not draw.repeats or not person().may(DRAW):
+        return None
+    restores = parts().restores
+    found = next((it for it in restores.listed() if it.draw == draw.repeats
+                  and it.state == restores_terms.OPENED), None)
+    if found is None:
+        return None
+    may = restores.later(found)
+    count = sum(may.get(it.entry) == "" for it in restores.sending.rows(found)
+                if it.state in (restores_terms.LATER, restores_terms.REFUSED))
+    return (found.number, count) if count else None
+
+
+def taking_part(found: Seen) -> Mapping[str, str]:
+    """Who did what of it, by what they did."""
+    draw = found.draw
+    did = (("Began it", BEGUN), ("Closed the register", CLOSED), ("Sealed the lots", SEALED),
+           ("Confirmed it", CONFIRMED), ("Held it", SENDING))
+    return {words: draw.who(state) for words, state in did if draw.who(state)}
+
+
+def who_may(right: str) -> list[str]:
+    """The people who may do something and are not locked."""
+    return [it["name"] for it in parts().store.rows(
+        "SELECT name, role FROM person WHERE kind=? AND NOT is_locked ORDER BY name", PERSON)
+            if Person(it["name"], it["role"]).may(right)]
