@@ -2,6 +2,7 @@
 import json
 import pathlib
 from collections.abc import Iterator
+from typing import Any
 
 import pytest
 from applications import Browser, Site, office_over
@@ -33,19 +34,18 @@ def test_a_register_that_was_replaced_by_an_older_one_is_told(
     """Whatever was recorded last; and a register that has it is not doubted."""
     jane = office.browser("jane")
     assert said(jane) == ""
-    for command in (
-        {"cmd": "accept", "child": 11, "school": "A"}, {"cmd": "decline", "child": 12,
-                                                        "school": "B"},
-        {"cmd": "raise_pan", "school": "A", "pan": 499},
-    ):
+    places, commands = office.parts.desk.now().places, list[dict[str, Any]]()
+    commands += [{"cmd": "accept", "child": 11, "school": places[11].school},
+                 {"cmd": "decline", "child": 12, "school": places[12].school},
+                 {"cmd": "raise_pan", "school": "A", "pan": 499}]
+    for command in commands:
         older = office.parts.desk.now()
-        school = older.places[command["child"]].school if "child" in command else "A"
-        office.record("jane", {**command, "school": school})
+        office.record("jane", command)
         assert said(jane) == ""
         with monkeypatch.context() as patch:
             patch.setattr(office.parts.desk, "now", lambda older=older: older)
             assert said(jane).startswith("The register lacks what jane recorded at "), command
-            assert said(jane).endswith("Record nothing, and tell whoever maintains the system.")
+            assert said(jane).endswith("Record nothing, and tell IT support.")
     # (as of an import that is done)
     record = office.parts.history
     for number, is_there in ((11, True), (77, False)):
@@ -72,4 +72,4 @@ def test_a_history_that_was_cut_is_told(office: Site) -> None:
         db.execute("INSERT INTO copy (number, purpose, asked, position) VALUES (8, '', '', ?)",
                    (there + 50,))
     assert said(jane) == ("The history lacks entries: it ends before copy 8 was made. Record"
-                          " nothing, and tell whoever maintains the system.")
+                          " nothing, and tell IT support.")

@@ -1160,11 +1160,11 @@ def test_the_table_has_a_limit(office: Site, screens: Screens) -> None:
     page = screens.see("commit/")
     assert "a register has at most 2,000 children: it has 1, and 2,000 are new" in page.text
     assert screens.store(page.texts.get("", "x")).status_code == 409
-    page = Page(screens.browser.get("/applications/").text)
-    press(screens.browser, "", page, "Withdraw 2,000 rows of a.csv")
+    table = Page(screens.browser.get("/applications/").text)
+    press(screens.browser, "", table, "Withdraw 2,000 rows of a.csv")
     screens.add(("b.csv", rows(4001, 1)))
-    page = Page(screens.browser.get("/applications/withdrawn").text)
-    refused = press(screens.browser, "/applications/withdrawn", page, "Bring back 2,000 rows")
+    table = Page(screens.browser.get("/applications/withdrawn").text)
+    refused = press(screens.browser, "/applications/withdrawn", table, "Bring back 2,000 rows")
     assert refused.status_code == 409 and states(office) == {OPEN: 1, WITHDRAWN: 2000}
 
 

@@ -19,7 +19,7 @@ LATER = "Record nothing, and tell IT support."
 def has(register: Register, entry: Entry) -> bool:
     """Whether a register has what was done last, as far as that is seen at once."""
     if rows := entry.about.get("import"):
-        first = next(csv.DictReader(io.StringIO(rows, newline=None)), {})
+        first: dict[str, str] = next(csv.DictReader(io.StringIO(rows, newline=None)), {})
         return trimmed(first.get("child") or "") in map(str, register.children)
     command = entry.about.get("command")
     if command is None:
