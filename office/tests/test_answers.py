@@ -225,14 +225,14 @@ def test_what_a_colleague_did_meanwhile_is_named(office: Site) -> None:
     assert [it["child"] for it in sent(office)] == [12]
     # while the batch is sent
     desk = office.parts.desk
-    kept = desk.send
+    kept = desk.request
 
-    def late(who: Person, command: dict[str, Any], *more: Any) -> Result:
-        if command["child"] == 13:
-            kept(Person("bo", "officer"), {"cmd": "accept", "child": 13, "school": "A"})
-        return kept(who, command, *more)
+    def late(who: Person, about: dict[str, Any], *more: Any) -> Result:
+        if about["command"]["child"] == 13 and who.name == "jane":
+            desk.send(Person("bo", "officer"), {"cmd": "accept", "child": 13, "school": "A"})
+        return kept(who, about, *more)
 
-    setattr(desk, "send", late)
+    setattr(desk, "request", late)
     question = Page(press(jane, PAGE, again, "Record 2 answers").text)
     press(jane, PAGE, question, "Record 2 answers, with that of Ada Abel")
     page = shown(jane)
@@ -254,13 +254,13 @@ def test_the_same_pile_is_not_recorded_twice(office: Site) -> None:
     found = screen_piles(office)
     page = enter(jane, "13")
     entries = [it for it in found.of("jane") if it.state == "waits"]
-    held, kept = threading.Event(), office.parts.desk.send
+    held, kept = threading.Event(), office.parts.desk.request
 
     def slow(*given: Any) -> Result:
         held.wait(20)
         return kept(*given)
 
-    setattr(office.parts.desk, "send", slow)
+    setattr(office.parts.desk, "request", slow)
     found.record(Person("jane", "officer"), entries, 0)
     page = shown(jane)
     assert "The batch is being recorded. 1 answer is left." in page.text
@@ -349,16 +349,16 @@ def test_an_answer_that_is_lost_is_looked_up(office: Site, monkeypatch: pytest.M
     """The batch stops there, and says later which of the two it was."""
     jane, desk = office.browser("jane"), office.parts.desk
     page = enter(jane, "11", "12")
-    kept = desk.send
+    kept = desk.request
 
-    def unsure(who: Person, command: dict[str, Any], *more: Any) -> Result:
-        kept(who, command, *more)
-        return Result(LOST, "There was no certain answer.")
+    def unsure(who: Person, about: dict[str, Any], *more: Any) -> Result:
+        kept(who, about, *more)
+        return Result(LOST, "There was no certain answer.", is_known=False)
 
-    monkeypatch.setattr(desk, "send", unsure)
+    monkeypatch.setattr(desk, "request", unsure)
     record(jane, page, "Record 2 answers")
     assert [it["child"] for it in sent(office)] == [11]
-    monkeypatch.setattr(desk, "send", kept)
+    monkeypatch.setattr(desk, "request", kept)
     page = shown(jane)
     assert recorded(page) == [["11", "Ada Abel", "accept", "A"]]
     assert [it[0] for it in pile(page)] == ["12"]
@@ -718,7 +718,7 @@ def test_who_may_take_over_a_pile(office: Site) -> None:
     # (an entry that is handed over is recorded once, by whom it is now)
     entry = office.app.extensions["piles"].of("bo")[0]
     office.app.extensions["piles"].hand_over("bo", "hal", [entry])
-    assert not office.app.extensions["piles"].begin(entry)
+    assert not office.app.extensions["piles"].begin(Person("bo", "officer"), entry)
     assert [it[0] for it in pile(shown(hal))] == ["11"]
 
 
@@ -731,7 +731,7 @@ def test_without_a_history_no_pile_is_taken_over(office: Site) -> None:
     found = press(hal, "/answers/of/bo", page, "Take over 1 answer of bo")
     office.parts.history.fd = kept
     assert found.status_code == 409 and "Nothing was taken over" in Page(found.text).said()
-    assert [it.person for it in office.app.extensions["piles"].of("bo")] == ["bo"]
+    assert [it.batch for it in office.app.extensions["piles"].of("bo")] == ["bo"]
 
 
 @pytest.mark.parametrize("who, when", [("jane", "before"), ("bo", "after")])
@@ -748,7 +748,7 @@ def test_an_equal_answer_of_before_or_of_a_colleague_is_not_this_one(
     accept = {"cmd": "accept", "child": 11, "school": "A"}
     if when == "before":
         assert desk.send(Person(who, "officer"), accept).is_done
-    assert found.begin(entry)
+    assert found.begin(Person("jane", "officer"), entry)
     if when == "after":
         assert desk.send(Person(who, "officer"), accept).is_done
     page = shown(jane)

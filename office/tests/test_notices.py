@@ -294,7 +294,7 @@ def test_a_row_stops_where_the_register_is_closed(office: Site) -> None:
     assert [(it.state, it.said) for it in row.notices] == [("waits", ""), ("waits", "")]
     with office.parts.store.writing() as db:
         # (as where the application ends right before it sends one)
-        db.execute("UPDATE notice SET state='sending' WHERE place=1")
+        db.execute("UPDATE sending SET state='sending' WHERE place=1")
     desk.closed = is_open
     assert jane.post(path).status_code == 303
     with office.app.app_context():
@@ -308,7 +308,7 @@ def test_a_row_that_was_killed_is_settled_by_a_look(office: Site) -> None:
     page = shown(jane, "remind", "18 March 2025", [1, 2])
     row = confirmed(jane, page).location
     with office.parts.store.writing() as db:
-        db.execute("UPDATE notice SET state='sending', said='' WHERE place=0")
+        db.execute("UPDATE sending SET state='sending', said='' WHERE place=0")
     count_before = len(office.parts.history.entries)
     assert "2 of 2 reminders recorded" in jane.get(row).text
     sends = [it for it in office.parts.history.entries if it.what == "sends"]
@@ -322,7 +322,7 @@ def test_an_equal_reminder_of_before_is_not_this_one(office: Site) -> None:
     jane = office.browser("jane")
     row = confirmed(jane, shown(jane, "remind", "18 March 2025", [1, 2])).location
     with office.parts.store.writing() as db:
-        db.execute("UPDATE notice SET state='sending', said='', after=? WHERE place=0",
+        db.execute("UPDATE sending SET state='sending', said='', after=? WHERE place=0",
                    (len(office.parts.history.entries),))
     text = jane.get(row).text
     assert "1 of 2 reminders recorded" in text and "Record the other 1" in text
@@ -381,7 +381,7 @@ def test_a_row_that_runs_says_so_while_the_register_is_away(
     assert page.status_code == 200 and f'id="row" data-running="{row}">' in page.text
     assert "0 of 2 reminders recorded. The rest is being recorded" in page.text
     may_end.set()
-    office.app.extensions["notices"].running[int(row.rsplit("/", 1)[1])].join(600)
+    office.app.extensions["notices"].running[row.rsplit("/", 1)[1]].join(600)
     monkeypatch.setattr(office.parts.desk, "register", read)
     page = jane.get(row).text
     assert "2 of 2 reminders recorded." in page and "is being recorded" not in page
@@ -446,8 +446,8 @@ def test_an_answer_that_may_be_of_a_child_is_said_beside_it(office: Site) -> Non
     office.add("bo", "officer")
     with office.parts.store.writing() as db:
         db.executemany(
-            "INSERT INTO answer (person, typed, kind, child, school, name, seen, state, said,"
-            " after) VALUES ('bo', '', ?, ?, '', ?, '', ?, '', 0)",
+            "INSERT INTO sending (kind, batch, place, about, seen, state, said) VALUES ('answer',"
+            " 'bo', 0, json_object('kind', ?, 'child', ?, 'name', ?), '', ?, '')",
             [("accept", None, NAMES[2], "waits"), ("leave_list", 3, "", "waits"),
              ("accept", None, NAMES[1], "done"), ("accept", 4, "", "done")])
     marks = Marks(office.parts.store, office.parts.history, office.parts.desk.now())
@@ -479,8 +479,8 @@ DAY = datetime.date(2025, 3, 18)
 
 def row_of(office: Site, *children: int) -> tuple[notices.Notices, int]:
     """A row of reminders of these children, of which none is recorded."""
-    found = notices.Notices(office.parts.store, office.parts.history, office.parts.desk,
-                            office.parts.copies, lambda *_: None)
+    found = notices.Notices(
+        office.parts.store, office.parts.desk, office.parts.copies, lambda *_: None)
     chosen = [notices.Due(it, "ELM", NAMES[it], {}, "{}") for it in children]
     return found, found.add(JANE, "one", notices.REMIND, DAY, chosen)
 
@@ -539,8 +539,8 @@ def test_an_answer_that_is_not_understood_is_named_so(tmp_path: pathlib.Path) ->
         found, _ = row_of(office, 1)
         office.add("bo", "officer")
         with office.parts.store.writing() as db:
-            db.execute("INSERT INTO answer (person, typed, kind, child, school, name, seen, state,"
-                       " said, after) VALUES ('bo', '2 x', '', 2, '', '', '', 'waits', '', 0)")
+            db.execute("INSERT INTO sending (kind, batch, place, about, seen, state, said) VALUES"
+                       " ('answer', 'bo', 0, json_object('kind', '', 'child', 2), '', 'waits', '')")
         said = "bo has an answer for this child in a batch (not understood)"
         assert found.kept(notices.LAPSE) == {2: said} and found.kept(notices.REMIND) == {}
         found.see_none_kept(notices.REMIND, [1, 2])

@@ -26,7 +26,7 @@ from register_files import Refused
 
 from office.model import Register
 from office.senders import Ended
-from office.web import copies, draws_again, lineage, restores, restores_again
+from office.web import copies, draws_again, lineage, restores
 from office.web.answers import Meant
 from office.web.desk import Result
 from office.web.draws_drafts import Typed
@@ -34,7 +34,8 @@ from office.web.history import RESTORED, Entry, History
 from office.web.parts import Parts
 from office.web.piles import Piles
 from office.web.restores_terms import Restore
-from office.web.step_store import Done, StepStore
+from office.web.step_store import Done
+from office.web.store import Store
 
 Command = dict[str, Any]
 
@@ -352,10 +353,9 @@ class Kills:
         self.count, self.at, self.is_after = 0, 0, False
         self.names: set[str] = set()
         self.sent: list[bytes] = []
-        for kind, name in ((History, "add"), (copies.Copies, "asked"),
-                           (restores_again.Sending, "change")):
+        for kind, name in ((History, "add"), (copies.Copies, "asked")):
             patch.setattr(kind, name, self.around(f"{kind.__name__}.{name}", getattr(kind, name)))
-        patch.setattr(StepStore, "moving", self.around_block(StepStore.moving))
+        patch.setattr(Store, "writing", self.around_block(Store.writing))
 
     def begin(self, at: int, is_after: bool) -> None:
         """Arms it."""
@@ -386,11 +386,11 @@ class Kills:
         def found(*given: Any, **more: Any) -> Iterator[Any]:
             self.count += 1
             at = self.count
-            self.see("moving", False)
+            self.see("writing", False)
             with real(*given, **more) as it:
                 yield it
             if at == self.at and self.is_after:
-                self.names.add("moving after")
+                self.names.add("writing after")
                 raise Killed
         return found
 
@@ -453,7 +453,7 @@ def test_a_restore_goes_on_after_the_application_is_killed_anywhere(
         parts.close()
     kills.begin(0, False)
     wanted = {f"{name} {when}" for when in ("before", "after") for name in (
-        "History.add", "Copies.asked", "Sending.change", "moving", "send")}
+        "History.add", "Copies.asked", "writing", "send")}
     assert wanted <= kills.names
     with small.office() as office:
         model = Model()
@@ -642,7 +642,7 @@ def test_a_pile_that_is_being_recorded_stops_and_keeps_its_rest(
         office.parts.copies.make("a try", "hal")
         office.add("jane", "officer")
         desk, found = office.parts.desk, office.parts.restores
-        piles, real = Piles(office.parts.store, desk, office.parts.copies), desk.send
+        piles, real = Piles(office.parts.store, desk, office.parts.copies), desk.request
         piles.add("jane", desk.now(), [Meant(str(it), "name_plan", it, "ELM") for it in (1, 2, 3)])
 
         def send(*given: Any) -> Result:
@@ -651,12 +651,12 @@ def test_a_pile_that_is_being_recorded_stops_and_keeps_its_rest(
                 found.begin(HAL, 1)
             return result
 
-        monkeypatch.setattr(desk, "send", send)
+        monkeypatch.setattr(desk, "request", send)
         piles.send_all(JANE, piles.of("jane"))
         pile = piles.of("jane")
         assert [it.state for it in pile] == ["done", "waits", "waits"]
         assert pile[1].said.startswith("Closed for the restore of copy 1 by hal since")
-        assert not pile[2].said and piles.came["jane"] == (1, 3)
+        assert not pile[2].said and piles.recorded["jane"] == (1, 3)
         rows = found.sending.rows(found.get(1))
         assert [found.sending.entry(it).about["command"]["child"] for it in rows] == [1]
 

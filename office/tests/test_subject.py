@@ -122,8 +122,8 @@ def in_the_store(store: Store) -> None:
             add(db, "letter", set_id=7 + at, place=0, child=at, about=f"{sign}-about", words="w",
                 html=zlib.compress(f"<style>p</style><p>{sign}-letter &amp; more</p>".encode()))
             add(db, "letter_address", child=at, lines=f"{sign}-street", who="jane", at=AT)
-            add(db, "notice", row_id=1, place=at, child=at, school="A", seen=f"{sign}-seen",
-                state="waits", said=f"{sign}-notice", after=0)
+            waits(db, "notice", "1", at, seen=f"{sign}-seen", said=f"{sign}-notice", child=at,
+                  school="A")
             add(db, "lot", draw=1, school="A", child=at, fill=0, text=f"{sign}-lot", tie=0)
             add(db, "draw_step", draw=1, version=at, at=AT, who="jane", state="held",
                 said=f"child {at}: {sign}-step")
@@ -131,10 +131,18 @@ def in_the_store(store: Store) -> None:
                 said=f"child {at}: {sign}-restored")
             add(db, "letter_audit", draw=at, outcome="x", is_right=0, who="jane", at=AT,
                 said=f"child {at}: {sign}-judged")
-            add(db, "answer", person="jane", typed=f"{at} {sign}-typed", kind="accept", child=at,
-                school="A", name=f"{sign}-called", seen="", state="waits", said="", after=0)
-            add(db, "answer", person="jane", typed=f"{at} {sign}-unread", kind="", school="",
-                name="", seen="", state="waits", said="", after=0)
+            waits(db, "answer", "jane", 0, typed=f"{at} {sign}-typed", child=at,
+                  name=f"{sign}-called")
+            waits(db, "answer", "jane", 0, typed=f"{at} {sign}-unread")
+
+
+def waits(
+    db: sqlite3.Connection, kind: str, batch: str, place: int, seen: str = "", said: str = "",
+    **about: object,
+) -> None:
+    """Adds what waits to be sent."""
+    add(db, "sending", kind=kind, batch=batch, place=place, about=json.dumps(about), seen=seen,
+        state="waits", said=said)
 
 
 def add(db: sqlite3.Connection, table: str, **cells: object) -> None:
@@ -252,7 +260,8 @@ def test_each_table_of_the_application_is_known(tmp_path: pathlib.Path) -> None:
     """A new table must be said to have something of a child, or nothing."""
     store = Store(str(tmp_path / "office.db"))
     names = {it["name"] for it in store.rows(
-        "SELECT name FROM sqlite_master WHERE type='table' AND name NOT LIKE 'sqlite%'")}
+        "SELECT name FROM sqlite_master WHERE type IN ('table', 'view')"
+        " AND name NOT LIKE 'sqlite%'")}
     known = [*subject.OF_CHILD, *subject.IN_LINES, *subject.BY_ITSELF, *subject.OF_NOBODY]
     assert sorted(known) == sorted(names)
     for table in names:

@@ -12,6 +12,7 @@ from office.model import Register
 
 from .desk import Desk, Seen
 from .kinds import KINDS
+from .outbox import Item
 
 Command = dict[str, Any]
 MOST_TYPED = 200
@@ -40,28 +41,22 @@ class Meant:
         """The command, as far as child and school are known."""
         return {"cmd": self.kind, "child": self.child or 0, "school": self.school}
 
-
-@dataclasses.dataclass(frozen=True)
-class Entry:
-    """An entry of a batch: what it means; what was seen of its child when it was added; and what
-    came of it: waits, sending or done, with a sentence, after so many entries of the history.
-    """
-
-    number: int
-    person: str
-    meant: Meant
-    seen: str
-    state: str
-    said: str
-    after: int
-
     @property
     def command(self) -> Command | None:
         """The command, where all of it is understood and child and school are known."""
-        it = self.meant
-        if it.child is None or not it.school or not it.kind or it.trouble:
-            return None
-        return it.about
+        is_whole = self.child is not None and self.school and self.kind and not self.trouble
+        return self.about if is_whole else None
+
+
+@dataclasses.dataclass(frozen=True)
+class Entry(Item):
+    """An entry of a batch of answers, which is that of a person."""
+
+    @functools.cached_property
+    def meant(self) -> Meant:
+        """What it means."""
+        known = {it.name for it in dataclasses.fields(Meant)}
+        return Meant(**{name: it for name, it in self.about.items() if name in known})
 
     @property
     def is_final(self) -> bool:
@@ -167,8 +162,8 @@ def conflicts(desk: Desk, names: Names, entry: Entry, others: Iterable[Entry]) -
         return [*filter(None, found), f"the register has no child {meant.child}"]
     if meant.name and not is_of(meant.name, child.name):
         found.append(f"the name given is {texts.shown(meant.name)}")
-    command = entry.command
-    changed = desk.changed(register, command, Seen(entry.seen)) if command else ""
+    command, seen = meant.command, Seen(entry.seen or "")
+    changed = desk.changed(register, command, seen) if command else ""
     if not changed and meant.kind:
         found.append(KINDS[meant.kind].against(register, meant.about))
     found.append(changed)
@@ -187,7 +182,7 @@ def of_others(entry: Entry, others: Iterable[Entry]) -> str:
         if (it.meant.kind, it.meant.school) != (entry.meant.kind, entry.meant.school):
             return "the batch has another answer for this child"
         # (a row that is marked is not recorded, and so none that comes once more)
-        if it.command is not None and it.number < entry.number:
+        if it.meant.command and it.number < entry.number:
             return "the batch has this answer already"
     return ""
 

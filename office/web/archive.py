@@ -33,6 +33,8 @@ if TYPE_CHECKING:
 FOLDER, START, DIGESTS = "archive", "start-here.html", "digests.txt"
 # what of the application's own file is no part of a season: secrets, and what it is set up with
 SECRET = ("person", "session", "setting")
+# what has its rows in views
+BY_VIEWS = "sending"
 # what says nothing of a family: copies with their tests, and what is on its way to the history
 PASSING = ("copy", "told")
 # and what the application changes by itself, as when it removes the file of letters that were made
@@ -141,11 +143,14 @@ def people_rows(store: Store) -> Rows:
     return [list(names), *([it[name] for name in names] for it in rows)]
 
 
-def tables(store: Store) -> list[str]:
-    """The tables of the application's own file that are of a season."""
-    rows = store.rows("SELECT name FROM sqlite_master WHERE type='table'"
+def tables(store: Store, is_shown: bool = True) -> list[str]:
+    """The tables of the application's own file that are of a season: as they are shown, with views
+    in place of what is sent in rows; or as they are.
+    """
+    rows = store.rows("SELECT name, type FROM sqlite_master WHERE type IN ('table', 'view')"
                       " AND name NOT LIKE 'sqlite%' ORDER BY name")
-    return [it["name"] for it in rows if it["name"] not in SECRET]
+    return [it["name"] for it in rows if it["name"] not in SECRET
+            and (it["name"] != BY_VIEWS if is_shown else it["type"] == "table")]
 
 
 def source_of(name: str) -> str:

@@ -88,6 +88,14 @@ def subject(about: dict[str, Any]) -> Subject:
     return ANY
 
 
+def again_of(entry: Entry) -> dict[str, Any]:
+    """What is sent once more of an entry, to a register that was restored since. Who recorded it
+    first, and when, stays with it.
+    """
+    first = entry.about.get("again") or {"of": entry.number, "who": entry.who, "at": entry.at}
+    return {**entry.about, "again": first}
+
+
 def line_of(command: Command) -> bytes:
     """A command as it is sent."""
     return json.dumps(command, separators=(",", ":"), ensure_ascii=False).encode()
@@ -217,14 +225,28 @@ class Desk:
         if command["cmd"] in DRAWS and not draw:
             return Result(UNSENT, "Nothing was recorded: a round or a fill is held on the screen of"
                                   " draws, where a second person confirms it.")
-        with self.sending(draw) as reason:
+        return self.request(
+            who, {"command": command, **({"point": point} if point else {})}, seen, draw)
+
+    def request(
+        self, who: Person, about: dict[str, Any], seen: Seen | None = None, is_closed: bool = False,
+    ) -> Result:
+        """Sends a request in its turn, if what its command rests on is as it was seen; also while
+        the register is closed for all others.
+        """
+        with self.sending(is_closed) as reason:
             if reason:
                 return Result(UNSENT, reason)
-            if seen is not None and (said := self.difference(command, seen)):
+            if seen is not None and (said := self.difference(about["command"], seen)):
                 return Result(DIFFERS, said)
-            line = line_of(command)
-            about: dict[str, Any] = {"command": command, **({"point": point} if point else {})}
-            return self.exchange(who, about, lambda: self.sender.send(line))
+            return self.exchange(who, about, lambda: self.passed(about))
+
+    def passed(self, about: dict[str, Any]) -> bytes:
+        """The answer of the register to a command, or to the rows of an import."""
+        if "import" in about:
+            rows: str = about["import"]
+            return self.sender.imported(rows.encode())
+        return self.sender.send(line_of(about["command"]))
 
     def pass_on(self, who: Person, line: bytes) -> Result:
         """Sends what is no command as far as is known here, for what the register says of it. It
@@ -242,27 +264,8 @@ class Desk:
         """Sends the rows of an import, which are stored all or not at all. Where the points of
         their homes came from, by the children's numbers, is in the history beside them.
         """
-        with self.sending() as reason:
-            if reason:
-                return Result(UNSENT, reason)
-            about: dict[str, Any] = {
-                "import": rows.decode(), **({"points": dict(points)} if points else {})}
-            return self.exchange(who, about, lambda: self.sender.imported(rows))
-
-    def send_again(self, who: Person, entry: Entry, is_closed: bool) -> Result:
-        """Sends once more what an entry sent to a register that was restored since. Who recorded it
-        first, and when, stays with it.
-        """
-        first = entry.about.get("again") or {"of": entry.number, "who": entry.who, "at": entry.at}
-        about: dict[str, Any] = {**entry.about, "again": first}
-        with self.sending(is_closed) as reason:
-            if reason:
-                return Result(UNSENT, reason)
-            if "import" in about:
-                rows: str = about["import"]
-                return self.exchange(who, about, lambda: self.sender.imported(rows.encode()))
-            line = line_of(about["command"])
-            return self.exchange(who, about, lambda: self.sender.send(line))
+        return self.request(
+            who, {"import": rows.decode(), **({"points": dict(points)} if points else {})})
 
     @contextlib.contextmanager
     def sending(self, draw: bool = False) -> Iterator[str]:

@@ -10,7 +10,7 @@ from . import answers
 from .history import History
 from .kinds import ANSWERS
 from .letters_whom import Lists, about_of
-from .piles import DONE
+from .outbox import DONE
 from .store import Store
 
 UNREAD = "Nothing was recorded: read what looks wrong, and say that it is right."

@@ -224,6 +224,7 @@ class People:
         """Removes a person. What they did stays in the history."""
         with self.store.writing() as db:
             self.see_removable(name)
+            db.execute("DELETE FROM sending WHERE kind='answer' AND batch=?", (name,))
             db.execute("DELETE FROM person WHERE name=?", (name,))
 
     def set_password(self, person: Person, old: str, new: str) -> None:

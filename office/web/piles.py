@@ -5,7 +5,6 @@ import dataclasses
 import hashlib
 import json
 import sqlite3
-import threading
 from collections.abc import Iterable
 
 from register_files import Refused
@@ -15,20 +14,16 @@ from office.model import Register
 from . import answers
 from .answers import Entry, Meant, Names
 from .copies import Copies
-from .desk import LOST, UNSENT, Desk, Result, Seen, seen_of
-from .history import SENDS
+from .desk import Desk, Result, seen_of
+from .outbox import DONE, SENDING, WAITS, Outbox, Request
 from .people import Person
-from .records import came_of, ends_of
 from .safeguard import copied
 from .store import Store
 from .wording import sentence
 
-WAITS, SENDING, DONE = "waits", "sending", "done"
 BEFORE_PLANS = "before EHC plans are recorded"
 # a batch of a season, and more than a person types in a day
 MOST = 2000
-FIELDS = ("person", "typed", "kind", "child", "school", "name", "trouble", "seen", "state", "said",
-          "after")
 
 
 @dataclasses.dataclass(frozen=True)
@@ -52,17 +47,9 @@ class Shown:
         return not self.conflicts and self.entry.state == WAITS
 
 
-def entry_of(row: sqlite3.Row) -> Entry:
-    """The entry of a row."""
-    meant = Meant(row["typed"], row["kind"], row["child"], row["school"], row["name"],
-                  row["trouble"])
-    return Entry(row["number"], row["person"], meant, row["seen"], row["state"], row["said"],
-                 row["after"])
-
-
 def digest(entries: Iterable[Entry]) -> str:
     """What is to be recorded or removed, in short: only what was shown is."""
-    text = json.dumps([[it.number, it.meant.typed, it.command, it.seen] for it in entries])
+    text = json.dumps([[it.number, it.meant.typed, it.meant.command, it.seen] for it in entries])
     return hashlib.sha256(text.encode()).hexdigest()
 
 
@@ -74,20 +61,22 @@ def see_size(db: sqlite3.Connection, person: str) -> None:
         raise Refused(f"a batch has at most {MOST:,} answers: record those that are there")
 
 
-class Piles:
-    """The batches of one application, and which of them are being recorded."""
+class Piles(Outbox[Entry]):
+    """The batches of one application, and which of them are being recorded. An answer that is
+    refused waits in its batch.
+    """
+
+    kind, item, refused = "answer", Entry, WAITS
 
     def __init__(self, store: Store, desk: Desk, copies: Copies) -> None:
-        self.store, self.desk, self.copies = store, desk, copies
-        self.lock = threading.Lock()
-        self.running: dict[str, threading.Thread] = {}
+        super().__init__(store, desk)
+        self.copies = copies
         # of those that were recorded last: how many are done, and how many were to be
-        self.came: dict[str, tuple[int, int]] = {}
+        self.recorded: dict[str, tuple[int, int]] = {}
 
-    def of(self, person: str) -> list[Entry]:
-        """The entries of a person, in the order in which they were added."""
-        rows = self.store.rows("SELECT * FROM answer WHERE person=? ORDER BY number", person)
-        return [entry_of(row) for row in rows]
+    def request(self, it: Entry) -> Request:
+        """What the history has of an answer."""
+        return {"command": it.meant.command}
 
     def of_others(self, person: str) -> dict[int, str]:
         """Who else has an answer for which child."""
@@ -97,49 +86,28 @@ class Piles:
 
     def add(self, person: str, register: Register, given: Iterable[Meant]) -> int:
         """Adds entries, with what is seen of their children now; all or none. How many they are."""
-        rows = [self.values(person, register, it) for it in given]
-        marks = ", ".join("?" for _ in FIELDS)
+        found = list(given)
         with self.store.writing() as db:
-            db.executemany(f"INSERT INTO answer ({', '.join(FIELDS)}) VALUES ({marks})", rows)
+            for it in found:
+                self.put(person, 0, dataclasses.asdict(it), seen_in(register, it))
             see_size(db, person)
-        return len(rows)
-
-    def values(self, person: str, register: Register, it: Meant) -> tuple[object, ...]:
-        """The values of a new entry."""
-        entry = Entry(0, person, it, "", WAITS, "", 0)
-        seen = seen_of(register, entry.command).text if entry.command else ""
-        return (person, it.typed, it.kind, it.child, it.school, it.name, it.trouble, seen, WAITS,
-                "", 0)
+        return len(found)
 
     def remove(self, person: str, numbers: Iterable[int]) -> None:
         """Removes entries that are not being sent."""
         with self.store.writing() as db:
-            db.executemany("DELETE FROM answer WHERE person=? AND number=? AND state<>?",
-                           [(person, it, SENDING) for it in numbers])
+            db.executemany("DELETE FROM sending WHERE kind=? AND batch=? AND number=?"
+                           " AND state<>?", [(self.kind, person, it, SENDING) for it in numbers])
 
     def replace(self, entry: Entry, register: Register, meant: Meant) -> None:
         """Gives an entry that waits another meaning: a child that was chosen, or a name that is
         right.
         """
-        _, _, *found, seen, _, _, _ = self.values(entry.person, register, meant)
+        about = json.dumps(dataclasses.asdict(meant))
         with self.store.writing() as db:
-            db.execute("UPDATE answer SET kind=?, child=?, school=?, name=?, trouble=?, seen=?,"
-                       " said='' WHERE number=? AND person=? AND state=?",
-                       (*found, seen, entry.number, entry.person, WAITS))
-
-    def begin(self, entry: Entry) -> bool:
-        """Marks an entry as being sent, unless it was removed or handed over meanwhile."""
-        after = len(self.desk.history.entries)
-        with self.store.writing() as db:
-            found = db.execute("UPDATE answer SET state=?, said='', after=? WHERE number=?"
-                               " AND person=? AND state=?",
-                               (SENDING, after, entry.number, entry.person, WAITS))
-            return bool(found.rowcount)
-
-    def set_state(self, number: int, state: str, said: str) -> None:
-        """Stores what came of an entry."""
-        with self.store.writing() as db:
-            db.execute("UPDATE answer SET state=?, said=? WHERE number=?", (state, said, number))
+            db.execute("UPDATE sending SET about=?, seen=?, said='' WHERE number=? AND batch=?"
+                       " AND state=?", (about, seen_in(register, meant), entry.number, entry.batch,
+                                        WAITS))
 
     def shown(self, person: str, register: Register) -> list[Shown]:
         """The entries of a person that are not recorded, with what speaks against them."""
@@ -183,76 +151,42 @@ class Piles:
         numbers = [it.number for it in entries]
         with self.store.writing() as db:
             moved = db.executemany(
-                "UPDATE answer SET person=? WHERE person=? AND number=? AND state=?",
-                [(to, owner, it, WAITS) for it in numbers]).rowcount
+                "UPDATE sending SET batch=? WHERE kind=? AND batch=? AND number=? AND state=?",
+                [(to, self.kind, owner, it, WAITS) for it in numbers]).rowcount
             if moved != len(numbers):
                 raise Refused("the batch has changed since it was shown")
             see_size(db, to)
 
-    def is_running(self, person: str) -> bool:
-        """Whether the batch of a person is being recorded."""
-        with self.lock:
-            thread = self.running.get(person)
-            return thread is not None and thread.is_alive()
-
     def record(self, who: Person, entries: list[Entry], wait: float) -> None:
         """Begins to record entries, and waits for the end for some seconds at most."""
-        with self.lock:
-            present = self.running.get(who.name)
-            if present is not None and present.is_alive():
-                raise Refused("this batch is being recorded already")
-            thread = threading.Thread(target=self.send_all, args=(who, entries), daemon=True)
-            self.running[who.name] = thread
-            thread.start()
-        thread.join(wait)
+        if not self.run(who.name, wait, lambda: self.send_all(who, entries)):
+            raise Refused("this batch is being recorded already")
 
     def send_all(self, who: Person, entries: list[Entry]) -> None:
         """Sends entries one after another, until the end or until nothing can be sent; those with
         a plan after a copy of the register.
         """
-        self.came[who.name] = 0, len(entries)
+        self.recorded[who.name] = 0, len(entries)
         if any(it.meant.kind == "name_plan" for it in entries):
             try:
                 copied(self.desk, self.copies, BEFORE_PLANS, who)
             except Refused as error:
-                self.set_state(entries[0].number, WAITS, sentence(str(error)))
+                self.change(entries[0], WAITS, sentence(str(error)))
                 return
-        for entry in entries:
-            command = entry.command
-            if command is None or not self.begin(entry):
-                continue
-            result = self.desk.send(who, command, Seen(entry.seen))
-            self.ended(entry, result)
-            self.came[who.name] = self.came[who.name][0] + result.is_done, len(entries)
-            if result.outcome in (UNSENT, LOST):
-                return
+        self.send(who, (it for it in entries if it.meant.command))
 
-    def ended(self, entry: Entry, result: Result) -> None:
-        """Stores what came of an entry that was sent. Where that is not certain, the history says
-        it later.
-        """
-        if result.is_done:
-            self.set_state(entry.number, DONE, result.said)
-        elif result.outcome != LOST:
-            self.set_state(entry.number, WAITS, result.said)
+    def ended(self, it: Entry, result: Result) -> None:
+        """Keeps what came of an answer."""
+        super().ended(it, result)
+        done, count = self.recorded.get(it.batch, (0, 0))
+        self.recorded[it.batch] = done + result.is_done, count
 
-    def settle(self, person: str) -> None:
-        """Finds out what came of entries that were being sent when the application ended, or of
-        which there was no certain answer. None is sent again.
-        """
-        if self.is_running(person):
-            return
-        left = [it for it in self.of(person) if it.state == SENDING]
-        if not left:
-            return
-        with self.desk.lock:
-            self.desk.settle()
-        entries = list(self.desk.history.entries)
-        ends = ends_of(entries)
-        for it in left:
-            sent = next((one for one in entries[it.after:] if one.what == SENDS
-                         and one.who == person and one.about.get("command") == it.command), None)
-            came, is_done = came_of(sent, ends) if sent else ("it was not recorded", False)
-            state, said = (DONE, "Done, and stored.") if is_done else (
-                WAITS, f"There was no answer: {came}.")
-            self.set_state(it.number, state, said)
+    def settle(self, batch: object) -> None:
+        """Finds out what came of answers, unless they are being sent now."""
+        if not self.is_running(batch):
+            super().settle(batch)
+
+
+def seen_in(register: Register, meant: Meant) -> str:
+    """What an answer rests on, of a register."""
+    return seen_of(register, meant.command).text if meant.command else ""

@@ -17,13 +17,14 @@ from .desk import Desk, local
 from .draws import STEADY, Draws
 from .draws_second import Case
 from .history import Entry, History
+from .outbox import DONE, WAITS
 from .people import Person
 from .restores_again import Sending
 from .restores_rehearsal import WOULD
 from .restores_since import Difference
 from .restores_terms import (
-    ASKED, CLOSED, CONFIRMED, COPIED, DONE, GIVEN_UP, LATER, OPENED, REFUSED, RESTORED, RESTORING,
-    SENT, UNTOUCHED, WAITS, Again, Restore, of_rows,
+    ASKED, CLOSED, CONFIRMED, COPIED, GIVEN_UP, LATER, OPENED, REFUSED, RESTORED, RESTORING, SENT,
+    UNTOUCHED, Again, Restore, of_rows,
 )
 from .staging_commit import digest_of
 from .staging_rows import COMMITTED, OPEN
@@ -47,7 +48,7 @@ class Restores(StepStore[Restore]):
         self.desk, self.copies, self.draws = desk, copies, draws
         # (so that no draw begins while a restore does)
         self.lock = draws.lock
-        self.sending = Sending(store, record, desk)
+        self.sending = Sending(store, desk)
         # why no restore can begin, or ""
         self.closed_by_another: Callable[[], str] = str
 
@@ -143,11 +144,9 @@ class Restores(StepStore[Restore]):
             for it in found:
                 said = came.get(it.number, "")
                 is_chosen = said == WOULD
-                db.execute(
-                    "INSERT INTO again (restore, entry, is_chosen, state, said)"
-                    " VALUES (?, ?, ?, ?, ?)",
-                    (number, it.number, int(is_chosen), LATER if said and not is_chosen else WAITS,
-                     said))
+                state = LATER if said and not is_chosen else WAITS
+                about = {"is_chosen": int(is_chosen)}
+                self.sending.put(number, it.number, about, None, state, said)
             with self.moving(self.get(number), who, CLOSED):
                 pass
         return number
@@ -215,7 +214,7 @@ class Restores(StepStore[Restore]):
     def send_again(self, who: Person, number: int, seen: int) -> None:
         """Sends what was chosen, each once; the rest stays for the next request of a browser."""
         with self.step(number, seen, RESTORED) as found:
-            if not self.sending.send(who, found, True):
+            if not self.sending.send_chosen(who, found, True):
                 return
             done, all_of = self.counts(self.sending.rows(found))
             self.record(who, "sent again", found, done=done, chosen=all_of)
@@ -230,7 +229,7 @@ class Restores(StepStore[Restore]):
     def open(self, who: Person, number: int, seen: int) -> None:
         """Opens the register for all. What was not sent may be sent later."""
         with self.step(number, seen, RESTORED, SENT) as found:
-            self.sending.settle(found)
+            self.sending.settle(found.number)
             rows = self.sending.rows(found)
             done, all_of = self.counts(rows)
             self.record(who, "opened the register", found, done=done, chosen=all_of)
@@ -268,13 +267,9 @@ class Restores(StepStore[Restore]):
                 if said := may.get(entry, "this did not come since the copy"):
                     raise Refused(said)
             self.record(who, "sends again", found, entries=sorted(wanted))
-            with self.store.writing() as db:
-                db.execute("UPDATE again SET is_chosen=0 WHERE restore=? AND state=?",
-                           (number, WAITS))
-                db.executemany(
-                    "UPDATE again SET is_chosen=1, state=?, said='' WHERE restore=? AND entry=?",
-                    [(WAITS, number, it) for it in sorted(wanted)])
-            self.sending.send(who, found, False)
+            with self.store.writing():
+                self.sending.choose_later(found, wanted)
+            self.sending.send_chosen(who, found, False)
             done, _ = self.counts(self.sending.rows(found))
             with self.moving(found, who, OPENED, f"{done} sent again.") as db:
                 mark_staged(db, self.sending.rows(found))

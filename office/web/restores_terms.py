@@ -4,6 +4,7 @@ came since its copy, which may be sent again.
 import dataclasses
 import sqlite3
 
+from .outbox import Item
 from .step_store import Done, steps_in
 
 CLOSED, ASKED, CONFIRMED, COPIED = "closed", "asked", "confirmed", "copied"
@@ -14,23 +15,24 @@ IN_ORDER = (CLOSED, ASKED, CONFIRMED, COPIED, RESTORING, RESTORED, SENT, OPENED)
 ENDED = (OPENED, GIVEN_UP)
 # before the register is touched
 UNTOUCHED = IN_ORDER[:4]
-# what came since the copy: it was not sent yet; rests on the draw that was wrong, and is sent once
-# that is held again; is being sent, is stored, or was refused
-WAITS, LATER, SENDING, DONE, REFUSED = "waits", "later", "sending", "done", "refused"
+# what came since the copy and rests on the draw that was wrong: it is sent once that is held again;
+# and what was refused
+LATER, REFUSED = "later", "refused"
 
 
 @dataclasses.dataclass(frozen=True)
-class Again:
-    """An entry of the history that came since the copy: whether it is to be sent again, what became
-    of that, and in words; how long the history was before it was sent; and the entry that sent it.
-    """
+class Again(Item):
+    """An entry of the history that came since the copy, in the batch of a restore."""
 
-    entry: int
-    is_chosen: bool
-    state: str
-    said: str
-    after: int
-    sent: int | None
+    @property
+    def entry(self) -> int:
+        """The number of the entry."""
+        return self.place
+
+    @property
+    def is_chosen(self) -> bool:
+        """Whether it is to be sent again."""
+        return bool(self.about["is_chosen"])
 
 
 @dataclasses.dataclass(frozen=True)
@@ -65,12 +67,6 @@ def of_rows(row: sqlite3.Row, steps: list[sqlite3.Row]) -> Restore:
     """A restore of the store."""
     return Restore(row["id"], row["copy"], row["state"], row["version"], row["copy_before"],
                    row["draw"], steps_in(steps))
-
-
-def again_of(row: sqlite3.Row) -> Again:
-    """What came since, of a row."""
-    return Again(row["entry"], bool(row["is_chosen"]), row["state"], row["said"], row["after"],
-                 row["sent"])
 
 
 @dataclasses.dataclass(frozen=True)

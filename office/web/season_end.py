@@ -27,7 +27,7 @@ from .draws import STEADY
 from .draws_second import Case
 from .history import now
 from .people import Person
-from .piles import DONE
+from .outbox import DONE
 from .staging_rows import OPEN, SENDING
 
 if TYPE_CHECKING:
@@ -409,7 +409,7 @@ class SeasonEnd:
             store.db.execute("PRAGMA secure_delete=ON")
             with store.writing() as db:
                 db.execute("PRAGMA defer_foreign_keys=ON")
-                for it in archive.tables(store):
+                for it in archive.tables(store, False):
                     db.execute(f"DELETE FROM {it}")
             # (a log and free pages would keep what was deleted)
             store.db.execute("VACUUM")

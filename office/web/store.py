@@ -189,6 +189,43 @@ STEPS = (
     """
     ALTER TABLE person ADD COLUMN account TEXT NOT NULL DEFAULT '';
     """,
+    # what is sent to the register in rows, of which answers, reminders with withdrawals, and what
+    # is sent again after a restore are views: what each is about is JSON, in a form with a version
+    """
+    CREATE TABLE sending (
+        number INTEGER PRIMARY KEY AUTOINCREMENT, kind TEXT NOT NULL, batch TEXT NOT NULL,
+        place INTEGER NOT NULL, form INTEGER NOT NULL DEFAULT 1, about TEXT NOT NULL, seen TEXT,
+        state TEXT NOT NULL, said TEXT NOT NULL, who TEXT NOT NULL DEFAULT '',
+        after INTEGER NOT NULL DEFAULT 0, sent INTEGER) STRICT;
+    CREATE INDEX sending_batch ON sending (kind, batch);
+    INSERT INTO sqlite_sequence SELECT 'sending', seq FROM sqlite_sequence WHERE name='answer';
+    INSERT INTO sending (number, kind, batch, place, about, seen, state, said, who, after)
+        SELECT number, 'answer', person, 0, json_object('typed', typed, 'kind', kind, 'child',
+            child, 'school', school, 'name', name, 'trouble', trouble), seen, state, said, person,
+            after
+        FROM answer;
+    INSERT INTO sending (kind, batch, place, about, seen, state, said, after)
+        SELECT 'notice', row_id, place, json_object('cmd', kind, 'child', child, 'school', school,
+            'day', day), seen, state, notice.said, after
+        FROM notice JOIN notice_row ON id=row_id ORDER BY row_id, place;
+    INSERT INTO sending (kind, batch, place, about, state, said, after, sent)
+        SELECT 'again', restore, entry, json_object('is_chosen', is_chosen), state, said, after,
+            sent
+        FROM again ORDER BY restore, entry;
+    DROP TABLE answer;
+    DROP TABLE notice;
+    DROP TABLE again;
+    CREATE VIEW answer AS SELECT number, batch AS person, about ->> 'typed' AS typed,
+        about ->> 'kind' AS kind, about ->> 'child' AS child, about ->> 'school' AS school,
+        about ->> 'name' AS name, seen, state, said, after, about ->> 'trouble' AS trouble
+        FROM sending WHERE sending.kind='answer';
+    CREATE VIEW notice AS SELECT CAST(batch AS INTEGER) AS row_id, place,
+        about ->> 'child' AS child, about ->> 'school' AS school, seen, state, said, after
+        FROM sending WHERE kind='notice';
+    CREATE VIEW again AS SELECT CAST(batch AS INTEGER) AS restore, place AS entry,
+        about ->> 'is_chosen' AS is_chosen, state, said, after, sent
+        FROM sending WHERE kind='again';
+    """,
 )
 # the disk, or the limit of a file of the system, is reached
 FULL = "SQLITE_FULL"

@@ -25,7 +25,7 @@ IN_LINES = {
     "draw": ("rehearsal", "audit", "trouble"), "draw_step": ("said",), "restore_step": ("said",),
     "letter_audit": ("said",), "notice_row": ("said",),
 }
-BY_ITSELF = ("staged_row", "letter_set", "again", "lot")
+BY_ITSELF = ("staged_row", "letter_set", "again", "lot", "sending")
 OF_NOBODY = (
     "setting", "person", "session", "copy", "staged_file", "school_draft", "told", "restore",
     "letter_template", "letter_version", "letter_picture", "letter_sender", "list_view", "figures",

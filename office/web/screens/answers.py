@@ -16,8 +16,9 @@ from ..answer_rows import Reader
 from ..answers import Entry, Names
 from ..guard import needs, parts, person
 from ..kinds import ANSWERS
+from ..outbox import DONE
 from ..people import RECORD
-from ..piles import DONE, Piles, Shown
+from ..piles import Piles, Shown
 from ..wording import WRONG_DECLINE, sentence
 
 screen = flask.Blueprint("answers", __name__, url_prefix="/answers")
@@ -53,9 +54,9 @@ def page(said: str = "", status: int = 200, pasted: str = "", typed: str = "") -
     failed = sum(bool(it.entry.said) for it in shown)
     if failed and not said:
         said = f"{texts.count(failed, 'answer was', 'answers were')} not recorded: see the results."
-    elif "recorded" in flask.request.args and not said and who in found.came:
-        said = "{} of {} recorded.".format(found.came[who][0], texts.count(
-            found.came[who][1], "answer is", "answers are"))
+    elif "recorded" in flask.request.args and not said and who in found.recorded:
+        said = "{} of {} recorded.".format(found.recorded[who][0], texts.count(
+            found.recorded[who][1], "answer is", "answers are"))
     return flask.render_template(
         "answers.html", shown=shown, ready=ready, digest=digest_of(ready),
         done=done[-MOST_RECORDED:], recorded=len(done),

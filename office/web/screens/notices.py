@@ -18,9 +18,9 @@ from ..asked import Typed
 from ..guard import needs, parts, person
 from ..kinds import NOTICES
 from ..notice_marks import UNREAD, Marks
-from ..notices import LAPSE, REMIND, Due, Notice, Notices
+from ..notices import LAPSE, REMIND, Due, Notices
+from ..outbox import DONE, Item
 from ..people import READ, RECORD, Person
-from ..piles import DONE
 from ..wording import sentence
 from . import letters
 
@@ -46,7 +46,7 @@ def rows() -> Notices:
     def write(who: Person, number: int) -> None:
         letters_rows.ask(sets, lists, who, number, today())
 
-    made = Notices(found.store, found.history, found.desk, found.copies, write)
+    made = Notices(found.store, found.desk, found.copies, write)
     return cast(Notices, flask.current_app.extensions.setdefault("notices", made))
 
 
@@ -265,10 +265,10 @@ def one(number: int) -> Answer:
         # (while the register is copied it cannot be read)
         if not is_running:
             raise
-    table: tables.Table[Notice] = tables.table({
-        "child": tables.Column("Number", "number", lambda it: it.child),
-        "name": tables.Column("Name", "", lambda it: names.get(it.child, "")),
-        "school": tables.Column("School", "", lambda it: it.school),
+    table: tables.Table[Item] = tables.table({
+        "child": tables.Column("Number", "number", lambda it: it.about["child"]),
+        "name": tables.Column("Name", "", lambda it: names.get(it.about["child"], "")),
+        "school": tables.Column("School", "", lambda it: it.about["school"]),
         "said": tables.Column("Result", "", lambda it: it.said),
     }, row.notices)
     made = letters_rows.of_row(letters.sets(), number)

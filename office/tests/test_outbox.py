@@ -1,0 +1,168 @@
+"""The outbox over each kind of command: the application is killed at each write to a disk and at
+each request to the register, and whoever looks next goes on.
+"""
+import contextlib
+import pathlib
+from collections.abc import Callable, Iterator
+from typing import Any
+
+import pytest
+from conftest import make
+from served import served
+from test_desk import APPLIED, CHILDREN, JANE, ROUND, ROW, SCHOOLS, about
+
+from office import senders
+from office.web import desk, kinds
+from office.web.desk import Command
+from office.web.history import ANSWER, History
+from office.web.outbox import DONE, FAILED, WAITS, Item, Outbox
+from office.web.people import Person
+from office.web.store import Store
+
+BATCH = "a batch"
+
+
+class Rows(Outbox[Item]):
+    """Rows of commands, as they are."""
+
+    kind, item = "row", Item
+
+
+class Killed(BaseException):
+    """The application ends here."""
+
+
+class Life:
+    """The life of an application until it is killed at an event: before it, or after it."""
+
+    def __init__(self, at: int = 0, is_after: bool = False) -> None:
+        self.at, self.is_after, self.count = at, is_after, 0
+
+    def around(self, real: Callable[..., Any]) -> Callable[..., Any]:
+        """A call that is an event."""
+        def found(*given: Any, **more: Any) -> Any:
+            self.count += 1
+            at = self.count
+            if at == self.at and not self.is_after:
+                raise Killed
+            answer = real(*given, **more)
+            if at == self.at:
+                raise Killed
+            return answer
+        return found
+
+
+@pytest.fixture(name="address")
+def address_fixture(tmp_path: pathlib.Path, monkeypatch: pytest.MonkeyPatch) -> Iterator[str]:
+    """A register after its first round, which is served."""
+    monkeypatch.setattr(desk, "AGAIN_SECONDS", 0.0)
+    make(tmp_path / "reg.db", [*SCHOOLS, *CHILDREN, *APPLIED, ROUND])
+    with served(tmp_path / "reg.db") as (found, _):
+        yield found
+
+
+@contextlib.contextmanager
+def alive(
+    folder: pathlib.Path, address: str, life: Life, lines: list[bytes] | None = None
+) -> Iterator[Rows]:
+    """An application, of which each write and each request is an event of its life."""
+    record, store, sender = (History(str(folder / "history.jsonl")),
+                             Store(str(folder / "office.db")), senders.Http(address))
+    send = sender.send
+
+    def sent(line: bytes) -> bytes:
+        if lines is not None:
+            lines.append(line)
+        return send(line)
+
+    with pytest.MonkeyPatch.context() as patch:
+        patch.setattr(record, "write", life.around(record.write))
+        patch.setattr(sender, "send", life.around(sent))
+        found = Rows(store, desk.Desk(sender, record))
+        patch.setattr(found, "begin", life.around(found.begin))
+        patch.setattr(found, "change", life.around(found.change))
+        try:
+            yield found
+        finally:
+            record.close()
+            store.close()
+
+
+def wait(folder: pathlib.Path, address: str, *commands: Command) -> None:
+    """Commands wait in a batch, with what they rest on now."""
+    with alive(folder, address, Life()) as box:
+        register = box.desk.now()
+        for at, it in enumerate(commands):
+            box.put(BATCH, at, it, desk.seen_of(register, it).text)
+
+
+@pytest.mark.parametrize("command", ROW, ids=[it["cmd"] for it in ROW])
+def test_each_command_is_sent_once_whenever_the_application_is_killed(
+    address: str, tmp_path: pathlib.Path, command: Command
+) -> None:
+    """Two of each: the one is done, and another waits behind it."""
+    other = about("accept", 6)
+    wait(tmp_path, address, command, other)
+    lines: list[bytes] = []
+    lives = 0
+    for at, is_after in ((at, after) for at in range(1, 99) for after in (False, True)):
+        with alive(tmp_path, address, Life(at, is_after), lines) as box:
+            try:
+                box.settle(BATCH)
+                box.send(JANE, box.of(BATCH))
+                break
+            except Killed:
+                lives += 1
+    with alive(tmp_path, address, Life()) as box:
+        register, found = box.desk.now(), box.of(BATCH)
+        assert [it.state for it in found] == [DONE, DONE] and lives > 5
+        assert lines == [desk.line_of(it) for it in (command, other)]
+        assert all(kinds.is_done(register, it) for it in (command, other))
+        assert [box.desk.history.entries[(it.sent or 0) - 1].about for it in found] == [
+            {"command": command}, {"command": other}]
+
+
+@pytest.mark.parametrize("is_after", [False, True])
+def test_what_is_refused_is_not_sent_again(
+    address: str, tmp_path: pathlib.Path, is_after: bool
+) -> None:
+    """Also where the application is killed before what came of it is kept."""
+    wait(tmp_path, address, about("accept", 1, "B"))
+    lines: list[bytes] = []
+    # (marked, on record, sent, answered; and kept)
+    with alive(tmp_path, address, Life(5, is_after), lines) as box, pytest.raises(Killed):
+        box.send(JANE, box.of(BATCH))
+    with alive(tmp_path, address, Life(), lines) as box:
+        assert box.desk.history.entries[-1].what == ANSWER
+        box.settle(BATCH)
+        box.send(JANE, box.of(BATCH))
+        [found] = box.of(BATCH)
+        assert found.state == FAILED and "NotOffered" in found.said and len(lines) == 1
+
+
+def test_an_equal_command_of_another_request_is_not_this_one(
+    address: str, tmp_path: pathlib.Path
+) -> None:
+    """Neither one of somebody else, nor one with the point of a home beside it."""
+    bo, command = Person("bo", "officer"), about("accept", 1)
+    wait(tmp_path, address, command)
+    with alive(tmp_path, address, Life()) as box:
+        assert box.begin(JANE, box.of(BATCH)[0])
+        assert box.desk.send(bo, command).is_done
+        assert not box.desk.send(JANE, command, point="by hand").is_done
+        box.settle(BATCH)
+        [found] = box.of(BATCH)
+        assert (found.state, found.said, found.sent) == (
+            WAITS, "There was no answer: it was not recorded.", None)
+
+
+def test_what_was_changed_meanwhile_is_not_sent(address: str, tmp_path: pathlib.Path) -> None:
+    """What is sent is what was shown."""
+    wait(tmp_path, address, about("accept", 1), about("accept", 2))
+    lines: list[bytes] = []
+    with alive(tmp_path, address, Life(), lines) as box:
+        shown = box.of(BATCH)
+        with box.store.writing() as db:
+            db.execute("UPDATE sending SET about=json_set(about, '$.cmd', 'decline') WHERE place=0")
+        assert box.send(JANE, shown) is None
+        assert [it.state for it in box.of(BATCH)] == [WAITS, DONE] and len(lines) == 1
