@@ -218,7 +218,7 @@ def test_a_copy_is_restored_and_what_is_ticked_is_sent_again(small: Machine) -> 
         assert "before copy 1 was restored" in text_of(room.hal.get("/copies/").text, "copies")
         number = room.begin(2)
         since = text_of(room.hal.get(f"/restores/{number}").text, "since")
-        assert "1 entry" in since and "data corrected" in since
+        assert "1 entry" in since and "corrected the details" in since
         room.press(room.hal, number, "ask")
         assert room.press(room.jane, number, "confirm").status_code == 303
         # (nothing that was ticked was refused: it is open by itself)
