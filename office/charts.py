@@ -1,117 +1,85 @@
-"""Charts as SVG that a page can contain: with a title and a description for those who do not see
-them, and texts that are texts."""
-from __future__ import annotations
-
-import html
-import io
-import logging
+"""Charts of a page that is published: with a title and a description for those who do not see them,
+and texts that are texts. Their colours differ in brightness too, so that a print in grey shows
+them.
+"""
 import math
-import re
 from collections.abc import Sequence
-from typing import TYPE_CHECKING, Any
 
-if TYPE_CHECKING:
-    from matplotlib.axes import Axes
-    from matplotlib.figure import Figure
-    from matplotlib.patches import Rectangle
+from markupsafe import Markup
+
+from .drawing import Ground, label, line, rect, svg
 
 # east and north, in metres
 Point = tuple[int, int]
 # a text, and the values of its bars; None is withheld
 Series = tuple[str, Sequence[float | None]]
-# two colours that differ in brightness too, so that a print in grey shows both; and what marks the
-# second one besides
-NOW, THEN, PALE = "#1d3557", "#f4a261", "#a8c5da"
-HATCHES = (None, "//", None)
 CELL_STEPS = (250, 500, 1000, 2000, 5000, 10000, 20000, 50000, 100000, 200000, 500000)
 MOST_CELLS, MOST_BLANK = 40, 0.2
-STYLE = {
-    "svg.fonttype": "none",
-    "svg.hashsalt": "chart",
-    "font.family": "sans-serif",
-    "font.size": 10,
-    "hatch.linewidth": 0.6,
-}
-# above the chart, at its left edge
-ABOVE: dict[str, Any] = {"loc": "lower left", "bbox_to_anchor": (0, 1), "frameon": False}
-
-
-def new_figure(width: float, height: float) -> Figure:
-    """An empty chart, in inches."""
-    logging.getLogger("matplotlib").setLevel(logging.ERROR)
-    import matplotlib
-    import matplotlib.figure
-
-    matplotlib.rcParams.update(STYLE)
-    return matplotlib.figure.Figure(figsize=(width, height), layout="constrained")
-
-
-def svg_of(figure: Figure, name: str, title: str, description: str) -> str:
-    """The chart as SVG, whose ids begin with a name that no other chart of the page has."""
-    out = io.StringIO()
-    figure.savefig(out, format="svg", metadata={"Date": None, "Creator": None})
-    text = out.getvalue()
-    text = re.sub(
-        r"<metadata>.*?</metadata>", "", text[text.index("<svg") :], count=1, flags=re.DOTALL
-    )
-    text = re.sub(r'(\bid="|href="#|url\(#)', rf"\g<1>{name}-", text)
-    text = re.sub(r'<svg ([^>]*?)width="[^"]*"', r"<svg \1", text, count=1)
-    text = re.sub(r'(<svg [^>]*?)height="[^"]*"', r"\1", text, count=1)
-    label = f'role="img" aria-labelledby="{name}-title {name}-text">'
-    label += f'<title id="{name}-title">{html.escape(title)}</title>'
-    label += f'<desc id="{name}-text">{html.escape(description)}</desc>'
-    return re.sub(r"(<svg [^>]*)>", lambda found: f"{found[1]} {label}", text, count=1)
-
-
-def tidy(axes: Axes) -> None:
-    """Removes what a chart does not need."""
-    for it in ("top", "right"):
-        axes.spines[it].set_visible(False)
+# the classes of the bars of a label, of which the second are hatched
+BARS = ("first", "second", "third")
+WIDTH, BAR, GAP, TOP = 720.0, 13.0, 9.0, 28.0
+# the width of a letter, and the room of a number behind its bar
+LETTER, ROOM = 8.6, 52.0
+# the shades of a map, and the least that it shows, in metres
+SHADES, LEAST_WIDTH = 4, 1000
 
 
 def bars(
-    name: str,
-    title: str,
-    description: str,
-    labels: Sequence[str],
-    series: Sequence[Series],
-    unit: str,
-    withheld: str = "[c]",
-) -> str:
+    name: str, title: str, description: str, labels: Sequence[str], series: Sequence[Series],
+    unit: str, withheld: str = "[c]",
+) -> Markup:
     """Horizontal bars, one group for each label. A value that is withheld has a mark in place of a
-    bar."""
-    figure = new_figure(8, 1.1 + len(labels) * (0.12 + 0.16 * len(series)))
-    axes, colours, high = figure.add_subplot(), (NOW, THEN, PALE), 0.8 / len(series)
-    for at, (text, values) in enumerate(series):
-        places = [row + (at - (len(series) - 1) / 2) * high for row in range(len(labels))]
-        lengths = [it or 0 for it in values]
-        axes.barh(
-            places,
-            lengths,
-            high,
-            label=text,
-            color=colours[at],
-            hatch=HATCHES[at],
-            edgecolor="#555",
-            linewidth=0.4,
-        )
-        for place, it in zip(places, values):
-            axes.annotate(
-                withheld if it is None else f"{it:,}",
-                (it or 0, place),
-                xytext=(3, 0),
-                textcoords="offset points",
-                va="center",
-                fontsize=8,
-            )
-    axes.set_yticks(range(len(labels)), labels)
-    axes.set_ylim(len(labels) - 0.4, -0.6)
-    axes.set_xlabel(unit)
-    axes.margins(x=0.08)
-    tidy(axes)
-    if len(series) > 1:
-        axes.legend(ncol=len(series), **ABOVE)
-    return svg_of(figure, name, title, description)
+    bar.
+    """
+    left = min(max(map(len, labels)) * LETTER + 12, WIDTH / 3)
+    most = max((it for _, values in series for it in values if it), default=1)
+    step = step_of(most)
+    scale = (WIDTH - left - ROOM) / (math.ceil(most / step) * step)
+    group = len(series) * BAR + GAP
+    top = TOP if len(series) > 1 else 4
+    bottom = top + len(labels) * group
+    parts = [hatch(name), *(legend(series, left) if len(series) > 1 else [])]
+    for at in range(math.ceil(most / step) + 1):
+        x = left + at * step * scale
+        parts += [line(x, top, x, bottom, "grid"),
+                  label(x, bottom + 15, f"{at * step:,}", "quiet", "middle")]
+    for row, words in enumerate(labels):
+        y = top + row * group + GAP / 2
+        parts.append(label(left - 7, y + len(series) * BAR / 2 + 4, words, "", "end"))
+        for at, (_, values) in enumerate(series):
+            value, below = values[row], y + at * BAR
+            if value:
+                parts.append(rect(left, below, value * scale, BAR - 1, BARS[at]))
+                if at == 1:
+                    # (which shows in grey)
+                    parts.append(f'<rect x="{left:.1f}" y="{below:.1f}"'
+                                 f' width="{value * scale:.1f}" height="{BAR - 1:.1f}"'
+                                 f' fill="url(#{name}-hatch)"/>')
+            said = withheld if value is None else f"{value:,}"
+            parts.append(label(left + (value or 0) * scale + 5, below + BAR - 3, said, "value"))
+    parts.append(label(left, bottom + 33, unit, "quiet"))
+    return svg(name, WIDTH, bottom + 40, title, description, parts, "bars")
+
+
+def step_of(most: float) -> int:
+    """Between two lines of a scale: at most six are needed up to the greatest value."""
+    return next(size * 10 ** power for power in range(9) for size in (1, 2, 5)
+                if size * 10 ** power * 6 >= most)
+
+
+def hatch(name: str) -> str:
+    """The pattern of the second bars."""
+    return (f'<defs><pattern id="{name}-hatch" width="6" height="6" patternUnits="userSpaceOnUse"'
+            ' patternTransform="rotate(45)"><path class="hatch" d="M0 0v6"/></pattern></defs>')
+
+
+def legend(series: Sequence[Series], left: float) -> list[str]:
+    """What the bars of a label are, above the first."""
+    parts, x = [], left
+    for at, (words, _) in enumerate(series):
+        parts += [rect(x, 6, 12, 12, BARS[at]), label(x + 17, 16, words)]
+        x += len(words) * LETTER + 40
+    return parts
 
 
 def width_of(points: Sequence[Point]) -> int:
@@ -121,7 +89,8 @@ def width_of(points: Sequence[Point]) -> int:
 
 def cell_of(points: Sequence[Point], homes: Sequence[Point], least: int) -> int:
     """The side of a square of the map in metres: the map has at most MOST_CELLS of them beside each
-    other, and MOST_BLANK of the homes in blank ones."""
+    other, and MOST_BLANK of the homes in blank ones.
+    """
     widest = width_of(points)
 
     def is_enough(side: int) -> bool:
@@ -133,7 +102,8 @@ def cell_of(points: Sequence[Point], homes: Sequence[Point], least: int) -> int:
 
 def homes_by_cell(homes: Sequence[Point], side: int, least: int) -> dict[Point, int]:
     """How many homes are in each square, by its south-west corner; squares with fewer than `least`
-    are left out."""
+    are left out.
+    """
     found: dict[Point, int] = {}
     for east, north in homes:
         corner = (east // side * side, north // side * side)
@@ -142,7 +112,7 @@ def homes_by_cell(homes: Sequence[Point], side: int, least: int) -> dict[Point, 
 
 
 def counted_squares(
-    schools: Sequence[tuple[str, int, int]], homes: Sequence[Point], least: int
+    schools: Sequence[tuple[str, int, int]], homes: Sequence[Point], least: int,
 ) -> tuple[int, dict[Point, int]]:
     """The side of a square of the map, and how many homes are in each that is not blank."""
     points = [*homes, *((east, north) for _, east, north in schools)]
@@ -150,88 +120,62 @@ def counted_squares(
     return side, homes_by_cell(homes, side, least)
 
 
+def ground_of(corners: Sequence[Point]) -> Ground:
+    """The ground of a map with these points, which is no higher than it is wide."""
+    easts, norths = [it[0] for it in corners], [it[1] for it in corners]
+    high = max(max(norths) - min(norths), LEAST_WIDTH / 2) * 1.1
+    wide = max((max(easts) - min(easts)) * 1.1, high, LEAST_WIDTH)
+    east, north = (min(easts) + max(easts)) / 2, (min(norths) + max(norths)) / 2
+    return Ground(east - wide / 2, north - high / 2, east + wide / 2, north + high / 2, WIDTH)
+
+
 def school_map(
-    name: str,
-    title: str,
-    description: str,
-    schools: Sequence[tuple[str, int, int]],
-    homes: Sequence[Point],
-    least: int,
-) -> tuple[str, int]:
+    name: str, title: str, description: str, schools: Sequence[tuple[str, int, int]],
+    homes: Sequence[Point], least: int,
+) -> tuple[Markup, int]:
     """A map of schools as (code, east, north), with homes counted in squares. Returns the SVG and
-    the side of a square."""
-    points = [*homes, *((east, north) for _, east, north in schools)]
+    the side of a square.
+    """
     side, cells = counted_squares(schools, homes, least)
-    near = width_of(points) / 16
-    figure = new_figure(8, 6.5)
-    axes = figure.add_subplot()
-    top = max(cells.values(), default=least)
+    corners = [(east + more, north + more) for east, north in cells for more in (0, side)]
+    ground = ground_of([*corners, *((east, north) for _, east, north in schools)])
+    top, parts = max(cells.values(), default=least), [ground.grid()]
     for (east, north), it in sorted(cells.items()):
-        shade = 0.25 + 0.75 * math.sqrt(it / top)
-        axes.add_patch(rectangle(east, north, side, shade))
-    draw_schools(axes, schools, near)
+        x, y = ground.at(east, north + side)
+        size = side * ground.scale
+        parts.append(rect(x, y, size, size, f"shade s{shade_of(it, top)}"))
+    parts += marks(ground, schools)
+    parts.append(ground.scale_bar())
     if cells:
-        steps = sorted({min(cells.values()), (min(cells.values()) + top) // 2, top})
-        squares = [rectangle(0, 0, 1, 0.25 + 0.75 * math.sqrt(it / top)) for it in steps]
-        axes.legend(squares, [f"{it:,} homes" for it in steps], ncol=3, **ABOVE)
-    axes.set_aspect("equal", adjustable="datalim")
-    axes.autoscale_view()
-    axes.margins(0.05)
-    axes.set_xlabel("metres east")
-    axes.set_ylabel("metres north")
-    axes.ticklabel_format(style="plain", useOffset=False)
-    tidy(axes)
+        parts += shades(ground, min(cells.values()), top)
     text = description.format(side=f"{side:,}", cells=len(cells))
-    return svg_of(figure, name, title, text), side
+    return svg(name, WIDTH, ground.height + 26, title, text, parts, "map"), side
 
 
-def draw_schools(axes: Axes, schools: Sequence[tuple[str, int, int]], near: float) -> None:
-    """A triangle with its code for each school."""
-    easts, norths = [it[1] for it in schools], [it[2] for it in schools]
-    axes.scatter(
-        easts,
-        norths,
-        marker="^",
-        s=42,
-        color="#b3261e",
-        edgecolor="white",
-        linewidth=0.6,
-        zorder=3,
-    )
-    for code, east, north in schools:
-        # (a code is left of its triangle if another school is close to the right)
-        is_left = any(
-            0 <= other - east < near and abs(up - north) < near / 2 and one != code
-            for one, other, up in schools
-        )
-        axes.annotate(
-            code,
-            (east, north),
-            xytext=(-4, 4) if is_left else (4, 4),
-            ha="right" if is_left else "left",
-            textcoords="offset points",
-            fontsize=8 if len(schools) < 60 else 5,
-            zorder=4,
-            bbox={
-                "boxstyle": "square,pad=0.1",
-                "facecolor": "white",
-                "alpha": 0.75,
-                "linewidth": 0,
-            },
-        )
+def shade_of(homes: int, top: int) -> int:
+    """The shade of a square: the more homes, the darker."""
+    return min(1 + int(SHADES * math.sqrt(homes / top)), SHADES)
 
 
-def rectangle(east: int, north: int, side: int, shade: float) -> Rectangle:
-    """A square of the map: the more homes, the darker."""
-    import matplotlib.patches
+def shades(ground: Ground, least: int, top: int) -> list[str]:
+    """What the shades are, below the map: the least, a middle and the greatest number of homes."""
+    parts, x, y = [], 6.0, ground.height + 8
+    for it in sorted({least, (least + top) // 2, top}):
+        words = f"{it:,} homes"
+        parts += [rect(x, y, 12, 12, f"shade s{shade_of(it, top)}"), label(x + 17, y + 10, words)]
+        x += len(words) * LETTER + 40
+    return parts
 
-    return matplotlib.patches.Rectangle(
-        (east, north),
-        side,
-        side,
-        facecolor="#457b9d",
-        alpha=shade * 0.8,
-        linewidth=0.3,
-        edgecolor="white",
-        zorder=1,
-    )
+
+def marks(ground: Ground, schools: Sequence[tuple[str, int, int]]) -> list[str]:
+    """A triangle with its code for each school. A code is left of its triangle if another school is
+    close to the right.
+    """
+    parts, places = [], {code: ground.at(east, north) for code, east, north in schools}
+    for code, (x, y) in places.items():
+        is_left = any(0 <= right - x < 45 and abs(up - y) < 16 and other != code
+                      for other, (right, up) in places.items())
+        parts += [f'<path class="school" d="M{x:.1f} {y - 6:.1f}l6 10.4h-12z"/>',
+                  label(x + (-8 if is_left else 8), y - 3, code, "halo",
+                        "end" if is_left else "start")]
+    return parts

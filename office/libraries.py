@@ -1,5 +1,5 @@
 """The libraries beside Python's own modules: the Debian package of each, and what is said where one
-is missing. Those that make PDF and charts, and place latitudes and longitudes, bring many packages:
+is missing. Those that make PDF, and place latitudes and longitudes, bring many packages:
 the package admissions-office depends on them, and they are imported only where they are used."""
 
 PACKAGES = {
@@ -11,7 +11,6 @@ PACKAGES = {
     "jinja2": "python3-jinja2",
     "markdown": "python3-markdown",
     "markupsafe": "python3-markupsafe",
-    "matplotlib": "python3-matplotlib",
     "openpyxl": "python3-openpyxl",
     "pikepdf": "python3-pikepdf",
     "pyproj": "python3-pyproj",
@@ -22,7 +21,6 @@ PACKAGES = {
 }
 # what needs each of the large ones
 LARGE = {
-    "matplotlib": "charts need",
     "pikepdf": "a PDF needs",
     "pyproj": "latitudes and longitudes need",
     "weasyprint": "a PDF needs",

@@ -1,5 +1,5 @@
-"""Pages in HTML, by the templates that come with the program. All values are escaped; charts are
-marked as safe where they are made."""
+"""Pages in HTML, by the templates that come with the program. All values are escaped, but for
+pictures, which are marked as safe where they are drawn."""
 from collections.abc import Mapping
 from pathlib import Path
 from typing import Any
@@ -8,9 +8,8 @@ FOLDER = Path(__file__).resolve().parent / "templates"
 
 
 def render(name: str, values: Mapping[str, Any]) -> str:
-    """A page by a template. Of the values `charts` are texts of SVG by their names."""
+    """A page by a template."""
     import jinja2
-    import markupsafe
 
     made = jinja2.Environment(
         loader=jinja2.FileSystemLoader(FOLDER),
@@ -19,6 +18,5 @@ def render(name: str, values: Mapping[str, Any]) -> str:
         trim_blocks=True,
         lstrip_blocks=True,
     )
-    charts = {key: markupsafe.Markup(it) for key, it in values.get("charts", {}).items()}
-    text: str = made.get_template(name).render({**values, "charts": charts})
+    text: str = made.get_template(name).render(values)
     return text

@@ -262,8 +262,7 @@ def dependencies(package: str) -> set[str]:
 
 
 def test_the_package_depends_on_what_a_site_needs() -> None:
-    """Whatever admissions-setup looks for, and rsync for second copies; none of what makes PDF and
-    charts."""
+    """Whatever admissions-setup looks for, and rsync for second copies; none of what makes PDF."""
     found = dependencies("admissions")
     needed = {*setup.NEEDED.values(), *(libraries.PACKAGES[it] for it in setup.MODULES), "rsync"}
     assert needed <= found and "python3-jinja2" in found
@@ -273,8 +272,8 @@ def test_the_package_depends_on_what_a_site_needs() -> None:
 def test_the_office_package_depends_on_the_large_ones() -> None:
     """And on the font of letters."""
     found = dependencies("admissions-office")
-    assert found == {"admissions", "fonts-dejavu-core", "python3-matplotlib", "python3-pikepdf",
-                     "python3-pyproj", "weasyprint"}
+    assert found == {"admissions", "fonts-dejavu-core", "python3-pikepdf", "python3-pyproj",
+                     "weasyprint"}
 
 
 NAMES = ("admissions", "admissions-office")
@@ -290,7 +289,7 @@ def relation_of(name: str, version: str) -> str:
 
 @pytest.fixture(name="archive", scope="module")
 def archive_fixture(tmp_path_factory: pytest.TempPathFactory) -> pathlib.Path:
-    """A folder from which apt installs, with two versions of both packages. That of PDF and charts
+    """A folder from which apt installs, with two versions of both packages. That of PDF
     needs another library in each; and apt has folders of its own beside it."""
     room = tmp_path_factory.mktemp("archive")
     for it in ("packages", "lists/partial", "cache/archives/partial", "etc"):

@@ -7,7 +7,7 @@ import io
 import json
 import pathlib
 import shutil
-from collections.abc import Callable, Iterator
+from collections.abc import Iterator
 from typing import Any
 
 import pytest
@@ -15,7 +15,6 @@ from applications import Browser, Site, office_over
 from conftest import apply, child, do, make, school
 from test_figures import move
 
-from office import libraries
 from office.web import figures
 from office.web.figures import MOST, FiguresStore
 from office.web.store import Store
@@ -121,18 +120,6 @@ def test_the_figures_of_a_round_are_made_and_looked_at(office: Site, browser: Br
     assert all(not 0 < int(it[0]) < 5 for it in rows.values() if it[1] == figures.BESIDE)
     entry = office.parts.history.entries[-1]
     assert entry.what == "made figures" and entry.who == "otto"
-
-
-def test_without_what_draws_charts_the_package_is_named(
-    office: Site, browser: Browser, hide: Callable[[str], None]
-) -> None:
-    """And no figures are kept."""
-    entries = len(office.parts.history.entries)
-    hide("matplotlib")
-    done = made(browser)
-    assert done.status_code == 422, done.text
-    assert libraries.missing_for_officer("matplotlib") in done.text
-    assert [it.what for it in office.parts.history.entries[entries:]] == []
 
 
 def test_the_page_is_shown_as_it_is_published(browser: Browser) -> None:

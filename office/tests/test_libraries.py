@@ -1,5 +1,5 @@
-"""What a machine without the large libraries does: all modules load, and whoever asks for a PDF, a
-chart or a point by latitude and longitude is told which package is missing."""
+"""What a machine without the large libraries does: all modules load, and whoever asks for a PDF or
+a point by latitude and longitude is told which package is missing."""
 import pathlib
 import subprocess
 import sys
@@ -9,7 +9,7 @@ import pytest
 from conftest import ROOT
 from register_files import Refused
 
-from office import apart, charts, letters_apart, libraries, pdf_apart, run
+from office import apart, letters_apart, libraries, pdf_apart, run
 from office.letters_apart import Form, Source
 from office.web import points
 
@@ -41,7 +41,6 @@ def test_each_module_loads_without_them() -> None:
 @pytest.mark.parametrize("module, said", [
     ("weasyprint", f"a PDF needs the Debian package weasyprint, {HOW}"),
     ("pikepdf.models", f"a PDF needs the Debian package python3-pikepdf, {HOW}"),
-    ("matplotlib", f"charts need the Debian package python3-matplotlib, {HOW}"),
     ("pyproj", f"latitudes and longitudes need the Debian package python3-pyproj, {HOW}"),
     ("jinja2", "this needs the Debian package python3-jinja2"),
     ("other", "this needs the Debian package of other"),
@@ -55,16 +54,6 @@ def test_a_command_names_the_package(
 
     assert run.ended("admissions-status", work) == 1
     assert capfd.readouterr().err == f"admissions-status: {said}\n"
-
-
-def test_charts(hide: Callable[[str], None]) -> None:
-    """What draws them is imported where they are drawn."""
-    hide("matplotlib")
-    with pytest.raises(ImportError) as error:
-        charts.new_figure(1, 1)
-    assert libraries.missing_for_officer(error.value.name) == (
-        "tell IT support: charts need the Debian package python3-matplotlib,"
-        f" {HOW}")
 
 
 def test_a_page_as_pdf(monkeypatch: pytest.MonkeyPatch) -> None:

@@ -4,7 +4,7 @@ import pathlib
 import subprocess
 import threading
 import time
-from collections.abc import Callable, Iterator
+from collections.abc import Iterator
 from typing import Any
 
 import openpyxl
@@ -14,7 +14,7 @@ from explained import after_round
 from pages import Page, press
 from register_files import Refused
 
-from office import libraries, trial, turns
+from office import trial, turns
 from office.web import held_again, trials
 from office.web.trials import Run
 
@@ -91,15 +91,6 @@ def test_a_trial_says_who_gains_and_who_loses(office: Site, run: Run) -> None:
     rows = [[it.value for it in row] for row in book["children"].iter_rows(min_row=2)]
     assert [row[:3] for row in rows] == [[3, "Cyd <b>Cole</b>", "gains"],
                                          [4, "Dai O'Dare", "gains"]]
-
-
-def test_without_what_draws_charts_a_trial_says_so(
-    office: Site, hide: Callable[[str], None]
-) -> None:
-    """It ends, and names the package."""
-    hide("matplotlib")
-    run = ended(office, tried(office.browser("jane"), **{"pan-A": "3"}))
-    assert run.found is None and run.refused == libraries.missing_for_officer("matplotlib")
 
 
 def test_fewer_places_and_criteria_are_tried_together(office: Site) -> None:

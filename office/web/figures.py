@@ -11,7 +11,7 @@ from typing import Any
 
 from register_files import Refused
 
-from office import charts, criteria, figure_counts, figures, libraries, texts, turns
+from office import charts, criteria, figure_counts, figures, texts, turns
 from office.figure_counts import LOWER, NONE, Figures, What
 from office.model import Register
 from office.withheld import LEAST, is_small
@@ -25,7 +25,7 @@ SMALL = f"it is from 1 to {LEAST - 1}"
 BESIDE = f"a number from 1 to {LEAST - 1} could be worked out from it"
 PRIVATE = "the last place went to a child who is or was looked after, or by a verified reason"
 BLANK = f"their squares of the map have fewer than {LEAST} homes"
-# (each makes charts, and needs much memory for some time)
+# (each may hold a round again)
 MAKING = turns.Turn(threading.Lock(), "others are having figures made")
 # the fields of the form, as errors name them
 COPY, LAST, LAST_COPY = (
@@ -177,10 +177,7 @@ def made(sources: Sources, flags: dict[int, str]) -> tuple[bytes, dict[str, Any]
     """The page of figures, and what is said beside it."""
     with MAKING:
         found, last = sources.figures()
-        try:
-            page = figures.page(found, last, flags).encode()
-        except ImportError as error:
-            raise Refused(libraries.missing_for_officer(error.name)) from error
+        page = figures.page(found, last, flags).encode()
         tables = figures.tables(found, last, flags)
     about = {
         "round": found.round, "phase": found.phase, "year": found.year, "children": found.children,

@@ -7,7 +7,7 @@ from collections.abc import Iterator, Mapping
 
 from register_files import Refused
 
-from office import book, libraries, trial
+from office import book, trial
 from office.book import Page, Value
 from office.model import Register, School
 from office.rules import LIMITS
@@ -123,8 +123,6 @@ def work(run: Run, asked: Asked) -> None:
             trial.page(held, asked.words, is_drawn))
     except Refused as error:
         run.refused = plain.said(str(error))
-    except ImportError as error:
-        run.refused = libraries.missing_for_officer(error.name)
     except Exception:
         # (a thread that ends so would leave a trial that never ends)
         run.refused = BROKEN
