@@ -9,7 +9,7 @@ import pytest
 from conftest import ROOT
 from register_files import Refused
 
-from office import apart, letters_apart, libraries, pdf_apart, run
+from office import apart, letters_apart, pdf_apart, run
 from office.letters_apart import Form, Source
 from office.web import points
 
@@ -60,8 +60,8 @@ def test_a_page_as_pdf(monkeypatch: pytest.MonkeyPatch) -> None:
     """An officer may print the page meanwhile."""
     hidden = f"import sys; sys.modules['weasyprint'] = None; {apart.BEGIN}"
     monkeypatch.setattr(apart, "BEGIN", hidden)
-    with pytest.raises(Refused, match="^print the page from the browser, or tell whoever maintains"
-                       f" the system: a PDF needs the Debian package weasyprint, {HOW}$"):
+    with pytest.raises(Refused, match="^print the page from the browser, or tell IT support:"
+                       f" a PDF needs the Debian package weasyprint, {HOW}$"):
         pdf_apart.pdf_of("<p>text", "the page")
 
 
