@@ -112,32 +112,27 @@ def odd_days(
         closing, _, end = register.days
         for row, day in given:
             if day > end:
-                yield row, f"a day up to {end}, when the lists close", True
+                yield row, f"waiting lists close on {days.in_words(end)}", True
             elif today and day > today:
-                late = "" if register.is_in_time(day) else (
-                    f"; it is after the closing date too, {closing}")
-                yield row, f"in the future: today is {today}{late}. Is it right?", False
+                late = "" if register.is_in_time(day) else " and after the closing date"
+                yield row, f"in the future{late}: is it right?", False
             elif not register.is_in_time(day):
-                what = ("the first round was held without it" if register.draws else
-                        "it takes no part in the first round")
-                yield row, f"after the closing date, {closing}: {what}", False
+                yield row, ("late: the first round was held" if register.draws else
+                            "late: no part in the first round"), False
             elif (closing - day).days > days.EARLIEST_DAYS:
-                yield row, (f"{days.EARLIEST} before the closing date, {closing}: is the year"
-                            " right?"), False
+                yield row, f"{days.EARLIEST} early: is it right?", False
     elif len(given) >= 5:
         middle = statistics.median_low(day.toordinal() for _, day in given)
         for row, day in given:
             if abs(day.toordinal() - middle) > FAR_DAYS:
-                yield row, ("more than a year from most other days of the file: is the year"
-                            " right?"), False
+                yield row, "far from most days: right year?", False
 
 
 def far_homes(rows: Iterable[One], register: Register) -> Iterator[tuple[One, str]]:
     """Homes that are far from every school: coordinates exchanged, or a digit too many."""
     for row in rows:
         if row.home and is_far(row.home, register):
-            yield row, (f"more than {FAR_METRES // 1000} km from every school: are east and north"
-                        " right?")
+            yield row, f"more than {FAR_METRES // 1000} km from every school"
 
 
 def is_far(home: Home, register: Register) -> bool:

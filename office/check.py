@@ -5,7 +5,7 @@ import dataclasses
 import datetime
 from collections.abc import Callable, Iterable, Mapping
 
-from . import across, fields, header, model, sheet, texts
+from . import across, fields, header, model, sheet
 from .model import Register
 
 ERROR, FIXED, LOOK = "error", "fixed", "look at"
@@ -17,8 +17,9 @@ Add = Callable[..., None]
 
 @dataclasses.dataclass(frozen=True)
 class Finding:
-    """Something in the file: where, the value, what is expected or what it may be, and for FIXED
-    what is written instead.
+    """Something in the file: where, the value, what is wrong or what it may be, and for FIXED what
+    is written instead. Of an error the kind of fault, the item that has it, and what is likely to
+    be meant.
     """
 
     row: int
@@ -27,6 +28,9 @@ class Finding:
     text: str
     kind: str = ERROR
     written: str | None = None
+    fault: str = ""
+    item: str = ""
+    likely: tuple[fields.Likely, ...] = ()
 
     @property
     def change(self) -> tuple[object, ...] | None:
@@ -69,11 +73,13 @@ class Row:
 
 @dataclasses.dataclass
 class Context:
-    """What readers of fields know: the schools of a register, and whether days are day/month/year.
+    """What readers of fields know: the schools of a register, whether days are day/month/year, and
+    the words of flags.
     """
 
     schools: Mapping[str, model.School]
     is_uk: bool
+    words: Mapping[int, str] = dataclasses.field(default_factory=dict)
 
 
 def values_of(row: Row, columns: Iterable[str] = fields.COLUMNS) -> list[str]:
@@ -83,14 +89,15 @@ def values_of(row: Row, columns: Iterable[str] = fields.COLUMNS) -> list[str]:
 
 def read_field(row: Row, column: str, given: str, context: Context, add: Add,
                is_broken: bool = False) -> bool:
-    """Reads a field of a row, and adds what is expected or changed; nothing is expected of one that
-    has an error already. Whether it is right as it is.
+    """Reads a field of a row, and adds what is wrong or changed; nothing is said of one that has an
+    error already. Whether it is right as it is.
     """
     field = fields.read(column, given, context)
     row.given[column], row.fields[column] = given, field.text
     if field.expected:
         if not is_broken:
-            add(row.number, column, given, field.expected)
+            add(row.number, column, given, field.expected, fault=field.fault, item=field.item,
+                likely=field.likely)
         return False
     if field.text != given:
         add(row.number, column, given, "", FIXED, field.text)
@@ -109,25 +116,22 @@ def see_repeated(pairs: Iterable[tuple[Row, Row, bool]], add: Add) -> set[int]:
                 f"it is the same as {first.where}: it is left out", FIXED)
             again.add(row.number)
         else:
-            columns = [it for it in row.fields if row.fields[it] != first.fields[it]]
-            add(row.number, "child", row.given["child"],
-                f"each child once: {first.where} has the same number with another"
-                f" {texts.listed(columns)}")
+            add(row.number, "child", row.given["child"], f"also in {first.where}",
+                fault="number twice")
     return again
 
 
 def see_alike(pairs: Iterable[tuple[Row, across.Person]], add: Add) -> None:
     """Adds the rows that may be of one child with another."""
     for row, other in pairs:
-        name, number = texts.shown(other.fields["name"]), other.fields["child"]
-        add(row.number, "name", row.given["name"],
-            f"is it the same child as {other.where}, {name}, number {number}?", LOOK)
+        add(row.number, "name", row.given["name"], f"the same child as {other.where}?", LOOK)
 
 
 def see_days(rows: Iterable[Row], register: Register | None, add: Add) -> None:
     """Adds the days that are far from the season, or from the others."""
     for row, why, is_error in across.odd_days(rows, register, datetime.date.today()):
-        add(row.number, "day", row.given["day"], why, ERROR if is_error else LOOK)
+        add(row.number, "day", row.given["day"], why, ERROR if is_error else LOOK,
+            fault="too late" if is_error else "")
 
 
 def see_homes(rows: Iterable[Row], register: Register, add: Add) -> None:
@@ -146,9 +150,9 @@ class Check:
         self.columns: dict[str, int] = {}
 
     def add(self, row: int, column: str, value: str, text: str, kind: str = ERROR,
-            written: str | None = None) -> None:
+            written: str | None = None, fault: str = "") -> None:
         """Adds a finding."""
-        self.findings.append(Finding(row, column, value, text, kind, written))
+        self.findings.append(Finding(row, column, value, text, kind, written, fault))
 
     def rows_below(self) -> list[sheet.Row] | None:
         """Reads the header and what is above it, and returns the rows below it; or None where there
@@ -178,7 +182,8 @@ class Check:
         for number, place, text, is_error in self.sheet.problems:
             if number >= first and (place in names or place is None):
                 column = "child" if place is None else names[place]
-                self.add(number, column, "", text, ERROR if is_error else LOOK)
+                self.add(number, column, "", text, ERROR if is_error else LOOK,
+                         fault="formula" if is_error else "")
 
     def cells_of(self, row: sheet.Row) -> list[str] | None:
         """The cells of a row, as many as the header has; or None where it has other ones, or is no
@@ -189,8 +194,7 @@ class Check:
             cells = cells + [""] * (self.width - len(cells))
         if self.is_total(cells):
             first = next(it for it in cells if it.strip())
-            self.add(row.number, "child", first,
-                     "an application (the row looks like a total: delete it)")
+            self.add(row.number, "child", first, "the row looks like a total", fault="total")
             return None
         is_blank = not any(it.strip() for it in cells[self.width:])
         if len(cells) > self.width and is_blank and not self.has_split_name(cells):
@@ -217,19 +221,19 @@ class Check:
 
     def wrong_width(self, number: int, cells: list[str]) -> None:
         """Reports a row with too few or too many fields."""
-        form = f"{self.width} fields, as the header has them; the row has {len(cells)}"
+        form = f"the row has {len(cells)} fields and not {self.width}"
         at, more = self.columns.get("name", 0), len(cells) - self.width
         by_place = {place: column for column, place in self.columns.items()}
         last = by_place[max(by_place)]
         broken = next((place for place, it in enumerate(cells) if "\n" in it), None)
         if self.has_split_name(cells):
             name = self.sheet.separator.join(cells[at : at + 1 + more])
-            self.add(number, "name", name,
-                     f'{form} (quote a name with a comma: "{name.strip()}")')
+            self.add(number, "name", name, "the name has a comma in it", fault="comma in name")
         elif broken is not None:
             column = by_place.get(broken, last)
-            self.add(number, column, cells[broken], f"{form} (is a quote not closed?)")
+            self.add(number, column, cells[broken], "a quote is not closed before it",
+                     fault="width")
         elif more > 0:
-            self.add(number, last, cells[-1], form)
+            self.add(number, last, cells[-1], form, fault="width")
         else:
-            self.add(number, by_place.get(len(cells), last), "", form)
+            self.add(number, by_place.get(len(cells), last), "", form, fault="width")

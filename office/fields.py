@@ -1,8 +1,10 @@
 """The fields of an application as an office writes them: what import takes for each, what was
-changed for that, or what is expected."""
+changed for that, or in at most eight words what is wrong, with what is likely to be meant."""
 import dataclasses
+import datetime
+import decimal
 import re
-from collections.abc import Callable, Collection, Mapping
+from collections.abc import Callable, Collection, Iterator, Mapping
 from typing import Protocol
 
 from . import days, rules, texts
@@ -18,17 +20,40 @@ OMITTED = {name: texts.cell_of(it.omitted) for name, it in rules.COLUMNS.items()
 MOST_DIGITS = 40
 INVISIBLE = "\u200b\u2060\ufeff"
 TRUTH = {"yes": "yes", "y": "yes", "true": "yes", "no": "no", "n": "no", "false": "no"}
-UK_DAYS = "if all days of the file are day/month/year, say so in the list of files"
 # what may stand between the items of a list: none of them can be part of a code or a number
 BETWEEN = re.compile(r"[;,/|\r\n]")
 
 
+# how a spreadsheet counts days: from this one on
+FIRST_SERIAL = datetime.date(1899, 12, 30)
+# so many schools are proposed in place of one that is not known
+MOST_LIKELY = 3
+# and so many flags
+MOST_FLAGS = 5
+
+
+@dataclasses.dataclass(frozen=True)
+class Likely:
+    """What may be meant by a field that cannot be read: what its button says, the whole field with
+    it, and what stands in it for the item that is wrong, where that is likely in all rows.
+    """
+
+    words: str
+    text: str
+    by: str = ""
+
+
 @dataclasses.dataclass(frozen=True)
 class Field:
-    """A field as import takes it, or, where it cannot be read, what is expected."""
+    """A field as import takes it; or, where it cannot be read, what is wrong, the kind of fault and
+    the item of a list that has it, and what is likely to be meant.
+    """
 
     text: str
     expected: str = ""
+    fault: str = ""
+    item: str = ""
+    likely: tuple[Likely, ...] = ()
 
 
 class School(Protocol):
@@ -42,13 +67,18 @@ class School(Protocol):
 
 
 class Context(Protocol):
-    """What readers know: the schools of a register, and whether days are day/month/year."""
+    """What readers know: the schools of a register, whether days are day/month/year, and the words
+    of flags.
+    """
 
     @property
     def schools(self) -> Mapping[str, School]: ...
 
     @property
     def is_uk(self) -> bool: ...
+
+    @property
+    def words(self) -> Mapping[int, str]: ...
 
 
 def columns_up_to(has: Collection[str]) -> list[str]:
@@ -64,69 +94,74 @@ def trimmed(text: str) -> str:
 
 def number(text: str, limit: Limit, what: str) -> Field:
     """A whole number: leading zeros and a fraction of zeros are left out."""
-    span = f"from {limit.least:,} to {limit.most:,}"
-    form = f"{what}: a whole number {span}, in digits without commas"
     given = trimmed(text)
+    if not given:
+        return Field("", f"{what} is missing", "missing")
+    form = f"write a whole number from {limit.least:,} to {limit.most:,}"
     # (the length first: the time of the pattern grows with its square)
     if len(given) > MOST_DIGITS:
-        return Field("", f"{form} (it has {len(given):,} characters)")
+        return Field("", form, "number")
     found = re.fullmatch(r"0*([0-9]+?)(\.0*)?", given, re.ASCII)
-    if not found:
-        return Field("", form + hint_of_number(given))
-    return Field(found[1]) if limit.has(int(found[1])) else Field("", form)
-
-
-def hint_of_number(text: str) -> str:
-    """Why a text may be no number."""
-    if not text:
-        return " (it is empty)"
-    if re.fullmatch(r"[0-9.]+[eE][+-]?[0-9]+", text):
-        return (
-            " (a spreadsheet has shortened it: format the column as a number without decimals)"
-        )
-    if re.fullmatch(r"[0-9]{1,3}(,[0-9]{3})+", text):
-        return f" (if {text.replace(',', '')} is meant, write that)"
-    if re.fullmatch(r"[0-9]+\.[0-9]+", text):
-        return " (it has a fraction: round it yourself)"
-    return ""
+    if found:
+        return Field(found[1]) if limit.has(int(found[1])) else Field("", form, "number")
+    if re.fullmatch(r"[0-9.]+[eE][+-]?[0-9]+", given, re.ASCII):
+        return Field("", "a spreadsheet has shortened it", "shortened")
+    if re.fullmatch(r"[0-9]{1,3}(,[0-9]{3})+", given, re.ASCII):
+        plain = given.replace(",", "")
+        likely = (Likely(plain, plain),) if limit.has(int(plain)) else ()
+        return Field("", f"write {plain}, without commas", "commas", likely=likely)
+    if re.fullmatch(r"[0-9]+\.[0-9]+", given, re.ASCII):
+        return Field("", "write it without a fraction", "fraction")
+    return Field("", form, "number")
 
 
 def child(text: str, _: object) -> Field:
     """The number of a child."""
-    return number(text, LIMITS["child"], "the child's number")
+    return number(text, LIMITS["child"], "the number")
+
+
+def metres(text: str, limit: Limit) -> Field:
+    """A coordinate in metres: that of a fraction is likely to be the nearest one, halves upwards.
+    """
+    found = number(text, limit, "the home")
+    if found.fault != "fraction":
+        return found
+    whole = str(decimal.Decimal(trimmed(text)).to_integral_value(decimal.ROUND_HALF_UP))
+    likely = (Likely(whole, whole),) if limit.has(int(whole)) else ()
+    return dataclasses.replace(found, likely=likely)
 
 
 def coordinate(text: str, _: object) -> Field:
     """A coordinate of the home, in metres to the east."""
-    return number(text, LIMITS["east"], "metres on the map")
+    return metres(text, LIMITS["east"])
 
 
 def north(text: str, _: object) -> Field:
     """The other coordinate, in metres to the north."""
-    return number(text, LIMITS["north"], "metres on the map")
+    return metres(text, LIMITS["north"])
 
 
 def name(text: str, _: object) -> Field:
     """A name, which the register keeps as it is."""
     found, most = trimmed(text), LIMITS["name"].most
     if not found:
-        return Field("", "the child's name (it is empty)")
+        return Field("", "the name is missing", "missing")
     if texts.CONTROL.search(found):
-        hint = "a quote that is not closed takes in the next lines"
-        return Field("", f"a name on one line, without control characters ({hint})")
+        line = texts.CONTROL.sub(" ", found)
+        return Field("", "the name has more than one line", "lines",
+                     likely=(Likely("Write it on one line", line),))
     if "\ufffd" in found:
-        hint = "the replacement character U+FFFD is in it: take it from the form again"
-        return Field("", f"a name whose letters were not lost ({hint})")
+        return Field("", "letters of the name were lost", "lost")
     if len(found.encode()) > most:
-        hint = f"a letter with an accent counts as two; it has {len(found.encode())}"
-        return Field("", f"a name of at most {most} bytes ({hint})")
+        return Field("", f"the name is longer than {most} letters", "long")
     return Field(found)
 
 
 def truth(text: str, _: object) -> Field:
     """Whether a child is or was looked after."""
     found = TRUTH.get(trimmed(text).lower())
-    return Field(found) if found else Field("", "yes or no")
+    likely = (Likely("yes", "yes", "yes"), Likely("no", "no", "no"))
+    return Field(found) if found else Field("", "write yes or no", "truth", trimmed(text), likely)
 
 
 def items(text: str) -> list[str]:
@@ -137,16 +172,33 @@ def items(text: str) -> list[str]:
     return parts
 
 
-def flags(text: str, _: object) -> Field:
-    """The flags of a child, each once."""
-    limit = LIMITS["flag"]
-    found = [number(it, limit, "flag") for it in items(text)]
-    if any(it.expected for it in found):
-        is_day = re.search(r"[0-9]{4}-[0-9]{2}-[0-9]{2}", text)
-        seen = " (a spreadsheet has made a day of it: format the column as text)" if is_day else ""
-        form = f"numbers of flags from {limit.least} to {limit.most}, joined by semicolons"
-        return Field("", form + seen)
-    return Field(";".join(it.text for it in found))
+def replaced(text: str, item: str, by: str) -> str:
+    """A list with another item in the place of one, or with "" without it."""
+    return ";".join(new for it in items(text) if (new := by if it == item else it) or not it)
+
+
+def flags(text: str, context: Context) -> Field:
+    """The flags of a child, each once. One that is written in words is likely to be the flag that
+    has these.
+    """
+    limit, good = LIMITS["flag"], []
+    for it in items(text):
+        found = number(it, limit, "the reason")
+        if not found.expected:
+            good.append(found.text)
+            continue
+        if re.search(r"[0-9]{4}-[0-9]{2}-[0-9]{2}", it):
+            return Field("", "a spreadsheet has made a day of it", "day", it)
+        said = f"reasons are numbers from {limit.least} to {limit.most}"
+        return Field("", said, "flag", it, tuple(flags_like(text, it, context.words)))
+    return Field(";".join(good))
+
+
+def flags_like(text: str, item: str, words: Mapping[int, str]) -> Iterator[Likely]:
+    """The flag whose words are those of an item; where there is none, each that has words."""
+    named = [it for it, said in words.items() if texts.folded(said) == texts.folded(item)]
+    for it in named or list(words)[:MOST_FLAGS]:
+        yield Likely(f"{it} {words[it]}", replaced(text, item, str(it)), str(it) if named else "")
 
 
 def code_of(text: str, known: Mapping[str, School]) -> str | None:
@@ -161,35 +213,44 @@ def code_of(text: str, known: Mapping[str, School]) -> str | None:
 
 def codes(text: str, known: Mapping[str, School], limit: Limit) -> Field:
     """A list of schools, none of them twice."""
-    given = items(text)
-    found = [code_of(it, known) for it in given]
-    count = f"{limit.least} to {limit.most}" if limit.least else f"at most {limit.most}"
-    form = f"{count} school codes ({rules.CODE_IN_WORDS}), joined by semicolons"
-    good: list[str] = []
-    for text_of, one in zip(given, found):
-        if one is None:
-            is_empty = "an item is empty: is a school missing?"
-            said = f"{texts.shown(text_of)} is no code" if text_of else is_empty
-            return Field("", f"{form} ({said})")
+    given, good = items(text), list[str]()
+    for item in given:
+        one = code_of(item, known)
+        if not item:
+            closed = ";".join(filter(None, given))
+            return Field("", "a school is missing between two others", "gap",
+                         likely=(Likely("Close the gap", closed),))
+        if one is None or (known and one not in known):
+            return Field("", f"there is no school {texts.cut(item)}", "school", item,
+                         tuple(schools_like(text, item, known)))
         if one in good:
-            return Field("", f"{form} ({one} is in it twice)")
-        if known and one not in known:
-            said = f"{one} is none of its schools{alike(one, known)}"
-            return Field("", f"{form}, each of the register ({said})")
+            once = ";".join(dict.fromkeys(code_of(it, known) or it for it in given))
+            return Field("", f"{one} is listed twice", "twice", one,
+                         (Likely("Keep the first", once),))
         good.append(one)
-    if not limit.has(len(good)):
-        return Field("", f"{form} (it has {len(good)})")
+    if len(good) < limit.least:
+        return Field("", "no school is listed", "missing")
+    if len(good) > limit.most:
+        return Field("", f"at most {limit.most} schools: it has {len(good)}", "many")
     return Field(";".join(good))
 
 
-def alike(code: str, known: Mapping[str, School]) -> str:
-    """A school's code that differs by one letter alone, as a question."""
-    near = [
-        it for it in known
-        if len(it) == len(code) and sum(a != b for a, b in zip(it, code)) == 1
-        or texts.is_one_slip(code, it)
-    ]
-    return f"; is {near[0]} meant?" if len(near) == 1 else ""
+def schools_like(text: str, item: str, known: Mapping[str, School]) -> Iterator[Likely]:
+    """The schools that may be meant by an item of a list: whose code or name is like it."""
+    near = [it for it in known.values() if is_like(item, it)]
+    for it in near[:MOST_LIKELY]:
+        yield Likely(f"{it.code} {it.name}", replaced(text, item, it.code), it.code)
+
+
+def is_like(item: str, school: School) -> bool:
+    """Whether a school's code differs from a text by one letter alone, or its name nearly does
+    not.
+    """
+    code, name_of, given = item.upper(), texts.folded(school.name), texts.folded(item)
+    if len(code) == len(school.code) and sum(a != b for a, b in zip(code, school.code)) == 1:
+        return True
+    return texts.is_one_slip(code, school.code) or name_of == given or (
+        texts.is_one_slip(name_of, given))
 
 
 def siblings(text: str, context: Context) -> Field:
@@ -202,12 +263,14 @@ def preferences(text: str, context: Context) -> Field:
     return codes(text, context.schools, LIMITS["preferences"])
 
 
-def present(text: str, _: object) -> Field:
+def present(text: str, context: Context) -> Field:
     """The present school, which need not be one of the register."""
     found = trimmed(text).upper()
     if not found or rules.is_code(found):
         return Field(found)
-    return Field("", f"the code of the present school ({rules.CODE_IN_WORDS}), or nothing")
+    item = trimmed(text)
+    return Field("", f"{texts.cut(item)} is no school’s code", "school", item,
+                 tuple(schools_like(item, item, context.schools)))
 
 
 def has_two_readings(text: str) -> bool:
@@ -225,16 +288,36 @@ def day(text: str, context: Context) -> Field:
     readings = sorted(days.readings(found), key=str)
     if len(readings) == 1:
         return Field(readings[0].isoformat())
-    form = f"a day as 2024-10-20, from {days.FIRST} to {days.LAST}"
     if readings:
-        asked = " or ".join(days.in_words(it) for it in readings)
-        return Field("", f"{form} (is it {asked}? {UK_DAYS})")
-    if re.fullmatch(r"[0-9]{5}", found):
-        hint = "it is a spreadsheet's number of a day: format the column as YYYY-MM-DD"
-        return Field("", f"{form} ({hint})")
-    if re.fullmatch(r"[0-9]{1,2}[-/. ]([0-9]{1,2}|[A-Za-z]{3})[-/. ][0-9]{2}", found):
-        return Field("", f"{form} (write the year with four digits)")
-    return Field("", form)
+        # (that of day/month/year first)
+        both = sorted(readings, key=lambda it: it != days.uk_reading(found))
+        asked = f"{both[0].day} {both[0]:%B} or {days.in_words(both[1])}?"
+        return Field("", asked, "two readings", likely=tuple(map(likely_day, both)))
+    return wrong_day(found)
+
+
+def likely_day(it: datetime.date) -> Likely:
+    """A day that may be meant."""
+    return Likely(days.in_words(it), it.isoformat())
+
+
+def wrong_day(text: str) -> Field:
+    """What is wrong with a day of no reading."""
+    if not text:
+        return Field("", "the day is missing", "missing")
+    if re.fullmatch(r"[0-9]{5}", text, re.ASCII):
+        meant = FIRST_SERIAL + datetime.timedelta(int(text))
+        likely = (likely_day(meant),) if days.FIRST <= meant <= days.LAST else ()
+        return Field("", "the day is a spreadsheet’s number", "serial", likely=likely)
+    if re.fullmatch(r"[0-9]{1,2}[-/. ]([0-9]{1,2}|[A-Za-z]{3})[-/. ][0-9]{2}", text, re.ASCII):
+        whole = f"{text[:-2]}20{text[-2:]}"
+        uk = days.uk_reading(whole)
+        meant_by = [uk] if uk else sorted(days.readings(whole))
+        return Field("", "write the year with four digits", "short year",
+                     likely=tuple(map(likely_day, meant_by)))
+    if re.fullmatch(r"[0-9]{1,4}[-/. ][0-9]{1,2}[-/. ][0-9]{1,4}", text, re.ASCII):
+        return Field("", "there is no such day", "no day")
+    return Field("", "write the day as 20 October 2024", "no day")
 
 
 def any_text(text: str, _: object) -> Field:

@@ -305,16 +305,14 @@ def problems_of_row(number: int, row: Any) -> Iterator[Problem]:
     from openpyxl.utils.cell import coordinate_to_tuple
 
     if row.get("hidden") in ("1", "true"):
-        said = "the row is hidden in the spreadsheet, and import takes it all the same"
-        yield number, None, said, False
+        yield number, None, "the row is hidden in the spreadsheet", False
     place = -1
     for cell in row.iterfind(f"{MAIN}c"):
         place = coordinate_to_tuple(cell.get("r"))[1] - 1 if cell.get("r") else place + 1
         is_formula = cell.find(f"{MAIN}f") is not None
         if is_formula and cell.get("t") != "str" and not cell.findtext(f"{MAIN}v"):
             said = f"{cell.get('r') or 'it'} is a formula that was never calculated"
-            expected = f"a value ({said}: open the file in a spreadsheet and save it)"
-            yield number, place, expected, True
+            yield number, place, said, True
 
 
 def problems_of_merge(ref: str, widths: dict[int, int], width: int) -> Iterator[Problem]:
@@ -323,7 +321,7 @@ def problems_of_merge(ref: str, widths: dict[int, int], width: int) -> Iterator[
 
     first, row, last, _ = range_boundaries(ref)
     for place in range(first - 1, min(last, width)) if row in widths else ():
-        yield row, place, f"a value in each cell ({ref} are merged: unmerge them)", True
+        yield row, place, f"cells {ref} are merged", True
 
 
 def csv_bytes(rows: Iterable[Iterable[object]]) -> bytes:

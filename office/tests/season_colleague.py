@@ -5,7 +5,7 @@ pressed then.
 from collections.abc import Callable
 
 from season_hands import NOTHING, Hand, Room, Typed
-from season_trace import begin_draw, corrected, field_of
+from season_trace import begin_draw, corrected, row_of
 
 Pressed = tuple[Hand, str, Typed]
 Case = Callable[[Room], Pressed]
@@ -25,17 +25,19 @@ def answered(hand: Hand, entry: str) -> None:
 def cells(lived: Room) -> Pressed:
     """A cell of the table that both correct."""
     jane, olga = two(lived)
-    name = field_of(jane.get("/applications/"), "4", "north")
-    olga.get("/applications/").press("Save what was changed", {name: "11"})
-    return jane, "Save what was changed", {name: "12"}
+    row = row_of(olga, "4")
+    jane.get(f"/applications/?edit={row}")
+    olga.get(f"/applications/?edit={row}").press("Save what was changed", {f"north-{row}": "11"})
+    return jane, "Save what was changed", {f"north-{row}": "12"}
 
 
 def commit(lived: Room) -> Pressed:
     """What is to be stored, of which a row is corrected meanwhile."""
     jane, olga = two(lived)
     jane.get("/applications/commit/")
-    olga.get("/applications/").press("Save what was changed", {field_of(olga, "4", "north"): "13"})
-    return jane, "Store ", NOTHING
+    row = row_of(olga, "4")
+    olga.get(f"/applications/?edit={row}").press("Save what was changed", {f"north-{row}": "13"})
+    return jane, "Add ", NOTHING
 
 
 def flags(lived: Room) -> Pressed:

@@ -90,15 +90,15 @@ def to_commit(lived: Room) -> None:
 
 
 def store(lived: Room) -> None:
-    """Jane stores what is shown."""
-    lived.person("jane").press("Store ")
+    """Jane adds what is shown."""
+    lived.person("jane").press("Add ")
 
 
 def commit_goes_on(lived: Room) -> None:
     """It is stored, unless it is."""
     jane = lived.person("jane").get("/applications/commit/")
-    if has(jane, "Store "):
-        jane.press("Store ")
+    if has(jane, "Add "):
+        jane.press("Add ")
 
 
 def to_schools(lived: Room) -> None:

@@ -97,29 +97,25 @@ def applications(lived: Room, trace: Trace) -> None:
             "day": "14/10/2024", "preference-1": "OAK", "preference-2": "Fir Hill"})
 
 
-def field_of(hand: Hand, child: str, column: str, at: int = 0) -> str:
-    """The name of the field of a column in the row of a child."""
-    fields = [it for form in hand.page.forms for it in form.values.items()]
-    rows = [name.rpartition("-")[2] for name, values in fields
-            if name.startswith("child-") and values == [child]]
-    return f"{column}-{rows[at]}"
+def row_of(hand: Hand, child: str, at: int = 0) -> str:
+    """The row of a child in the table: of several the one at this place."""
+    hand.get(f"/applications/?show=all&find={child}")
+    return [it.removeprefix("row-") for it in hand.page.by_id if it.startswith("row-")][at]
 
 
 def corrections(lived: Room, _: Trace) -> None:
-    """What is wrong is corrected at its cells, and one row is withdrawn."""
+    """What is wrong is corrected at its cells, and one row is set aside."""
     jane, olga = lived.person("jane"), lived.person("olga")
-    jane.get("/applications/")
-    jane.press("Save what was changed", {
-        field_of(jane, "10", "day"): "2024-10-10", field_of(jane, "12", "preferences"): "ELM;YEW"})
-    olga.get("/applications/")
-    row = field_of(olga, "13", "withdraw", 1).rpartition("-")[2]
-    olga.press("Withdraw", {"withdraw": row})
+    day, listed = f"day-{row_of(jane, '10')}", f"preferences-{row_of(jane, '12')}"
+    jane.get("/applications/").press("Save what was changed", {
+        day: "2024-10-10", listed: "ELM;YEW"})
+    olga.press("Set aside", {"aside": row_of(olga, "13", 1)})
 
 
 def commit(lived: Room, _: Trace) -> None:
     """All are stored."""
     olga = lived.person("olga")
-    olga.get("/applications/commit/").press("Store ")
+    olga.get("/applications/commit/").press("Add ")
 
 
 def begin_draw(hal: Hand, number: int, **given: str) -> None:

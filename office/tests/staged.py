@@ -6,6 +6,7 @@ from typing import Any
 import openpyxl
 from applications import Answer, Browser
 from conftest import HEADER
+from pages import Page, press
 
 COLUMNS = HEADER.split(",")
 # the form of the table
@@ -73,13 +74,14 @@ class Seen(html.parser.HTMLParser):
     def row(self, where: str) -> int:
         """The id of a row by what it is called."""
         return next(it for it in self.rows()
-                    if " ".join([*self.texts[f"row-{it}"].split(), ""]).startswith(f"{where} "))
+                    if f" {where} " in " ".join(["", *self.texts[f"row-{it}"].split(), ""]))
 
     def values(self, row: int) -> Cells:
         """What the fields of a row have."""
         end = f"-{row}"
         return {name.removesuffix(end): it.get("value", "")
-                for (form, name), it in self.fields.items() if form == TABLE and name.endswith(end)}
+                for (form, name), it in self.fields.items()
+                if form == TABLE and name.endswith(end) and name != f"seen{end}"}
 
     def sent(self, **typed: Cells) -> Cells:
         """All that the form of the table sends, with what was typed into rows, by their names."""
@@ -89,9 +91,11 @@ class Seen(html.parser.HTMLParser):
                             for column, text in cells.items()}}
 
     def said(self, row: int, column: str) -> str:
-        """What is said beside a cell, which its field refers to."""
-        found = self.fields[TABLE, f"{column}-{row}"].get("aria-describedby", "")
-        return " ".join(self.texts.get(found, "").split())
+        """What is said beside a cell, which its field, if it is one, refers to."""
+        name = f"found-{row}-{column}"
+        field = self.fields.get((TABLE, f"{column}-{row}"))
+        assert field is None or field.get("aria-describedby", name) == name
+        return " ".join(self.texts.get(name, "").split())
 
     def cells_with(self, attribute: str, value: str) -> list[tuple[int, str]]:
         """The cells whose fields have an attribute."""
@@ -108,9 +112,9 @@ class Seen(html.parser.HTMLParser):
         return self.cells_with("autofocus", "")
 
     def value(self, name: str) -> str:
-        """A field that is of no row."""
-        return next(it.get("value", "") for (form, at), it in self.fields.items()
-                    if at == name and form != TABLE)
+        """A field that is of no row, or "" where there is none."""
+        return next((it.get("value", "") for (form, at), it in self.fields.items()
+                     if at == name and form != TABLE), "")
 
 
 class Screens:
@@ -119,11 +123,15 @@ class Screens:
     def __init__(self, browser: Browser) -> None:
         self.browser = browser
 
-    def see(self, path: str = "") -> Seen:
-        """A page."""
+    def see(self, path: str = "?show=all") -> Seen:
+        """A page; without one all rows."""
         found = self.browser.get(f"/applications/{path}")
         assert found.status_code == 200, found.text
         return Seen(found.text)
+
+    def opened(self) -> Seen:
+        """All rows, of which each cell is a field."""
+        return self.see("?" + "&".join(f"edit={it}" for it in self.see().rows()))
 
     def add(self, *files: tuple[str, bytes], **more: str) -> Answer:
         """Files that are dropped in."""
@@ -140,19 +148,28 @@ class Screens:
         return self.send(row, {**typed, **({} if cells else {"confirm": str(row)})})
 
     def send(self, row: int, given: Cells) -> Answer:
-        """The page with a row is sent, with what was typed and pressed."""
-        seen = self.see(f"?see={row}")
+        """The page with a row is sent, of which each cell is a field, with what was typed and
+        pressed.
+        """
+        seen = self.see(f"?edit={row}")
         return self.browser.post(seen.actions[TABLE], {**seen.sent(), **given})
 
     def withdraw(self, row: int) -> Answer:
-        """A row is withdrawn by its button."""
-        return self.send(row, {"withdraw": str(row)})
+        """A row is set aside by its button."""
+        return self.send(row, {"aside": str(row)})
 
     def bring_back(self, row: int) -> Answer:
-        """A row is brought back by its button."""
+        """A row is put back by its button."""
         version = next(it["value"] for (_, name), it in self.see("withdrawn").fields.items()
                        if name == "version")
         return self.browser.post(f"/applications/row/{row}", {"version": version})
+
+    def press(self, words: str, path: str = "", status: int = 303, **given: str) -> Seen:
+        """A button of a page is pressed; the page that it leads to."""
+        at = f"/applications/{path}"
+        found = press(self.browser, at, Page(self.browser.get(at).text), words, **given)
+        assert found.status_code == status, found.text
+        return Seen(self.browser.get(found.location).text if status == 303 else found.text)
 
     def digest(self) -> str:
         """The digest of what would be stored now."""

@@ -133,7 +133,8 @@ def table_of(
     read = staging_files.rows_of(name, sheet.of_bytes(name, data, wanted, "name one"))
     rows = [Staged(at, 1, name, False, False, it.number, it.cells, it.others, it.notes, OPEN, 1,
                    "jane", "", "jane", "", None) for at, it in enumerate(read.rows, 1)]
-    return staging_check.Checker().table(rows, register)
+    return staging_check.Checker(lambda: dict.fromkeys(range(16), "a reason")).table(
+        rows, register)
 
 
 def found_in(table: staging_check.Table) -> Found:
@@ -363,7 +364,8 @@ def test_too_many_in_a_list() -> None:
         HEADER, "1,Ann,7,7,no,,A;B;C;D;E;F;G,2024-10-20,A;B;C;D;E;F;G;H;I;J;K,",
         "2,Bo,9,9,no,,A;B;C;D;E;F,2024-10-20,A;B;C;D;E;F;G;H;I;J,"]).encode())
     assert found_in(table) == {(2, "siblings", "error"), (2, "preferences", "error")}
-    assert "(it has 7)" in said_in(table) and "(it has 11)" in said_in(table)
+    assert "At most 6 schools: it has 7." in said_in(table)
+    assert "At most 10 schools: it has 11." in said_in(table)
 
 
 def test_what_only_a_workbook_has() -> None:
@@ -422,9 +424,8 @@ def test_a_day_to_come_is_said_to_be(tmp_path: Path) -> None:
     do(tmp_path / "p.db", [school("OAK")])
     data = "\n".join([FEWER, *rows, ""]).encode()
     said = said_in(table_of(data, register_of(tmp_path / "p.db")))
-    today = f"in the future: today is {datetime.date.today()}"
-    assert said.count(f"{today}. Is it right?") == 1
-    assert said.count(f"{today}; it is after the closing date too, 2100-01-15. Is it right?") == 1
+    assert said.splitlines() == ["In the future: is it right?",
+                                 "In the future and after the closing date: is it right?"]
 
 
 def test_no_application_of_a_usual_day_is_looked_at(tmp_path: Path) -> None:
@@ -459,7 +460,7 @@ def test_a_total_is_no_application() -> None:
         FEWER, "7,Total,700,0,no,,,2024-10-20,OAK", "Total,7,2800,0,,,,,",
         ",Grand total:,2800,0,,,,,", ""]).encode())
     assert found_in(table) == {(3, "child", "error"), (4, "child", "error")}
-    assert said_in(table).count("(the row looks like a total: delete it)") == 2
+    assert said_in(table).count("The row looks like a total.") == 2
 
 
 def test_a_workbook_that_no_spreadsheet_wrote(tmp_path: Path) -> None:

@@ -505,11 +505,11 @@ def test_a_correction_that_is_wrong_stays_in_the_form(office: Site) -> None:
                   north="1500001", siblings="A;A", present="not a code", flags=["99"])
     page = Page(found.text)
     assert found.status_code == 400 and sent(office) == []
-    for field, said in (("name", "it is empty"), ("east", "a whole number"),
-                        ("north", "1,500,000"), ("siblings", "A is in it twice"),
-                        ("present", "1 to 8 of A-Z and 0-9")):
+    for field, said in (("name", "is missing"), ("east", "a whole number"),
+                        ("north", "1,500,000"), ("siblings", "A is listed twice"),
+                        ("present", "is no school’s code")):
         assert said in page.error(field), field
-    assert "numbers of flags from 0 to 15" in page.by_id["flags-error"]
+    assert "reasons are numbers from 0 to 15" in page.by_id["flags-error"]
     assert page.fields["east"]["value"] == "x"
     assert Page(jane.get(path).text).fields["east"]["value"] == "x"
     jane.post(path, {"what": "anew"})

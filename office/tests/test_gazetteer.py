@@ -128,9 +128,8 @@ def test_a_property_is_found_first_and_a_postcode_after_it(office: Site, jane: B
     day = points.day_in_words(gazetteer(office).summaries()[0].day)
     assert why == [f"property number 999 is not in the gazetteer of {day}"]
     assert find(office, "x", "AB9 9ZZ") == (
-        'property number "x": expected a property number: a whole number from 1 to'
-        " 999,999,999,999, in digits without commas; postcode AB9 9ZZ is not in the gazetteer of"
-        f" {day}")
+        'property number "x": write a whole number from 1 to 999,999,999,999; postcode AB9 9ZZ is'
+        f" not in the gazetteer of {day}")
     read_in(jane, csv_of("Postcode;Eastings;Northings", "AB3 4EF;432000;212000"), "codes.csv")
     assert [it.kind for it in gazetteer(office).summaries()] == ["property number", "postcode"]
     assert find(office, "", "AB3 4EF") == (432000, 212000)
@@ -174,7 +173,7 @@ def test_property_numbers_are_read_as_spreadsheets_write_them(text: str, number:
 WRONG = [
     ("100023336956,a,AB1 2CD,430000,210000", ""),
     (",a,AB1 2CD,430001,210001", "it has no property number"),
-    ("1.00023E+11,a,AB1 2CD,430001,210001", "its property number cannot be read: expected a"),
+    ("1.00023E+11,a,AB1 2CD,430001,210001", "its property number cannot be read: a"),
     ("2,a,AB1 2CD,,210001", "it has no point"),
     ("3,a,AB1 2CD,430001", "it has no point"),
     ("4,a,AB1 2CD,43 0001,210001", "its point is no number"),

@@ -95,7 +95,8 @@ from office.web.staging_rows import OPEN, Staged
 read = staging_files.rows_of("it", sheet.of_bytes("it", open(given[0], "rb").read(), None, ""))
 rows = [Staged(at, 1, "it", False, False, it.number, it.cells, it.others, it.notes, OPEN, 1, "",
                "", "", "", None) for at, it in enumerate(read.rows, 1)]
-table = staging_check.Checker().table(rows, register(given[1]))
+words = dict.fromkeys(range(16), "a reason")
+table = staging_check.Checker(lambda: words).table(rows, register(given[1]))
 print(json.dumps({
     "found": [[table.rows[at].staged.number, it.column, it.kind, staging_check.said(it)]
               for at, them in table.findings.items() for it in them],
@@ -220,8 +221,8 @@ def test_what_is_wrong_in_a_file(later: Path, stand_in: Path, tmp_path: Path) ->
     given.write_text("".join(",".join(it) + "\n" for it in rows))
     found = found_by(TABLE, later, stand_in, given, path)["found"]
     wrong = [it for it in found if it[2] == "error"]
-    assert wrong[0] == [2, NAME, "error", "expected yes or no"]
-    assert wrong[1][:2] == [3, NAME] and f"expected {len(COLUMNS)} fields" in wrong[1][3]
+    assert wrong[0] == [2, NAME, "error", "Write yes or no."]
+    assert wrong[1][:2] == [3, NAME] and f"fields and not {len(COLUMNS)}." in wrong[1][3]
 
 
 def test_a_trial_repeats_it(later: Path, stand_in: Path, tmp_path: Path) -> None:

@@ -137,8 +137,8 @@ def test_rows_get_their_points_which_are_stored_with_their_sources(
     assert "is at 430000, 210000, 500 metres away" in seen["Eve"]
     assert at(office, "Eve") == ("430300", "210400", "from a.csv")
     table = screens.see()
-    assert "Points of homes (3 to see to)" in table.text
-    assert "500 metres away" in table.said(table.row("row 6 of a.csv"), "east")
+    assert "Homes to locate (3)" in table.text
+    assert table.said(table.row("row 6 of a.csv"), "east") == "The gazetteer has another point."
     assert f"Point from property number 100023336957, {of_day}" in " ".join(table.text.split())
     page = do(jane, staged(office)["Cleo"], "look", property="", postcode="ab3 4ef")
     assert page.said().startswith("row 4 of a.csv: the point is 431000, 211000, from postcode AB3")
@@ -246,7 +246,7 @@ def test_a_workbook_without_points_is_filled(office: Site, jane: Browser) -> Non
     assert at(office, "Dov")[:2] == ("431000", "211000")
     seen = to_see(jane)
     assert "a spreadsheet has shortened it" in seen["Ben"]
-    assert 'postcode "<b>": expected a postcode as SW1A 1AA' in seen["Eve"]
+    assert 'postcode "<b>": write it as SW1A 1AA' in seen["Eve"]
     assert "<b>" not in jane.get(PATH).text
     Screens(jane).add(("b.xlsx", workbook([cells(126, "Finn", 300000000001, "")], head)))
     assert at(office, "Finn")[:2] == ("432000", "210000"), "without another choice"

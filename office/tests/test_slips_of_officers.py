@@ -127,14 +127,14 @@ def test_what_was_typed_into_the_day_is_said_at_the_day(office: Site) -> None:
     done = press(jane, "/applications/add/", again, "Add the child to the table",
                  looked_after="no", day="20/10/2024")
     assert done.status_code == 303 and not [it for it in sent(office) if it["cmd"] == "apply"]
-    table = Page(jane.get("/applications/").text)
-    cell = next(it for it in table.form("Withdraw").values if it.startswith("preferences-"))
+    table = Page(jane.get("/applications/?edit=1").text)
+    cell = next(it for it in table.form("Set aside").values if it.startswith("preferences-"))
     saved = press(jane, "/applications/", table, "Save what was changed", **{cell: "A;B"})
     assert saved.status_code == 303
-    assert 'value="A;B"' in jane.get("/applications/").text
+    assert "A; B" in jane.get("/applications/").text
     assert press(jane, "/applications/", Page(jane.get("/applications/").text),
-                 "Withdraw").status_code == 303
-    assert "0 rows" in jane.get("/applications/").text
+                 "Set aside").status_code == 303
+    assert "All rows are set aside" in jane.get("/applications/").text
     assert 42 not in office.parts.desk.now().children
 
 

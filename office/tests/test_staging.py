@@ -129,11 +129,12 @@ def test_each_fault_is_found_and_corrected_at_its_cell(office: Site, screens: Sc
     assert seen.wrong() == {(where[at], column) for at, column in enumerate(places)}
     assert seen.rows()[:11] == [where[at] for at in range(11)], "rows with errors are first"
     for at, column in enumerate(places):
-        assert seen.said(where[at], column).startswith("expected "), (column, seen.text)
-    assert "is none of its schools" in seen.said(where[6], "siblings")
-    assert "each child once: row 3 of autumn.xlsx" in seen.said(where[10], "child")
+        said = seen.said(where[at], column)
+        assert said and len(said.split()) <= 8, (column, said)
+    assert seen.said(where[6], "siblings") == "There is no school ZZZ."
+    assert seen.said(where[10], "child") == "Also in row 3 of autumn.xlsx."
     page = screens.see("commit/")
-    assert not any(it.startswith("Store") for it in page.buttons) and "11 rows must" in page.text
+    assert not any(it.startswith("Add ") for it in page.buttons) and "11 rows must" in page.text
     assert screens.store().status_code == 409 and not imports(office)
     for at, (place, _) in enumerate(FAULTS):
         found = screens.save(where[at], **{COLUMNS[place]: GOOD[at][place]})
@@ -143,7 +144,7 @@ def test_each_fault_is_found_and_corrected_at_its_cell(office: Site, screens: Sc
         assert seen.focused() == [(where[it], places[it]) for it in range(at + 1, 11)][:1]
     assert not screens.see().wrong()
     page = screens.see("commit/")
-    assert page.buttons.count("Store 12 applications") == 1
+    assert page.buttons.count("Add 12 applications") == 1
     assert "until the closing day families may change theirs" in " ".join(page.text.split())
     assert screens.store().status_code == 303
     assert has(office.parts.desk.now()) == expected(GOOD)
@@ -159,12 +160,13 @@ def test_the_counts_are_those_of_the_rows(office: Site, screens: Screens) -> Non
     screens.add(("a.csv", lines(GOOD)))
     seen = screens.see("commit/")
     text = " ".join(seen.texts["counts"].split())
-    assert text == ("Children 12 Applications 12 In time 11, up to 31 October 2024 Late 1"
-                    " Looked after 2")
+    assert text == "Applications 12 In time 11, up to 31 October 2024 Late 1 Looked after 2"
     assert "OAK Oak School 7" in " ".join(seen.text.split())
     assert "ELM Elm School 5" in " ".join(seen.text.split())
-    assert "11 in time and 1 late" in seen.text
-    assert "to look at Day 1" in " ".join(seen.text.split())
+    assert seen.texts["verdict"] == "12 applications can be added: 11 in time and 1 late."
+    text = " ".join(seen.text.split())
+    # (and two rows have flags, of which this office has no words)
+    assert "to look at Day 1" in text and "to look at Verified reasons 3" in text
     assert office.parts.desk.now().children.keys() == {7}
 
 
@@ -178,9 +180,9 @@ def test_equal_changes_are_summed(screens: Screens) -> None:
     assert '148 × "No" read as "no" (Looked after)' in seen.texts["changes"]
     row = screens.see("?find=206").row("row 7 of a.csv")
     seen = screens.see(f"?row={row}")
-    assert seen.said(row, "preferences") == 'read as "ELM"' and not seen.said(row, "looked_after")
+    assert seen.said(row, "preferences") == 'written "elm"' and not seen.said(row, "looked_after")
     assert len(screens.see().rows()) == 50 and len(screens.see("?page=3").rows()) == 48
-    assert screens.see("?show=errors").rows() == [] and "148 rows" in seen.texts["counts"]
+    assert screens.see("?show=errors").rows() == [] and "All 148" in " ".join(seen.text.split())
     assert screens.see("?find=206").rows() == [row]
     assert screens.see("?find=SURNAME, " + rows[5][1].split()[0]).rows() == [row]
 
@@ -361,7 +363,10 @@ def test_hostile_cells_are_text(office: Site, screens: Screens) -> None:
     screens.add(("<b>.csv", lines(rows)))
     seen = screens.see()
     where = {at: seen.row(f"row {at + 2} of <b>.csv") for at in range(len(HOSTILE))}
-    assert {at: seen.values(it)["name"] for at, it in where.items()} == dict(enumerate(HOSTILE))
+    assert all(it in " ".join(seen.texts[f"row-{where[at]}"].split())
+               for at, it in enumerate(HOSTILE))
+    assert {at: screens.see(f"?edit={it}").values(it)["name"] for at, it in where.items()} == dict(
+        enumerate(HOSTILE))
     for path in ("", "commit/", "duplicates", f"?see={where[0]}"):
         tags = screens.see(path).tags
         # (the frame has one script of the site, and the table two more)
@@ -372,7 +377,7 @@ def test_hostile_cells_are_text(office: Site, screens: Screens) -> None:
     rows = [changed(it, 3, str(5000 + at)) for at, it in enumerate(rows)]
     assert screens.store().status_code == 303
     assert has(office.parts.desk.now()) == expected(rows)
-    assert screens.see("withdrawn").tags.count("script") == 1
+    assert screens.see("withdrawn").tags.count("script") == 3
     assert "<script>alert" not in screens.browser.get("/activity/").text
 
 
@@ -381,9 +386,10 @@ def test_lines_within_a_cell_are_kept(office: Site, screens: Screens) -> None:
     row = changed(changed(GOOD[0], 8, "OAK\nELM"), 1, "Ada\nAbbot")
     screens.add(("a.csv", lines([row])))
     at = screens.see().row("row 2 of a.csv")
-    assert screens.see().values(at)["preferences"] == "OAK;ELM"
+    assert screens.see(f"?edit={at}").values(at)["preferences"] == "OAK;ELM"
     assert screens.see().wrong() == {(at, "name")}
-    screens.save(at)
+    assert screens.see().values(at) == {"name": "Ada Abbot"}
+    screens.send(at, {"meant": f"name-{at}=Ada Abbot"})
     assert not screens.see().wrong()
     screens.store()
     assert has(office.parts.desk.now()) == expected([changed(GOOD[0], 8, "OAK;ELM")])
@@ -402,9 +408,10 @@ def test_a_row_of_another_form_is_kept_and_confirmed(office: Site, screens: Scre
     rows = [seen.row(f"row {at} of a.csv") for at in range(2, 7)]
     assert seen.wrong() == {(rows[0], "name"), (rows[1], "preferences"), (rows[2], "present"),
                             (rows[3], "child")}
-    assert seen.values(rows[0])["name"] == "Abel, Ann" and seen.values(rows[0])["east"] == "4150"
-    assert 'what is too much: "x", "y"' in seen.said(rows[2], "present")
-    assert "the row looks like a total" in seen.said(rows[3], "child")
+    assert seen.values(rows[0]) == {"name": "Abel, Ann"} and "4150" in seen.text
+    assert seen.said(rows[2], "present") == (
+        'The row has 12 fields and not 10. Left over: "x", "y".')
+    assert seen.said(rows[3], "child") == "The row looks like a total."
     assert "are these the right letters? Siân (1 row)" in " ".join(seen.text.split())
     assert seen.said(rows[4], "name") == ""
     screens.save(rows[0])
@@ -421,8 +428,8 @@ def test_a_row_of_another_form_is_kept_and_confirmed(office: Site, screens: Scre
 
 
 def test_what_is_said_of_a_cell_fits_the_register(tmp_path: pathlib.Path) -> None:
-    """A code that lacks one letter is asked about; and a late day is said to be of no round to come
-    once the round was held.
+    """For a code that lacks one letter the school is proposed; and a late day is said to be of no
+    round to come once the round was held.
     """
     held = {"cmd": "round", "draw": 1, "day": "2025-03-03", "lots": [1]}
     with office_over(tmp_path, [school("OAK"), school("ELMS", east=500), child(7, east=9000),
@@ -431,9 +438,9 @@ def test_what_is_said_of_a_cell_fits_the_register(tmp_path: pathlib.Path) -> Non
         screens.add(("a.csv", lines([changed(changed(GOOD[3], 8, "ELM"), 7, "2024-11-05")])))
         seen = screens.see()
         row = seen.row("row 2 of a.csv")
-        assert "ELM is none of its schools; is ELMS meant?" in seen.said(row, "preferences")
-        assert seen.said(row, "day") == (
-            "after the closing date, 2024-10-31: the first round was held without it")
+        assert seen.said(row, "preferences") == "There is no school ELM."
+        assert {"Replace ELM by ELMS", "ELMS ELMS School"} <= set(seen.buttons)
+        assert seen.said(row, "day") == "Late: the first round was held."
 
 
 def test_a_letter_that_was_lost_is_looked_for(screens: Screens) -> None:
@@ -447,10 +454,10 @@ def test_a_letter_that_was_lost_is_looked_for(screens: Screens) -> None:
     seen = screens.see()
     said = {it: seen.said(seen.row(f"row {at + 2} of a.csv"), "name")
             for at, it in enumerate(names)}
-    lost = "is the question mark a letter that was lost? Take the name from the form again"
+    lost = "Was a letter lost at the question mark?"
     assert said == {**dict.fromkeys(names, ""), **dict.fromkeys(names[:3], lost)}
     assert "are these the right letters? Chloë and Zoë (3 rows)" in " ".join(seen.text.split())
-    assert len(screens.see("?show=findings").rows()) == 3
+    assert len(screens.see("?show=check").rows()) == 3
 
 
 def test_what_only_a_workbook_has(screens: Screens) -> None:
@@ -466,27 +473,22 @@ def test_what_only_a_workbook_has(screens: Screens) -> None:
     screens.add(("w.xlsx", data))
     seen = screens.see()
     row = seen.row("row 2 of w.xlsx")
-    assert seen.said(row, "east") == (
-        "expected a value (C2 is a formula that was never calculated: open the file in a"
-        " spreadsheet and save it)")
+    assert seen.said(row, "east") == "C2 is a formula that was never calculated."
     screens.save(row, east="5")
     assert not screens.see().wrong()
 
 
 def test_days_of_a_file_in_one_reading(screens: Screens) -> None:
-    """Asked for, and said once for the file."""
+    """Asked for, and said of a file when it is added: then nothing is in doubt."""
     row = changed(GOOD[0], 7, "03/04/2024")
     screens.add(("a.csv", lines([row])))
     at = screens.see().row("row 2 of a.csv")
-    said = screens.see().said(at, "day")
-    assert "is it 4 March 2024 or 3 April 2024?" in said
-    assert "say so in the list of files" in said
-    assert screens.browser.post("/applications/file/1", {"what": "uk"}).status_code == 303
-    assert screens.see().said(at, "day").startswith('read as "2024-04-03"')
+    seen = screens.see()
+    assert seen.said(at, "day") == "3 April or 4 March 2024?"
+    assert seen.buttons.index("3 April 2024") < seen.buttons.index("4 March 2024")
     screens.withdraw(at)
     screens.add(("b.csv", lines([changed(row, 0, "102")])), uk="yes")
-    assert screens.see().said(screens.see().row("row 2 of b.csv"), "day").startswith(
-        'read as "2024-04-03"')
+    assert not screens.see().wrong() and "3 April 2024" in screens.see().text
 
 
 def test_other_columns_are_kept_beside_the_rows(office: Site, screens: Screens) -> None:
@@ -507,45 +509,46 @@ def test_a_row_is_withdrawn_and_brought_back(office: Site, screens: Screens) -> 
     row = screens.see().row("row 3 of a.csv")
     assert screens.withdraw(row).status_code == 303
     assert screens.see().rows() == [it for it in (1, 2, 3) if it != row]
-    assert "Withdrawn 1 row" in " ".join(screens.see("commit/").texts["left-out"].split())
+    assert "Set aside 1 row" in " ".join(screens.see("commit/").texts["left-out"].split())
     assert screens.bring_back(row).status_code == 303
     assert states(office) == {OPEN: 3}
-    page = Page(screens.browser.get("/applications/").text)
-    press(screens.browser, "", page, "Withdraw 3 rows of a.csv")
+    refused = screens.browser.post("/applications/mend", {"mend": "0" * 64})
+    assert refused.status_code == 409 and states(office) == {OPEN: 3}
+    screens.press("Set 3 rows of a.csv aside")
     assert states(office) == {WITHDRAWN: 3}
-    page = Page(screens.browser.get("/applications/withdrawn").text)
-    press(screens.browser, "/applications/withdrawn", page, "Bring back 3 rows")
+    screens.press("Put back 3 rows", "withdrawn")
     assert states(office) == {OPEN: 3}
     told = [(it.what, it.about) for it in office.parts.history.entries][-3:]
     assert told == [("brought back applications", {"rows": "3 of a.csv"}),
-                    ("withdrew applications", {"rows": "2 to 4 of a.csv"}),
+                    ("corrected applications", {
+                        "done": "3 rows set aside", "rows": "2 to 4 of a.csv"}),
                     ("brought back applications", {"rows": "2 to 4 of a.csv"})]
 
 
-def test_rows_that_a_colleague_has_changed_are_not_withdrawn_by_an_older_page(
+def test_rows_that_a_colleague_has_changed_are_not_set_aside_by_an_older_page(
     office: Site, screens: Screens,
 ) -> None:
     """As many as were shown, and yet not the same: what somebody has corrected since stays. Nor are
-    other rows brought back than those that were shown.
+    other rows put back than those that were shown.
     """
     screens.add(("a.csv", lines(GOOD[:3])))
     older = Page(screens.browser.get("/applications/").text)
     row = screens.see().row("row 3 of a.csv")
     staging = office.app.extensions["staging"].staging
     staging.save("bo", row, 1, {"name": "Corrected By Bo"})
-    late = press(screens.browser, "", older, "Withdraw 3 rows of a.csv")
+    late = press(screens.browser, "", older, "Set 3 rows of a.csv aside")
     assert late.status_code == 409 and states(office) == {OPEN: 3}
     assert Page(late.text).said() == (
-        "Nothing was changed: somebody has changed rows of this file meanwhile.")
+        "Nothing was changed: the table has changed since it was shown.")
     screens.withdraw(row)
     other = screens.see().row("row 2 of a.csv")
     withdrawn = Page(screens.browser.get("/applications/withdrawn").text)
     screens.bring_back(row)
     screens.withdraw(other)
-    late = press(screens.browser, "/applications/withdrawn", withdrawn, "Bring back 1 row")
+    late = press(screens.browser, "/applications/withdrawn", withdrawn, "Put back 1 row")
     assert late.status_code == 409 and states(office) == {OPEN: 2, WITHDRAWN: 1}
     assert Page(late.text).said() == (
-        "Nothing was changed: the withdrawn rows are others meanwhile.")
+        "Nothing was changed: other rows are set aside meanwhile.")
 
 
 def test_half_of_a_point_is_not_filled_by_that_of_another_row(
@@ -604,16 +607,15 @@ def test_rows_that_the_register_has(office: Site, screens: Screens) -> None:
                                  GOOD[3]])))
     seen = screens.see()
     row = seen.row("row 3 of b.csv")
-    assert 'the register has for child 102, "1100"' in seen.said(row, "east")
+    assert seen.said(row, "east") == 'The register has "1100".'
     page = screens.see("commit/")
     text = " ".join(page.text.split())
     assert "row 3 of b.csv 102 East 999 1100" in text
     assert "row 4 of b.csv 103 Preferences ELM OAK" in text
-    assert "1 row with equal values" in text and "2 rows must be corrected or withdrawn" in text
+    assert "1 row with equal values" in text and "2 rows must be corrected or set aside" in text
     assert screens.store().status_code == 409 and len(imports(office)) == 1
-    assert screens.browser.post("/applications/commit/wrong",
-                                {"digest": page.value("digest")}).status_code == 303
-    assert "Store 1 application" in screens.see("commit/").buttons
+    screens.press("Set 2 rows aside for now", "commit/")
+    assert "Add 1 application" in screens.see("commit/").buttons
     assert screens.store().status_code == 303
     assert has(office.parts.desk.now()) == expected(GOOD[:4])
     sent = imports(office)[1]["import"].splitlines()[1:]
@@ -648,7 +650,7 @@ def test_a_row_that_the_register_refuses_is_named(
     assert "is no whole number" in seen.texts["answer"] and "Ben Brook" in seen.text
     assert office.parts.desk.now().children.keys() == {7} and states(office) == {OPEN: 3}
     row = screens.see().row("row 3 of a.csv")
-    assert "the register does not take it" in screens.see().texts[f"row-{row}"]
+    assert "The register does not take it" in screens.see().texts[f"row-{row}"]
     monkeypatch.setattr(sender, "imported", real)
     assert screens.store().status_code == 409
     screens.save(row)
@@ -690,7 +692,7 @@ def test_a_plan_that_came_meanwhile_is_seen(office: Site, screens: Screens) -> N
     bo = Person("bo", "officer")
     assert office.parts.desk.send(bo, there).is_done
     screens.add(("a.csv", lines(GOOD)))
-    digest = screens.digest()
+    digest = office.app.extensions["staging"].committing.found(office.parts.desk.now()).digest
     plan = {"cmd": "name_plan", "child": int(number), "school": "OAK"}
     assert office.parts.desk.send(bo, plan).is_done
     found = screens.store(digest)
@@ -735,7 +737,7 @@ def test_what_has_changed_is_not_stored(office: Site, screens: Screens) -> None:
         assert change().status_code in (200, 303)
         found = screens.store(digest)
         assert found.status_code == 409 and staging_commit.CHANGED in Seen(found.text).text
-        assert "Store " in " ".join(Seen(found.text).buttons), "the new counts are shown"
+        assert "Add " in " ".join(Seen(found.text).buttons), "the new counts are shown"
     assert not imports(office)
     digest = screens.digest()
     assert screens.store(digest).status_code == 303 and screens.store(digest).status_code == 409
@@ -795,7 +797,7 @@ def test_a_crash_while_it_is_stored(
                 assert len(screens.see().rows()) == 12 and states(office) == {OPEN: 12}
                 assert screens.store().status_code == 303
             else:
-                assert screens.see().rows() == [] and "nothing to store" in screens.see(
+                assert screens.see().rows() == [] and "nothing to add" in screens.see(
                     "commit/").text
             assert states(office) == {COMMITTED: 12} and len(imports(office)) == 1
             entry = next(it.number for it in office.parts.history.entries if "import" in it.about)
@@ -868,7 +870,8 @@ def test_a_closed_register_keeps_the_table(office: Site, screens: Screens) -> No
     digest = screens.digest()
     office.parts.desk.closed = lambda: "Closed for draw 5 by hal since 10:02."
     seen = screens.see("commit/")
-    assert "Closed for draw 5" in seen.text and not any("Store" in it for it in seen.buttons)
+    assert "Closed for draw 5" in seen.text
+    assert not any(it.startswith("Add ") for it in seen.buttons)
     found = screens.store(digest)
     assert found.status_code == 409 and "Closed for draw 5" in Seen(found.text).texts["answer"]
     assert states(office) == {OPEN: 2} and not imports(office)
@@ -892,7 +895,7 @@ def test_all_rows_of_a_page_are_saved_at_once(office: Site, screens: Screens) ->
     """Those that were changed and no others; one that is wrong stays, with the error at its cell.
     """
     screens.add(("a.csv", lines(GOOD[:5])))
-    seen = screens.see()
+    seen = screens.opened()
     rows = seen.rows()
     typed = seen.sent(**{"row 2 of a.csv": {"name": "Ada Abbott", "east": "1001"},
                          "row 4 of a.csv": {"preferences": "OAK;OAK"},
@@ -933,13 +936,13 @@ def test_a_row_is_withdrawn_and_the_others_keep_what_was_typed(
     screens.add(("a.csv", "\n".join([
         ",".join(COLUMNS), ",".join(GOOD[0][:9]) + ",", ",".join(GOOD[1]),
         "5,Abel, Ann,4150,3620,no,,,2024-10-20,OAK,"]).encode()))
-    seen = screens.see()
+    seen = screens.opened()
     first, second, split = (seen.row(f"row {it} of a.csv") for it in (2, 3, 4))
     given = seen.sent(**{"row 2 of a.csv": {"present": "PRIM9"}, "row 3 of a.csv": {"north": "7"}})
-    found = screens.browser.post("/applications/", {**given, "withdraw": str(second)})
+    found = screens.browser.post("/applications/", {**given, "aside": str(second)})
     assert found.status_code == 303
     said = Seen(screens.browser.get(found.location).text).texts["answer"]
-    assert "Saved: row 2 of a.csv" in said and "Withdrawn: row 3 of a.csv" in said
+    assert "Saved: row 2 of a.csv" in said and "Set aside: row 3 of a.csv" in said
     staging = office.app.extensions["staging"].staging
     assert staging.row(first).cells["present"] == "PRIM9"
     gone = staging.row(second)
@@ -954,9 +957,9 @@ def test_two_officers_keep_what_each_typed(office: Site, screens: Screens) -> No
     beside it; where the row is gone, what was typed is shown.
     """
     screens.add(("a.csv", lines(GOOD[:3])))
-    seen, bo = screens.see(), Screens(office.browser("bo"))
+    seen, bo = screens.opened(), Screens(office.browser("bo"))
     rows = seen.rows()
-    bo.browser.post("/applications/", bo.see().sent(**{
+    bo.browser.post("/applications/", bo.opened().sent(**{
         "row 2 of a.csv": {"name": "Ada Abbott", "east": "1"},
         "row 3 of a.csv": {"name": "Ben Brooke"}}))
     late = screens.browser.post("/applications/", seen.sent(**{
@@ -986,7 +989,7 @@ def test_a_page_that_did_not_arrive_whole_changes_nothing(
 ) -> None:
     """What was seen of a row is not as the page made it, or a field is missing."""
     screens.add(("a.csv", lines(GOOD[:1])))
-    given = screens.see().sent(**{"row 2 of a.csv": {"name": "Else"}})
+    given = screens.opened().sent(**{"row 2 of a.csv": {"name": "Else"}})
     for bad in ({**given, "seen-1": seen}, {it: given[it] for it in given if it != "name-1"}):
         found = screens.browser.post("/applications/", bad)
         assert found.status_code == 409 and "did not arrive whole" in found.text
@@ -997,7 +1000,7 @@ def test_without_a_history_nothing_is_changed(office: Site, screens: Screens) ->
     """A full disk: what was typed is shown again."""
     screens.add(("a.csv", lines(GOOD[:1])))
     row = screens.see().rows()[0]
-    given = screens.see().sent(**{"row 2 of a.csv": {"name": "Ada Other"}})
+    given = screens.opened().sent(**{"row 2 of a.csv": {"name": "Ada Other"}})
     office.parts.history.fd, kept = -1, office.parts.history.fd
     found = screens.browser.post("/applications/", given)
     assert found.status_code == 409 and Seen(found.text).values(row)["name"] == "Ada Other"
@@ -1057,7 +1060,7 @@ def test_a_child_is_added_by_a_form(office: Site, screens: Screens) -> None:
     assert page.value("name") == "Mo Marsh" and page.value("preference-1") == "ASH"
     day = page.fields["child-form", "day"]
     assert (day["aria-invalid"], day["aria-describedby"]) == ("true", "about-day")
-    assert "autofocus" in day and "is none of its schools" in page.texts["about-preferences"]
+    assert "autofocus" in day and "There is no school ASH." in page.texts["about-preferences"]
     assert states(office) == {OPEN: 1}
     done = screens.browser.post("/applications/add/", given)
     assert done.status_code == 303
@@ -1070,9 +1073,9 @@ def test_a_child_is_added_by_a_form(office: Site, screens: Screens) -> None:
                    ).status_code == 303
     own = bo.post("/applications/add/", {**given, "name": "Oz Orr", "east": "1900", "child": "102",
                                          "proposed": "104"})
-    assert own.status_code == 409 and "each child once" in own.text
-    assert screens.see().row("form 2") and "103" in screens.see().values(
-        screens.see().row("form 2"))["child"]
+    assert own.status_code == 409 and "Also in form 1." in own.text
+    assert "103" in [it["value"] for (_, name), it in screens.opened().fields.items()
+                     if name == f"child-{screens.see().row('form 2')}"]
     screens.store()
     assert has(office.parts.desk.now()) == expected([
         GOOD[0], ["102", "Mo Marsh", "10", "20", "no", "2;5", "OAK", "2024-10-20", "ELM;OAK",
@@ -1108,11 +1111,11 @@ def test_the_next_free_number() -> None:
 def test_each_role_sees_what_is_its_own(office: Site, screens: Screens) -> None:
     """Rows of applications have more than the register: they are for who records alone."""
     screens.add(("a.csv", lines(GOOD[:1])))
-    posts = ("", "files", "row/1", "file/1", "withdrawn", "duplicates", "add/", "commit/",
-             "commit/wrong")
+    posts = ("", "files", "row/1", "file/1", "file/1/replace", "mend", "undo", "withdrawn",
+             "duplicates", "add/", "commit/")
     for role in ("reader", "supervisor", "administrator", "school-OAK"):
         other = office.browser(f"kim-{role.lower()}", role)
-        for path in ("", "commit/", "duplicates", "withdrawn", "add/"):
+        for path in ("", "commit/", "duplicates", "withdrawn", "add/", "file/1"):
             assert other.get(f"/applications/{path}").status_code == 403, (role, path)
         for path in posts:
             assert other.post(f"/applications/{path}", {"what": "save"}).status_code == 403, path
@@ -1130,9 +1133,9 @@ def test_one_row_is_checked_where_one_was_changed(
     read: list[int] = []
     real = staging_check.checked
 
-    def counted(it: Any, register: Any) -> Any:
+    def counted(it: Any, *beside: Any) -> Any:
         read.append(it.id)
-        return real(it, register)
+        return real(it, *beside)
 
     monkeypatch.setattr(staging_check, "checked", counted)
     rows = screens.see().rows()
@@ -1160,12 +1163,10 @@ def test_the_table_has_a_limit(office: Site, screens: Screens) -> None:
     page = screens.see("commit/")
     assert "a register has at most 2,000 children: it has 1, and 2,000 are new" in page.text
     assert screens.store(page.texts.get("", "x")).status_code == 409
-    table = Page(screens.browser.get("/applications/").text)
-    press(screens.browser, "", table, "Withdraw 2,000 rows of a.csv")
+    screens.press("Set 2,000 rows of a.csv aside")
     screens.add(("b.csv", rows(4001, 1)))
-    table = Page(screens.browser.get("/applications/withdrawn").text)
-    refused = press(screens.browser, "/applications/withdrawn", table, "Bring back 2,000 rows")
-    assert refused.status_code == 409 and states(office) == {OPEN: 1, WITHDRAWN: 2000}
+    screens.press("Put back 2,000 rows", "withdrawn", 409)
+    assert states(office) == {OPEN: 1, WITHDRAWN: 2000}
 
 
 def test_a_store_of_the_first_version_is_taken_on(tmp_path: pathlib.Path) -> None:

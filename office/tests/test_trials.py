@@ -116,8 +116,8 @@ def test_a_trial_is_on_paper(office: Site, run: Run, tmp_path: pathlib.Path) -> 
 
 
 @pytest.mark.parametrize("given, field, said", (
-    ({"pan-A": "many"}, "pan-A", "the admission number: a whole number"),
-    ({"pan-B": "-1"}, "pan-B", "the admission number: a whole number"),
+    ({"pan-A": "many"}, "pan-A", "write a whole number"),
+    ({"pan-B": "-1"}, "pan-B", "write a whole number"),
     ({"criteria-A": "=cmd"}, "criteria-A", "is no criterion"),
     ({"criteria-A": "sibling;" * 20}, "criteria-A", "criteria")))
 def test_what_cannot_be_tried_is_said_at_its_field(

@@ -162,7 +162,7 @@ def test_two_at_once_are_two_seasons(tmp_path: pathlib.Path) -> None:
         for it in (one, two):
             officer, _ = it.signed_in(ROLES[1])
             page = officer.get("/applications/")
-            assert "online-portal.csv" in page and "CASLE is none of its schools" in page
+            assert "online-portal.csv" in page and "There is no school CASLE." in page
         name, password = one.people[ROLES[1]]
         with pytest.raises(urllib.error.HTTPError, match="403"):
             Browser(two.address).sign_in(name, password)

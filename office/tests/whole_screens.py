@@ -33,7 +33,8 @@ SCREENS = {
         "/", "/schools/", "/schools/A", "/schools/A/waiting", "/schools/A/intake?words=a",
         "/schools/A/moves", "/schools/A/offer", "/schools/A/raise", "/schools/A/raise?pan=900",
         "/schools/A/raise?pan=x", "/schools/new/", "/flags/", "/applications/",
-        "/applications/?show=errors", "/applications/?see=1&row=2", "/applications/add/",
+        "/applications/?show=errors", "/applications/?edit=1&row=2", "/applications/add/",
+        "/applications/?show=aside", "/applications/?kind=school+ash",
         "/applications/duplicates", "/applications/withdrawn", "/applications/commit/",
         "/find", "/find?q=child", "/find?q=nobody", "/children/11",
         "/children/41", "/children/11/accept", "/children/11/decline", "/children/11/remind",
@@ -77,10 +78,10 @@ def fill(office: Site) -> None:
         given = {"name": name, "east": "1", "north": "1", "looked_after": "no", "day": day,
                  "preference-1": schools}
         assert hal.post("/applications/add/", given).status_code == 303
-    page = hal.get("/applications/")
+    page = hal.get("/applications/?edit=1&edit=2&edit=3")
     cells = dict(re.findall(r'name="([a-z_]+-\d+|seen-\d+)" value="([^"]*)"', page.text))
     cells = {name: text.replace("&#34;", '"') for name, text in cells.items()}
-    assert hal.post("/applications/", {**cells, "preferences-2": "ASH", "withdraw": "3"}
+    assert hal.post("/applications/", {**cells, "preferences-2": "ASH", "aside": "3"}
                     ).status_code == 303
     hal.post("/flags/", {"flag-2": "medical need", "seen": "{}"})
     hal.post("/schools/new/", {"school": "ASH", "name": "Ash School", "pan": "x"})

@@ -15,10 +15,10 @@ from . import authority, flags, frame, guard, numbers, pictures, uploads, wordin
 from .guard import PUBLIC, needs
 from .parts import Config, Parts
 from .screens import (
-    activity, answers, applications, applications_add, applications_commit, child, copies, draws,
-    figures, find, gazetteer, health, help, letter_addresses, letter_sender, letter_templates,
-    letters, lists, lots, new_schools, notes, notices, people, points, preferences, register,
-    restores, schools, season, season_end, signing, subject, trials, why,
+    activity, answers, applications, applications_add, applications_commit, applications_files,
+    child, copies, draws, figures, find, gazetteer, health, help, letter_addresses, letter_sender,
+    letter_templates, letters, lists, lots, new_schools, notes, notices, people, points,
+    preferences, register, restores, schools, season, season_end, signing, subject, trials, why,
 )
 from .screens import answers_of
 from .screens import flags as flag_screen
@@ -26,10 +26,10 @@ from .screens import flags as flag_screen
 HERE = pathlib.Path(__file__).resolve().parent
 SCREENS = (
     signing, season, find, new_schools, schools, flag_screen, applications, applications_add,
-    applications_commit, points, gazetteer, child, preferences, why, notes, subject, answers,
-    notices, letters, letter_templates, letter_sender, letter_addresses, draws, trials, lots, lists,
-    figures, copies, restores, people, activity, season_end, register, help, answers_of,
-    health,
+    applications_files, applications_commit, points, gazetteer, child, preferences, why, notes,
+    subject, answers, notices, letters, letter_templates, letter_sender, letter_addresses, draws,
+    trials, lots, lists, figures, copies, restores, people, activity, season_end, register, help,
+    answers_of, health,
 )
 # the largest body: an Excel file
 MOST_BYTES = 16 << 20

@@ -21,6 +21,7 @@ class Context:
 
     schools: Mapping[str, School]
     is_uk: bool = True
+    words: Mapping[int, str] = dataclasses.field(default_factory=dict)
 
 
 def cells_of(child: Child) -> Cells:

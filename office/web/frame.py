@@ -42,11 +42,11 @@ GROUPS: dict[str, tuple[Screen, ...]] = {
     "Home": (Screen("season.show", "Home", guard.SIGNED_IN, ("season",)),),
     "Applications": (
         Screen("applications.show", "Applications", RECORD, (
-            "applications", "applications_add")),
-        Screen("points.show", "Points of homes", RECORD, ("points", "gazetteer")),
+            "applications", "applications_add", "applications_files")),
+        Screen("points.show", "Homes to locate", RECORD, ("points", "gazetteer")),
         Screen("applications.duplicates", "Possible duplicates", RECORD),
-        Screen("applications.withdrawn", "Withdrawn rows", RECORD),
-        Screen("applications_commit.show", "Store in the register", RECORD, (
+        Screen("applications.withdrawn", "Set aside", RECORD),
+        Screen("applications_commit.show", "Add to the register", RECORD, (
             "applications_commit",))),
     "Children": (
         Screen("find.show", "Find", READ, (

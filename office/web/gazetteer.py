@@ -68,14 +68,14 @@ class Lookup:
         """The point of a property number, or why there is none."""
         read = points.property_of(text)
         if read.expected:
-            return f"property number {texts.shown(text)}: expected {read.expected}"
+            return f"property number {texts.shown(text)}: {read.expected}"
         return self.one(PROPERTY, PROPERTY, [(int(read.text), read.text)])
 
     def postcode(self, text: str) -> Found | str:
         """The point of a postcode, or why there is none."""
         codes = points.postcodes_of(text)
         if not codes:
-            return f"postcode {texts.shown(text)}: expected a postcode as SW1A 1AA"
+            return f"postcode {texts.shown(text)}: write it as SW1A 1AA"
         asked = [(it, points.spaced(it)) for it in codes]
         found = self.one(POSTCODE, POSTCODE, asked)
         other = self.one(PROPERTY, POSTCODE, asked) if isinstance(found, str) else found

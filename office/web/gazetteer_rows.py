@@ -301,7 +301,7 @@ def read_row(
     if key is not None and key.expected:
         return said_of_key("property number", cell(columns.uprn), key.expected)
     if key is None and not code:
-        return said_of_key("postcode", cell(columns.postcode), "a postcode as SW1A 1AA")
+        return said_of_key("postcode", cell(columns.postcode), "write it as SW1A 1AA")
     if not (cell(columns.east).strip() and cell(columns.north).strip()):
         return "it has no point"
     east, north = points.decimal(cell(columns.east)), points.decimal(cell(columns.north))
@@ -316,7 +316,7 @@ def said_of_key(what: str, text: str, expected: str) -> str:
     """Why a key cannot be used."""
     if not text.strip():
         return f"it has no {what}"
-    return f"its {what} cannot be read: expected {expected}"
+    return f"its {what} cannot be read: {expected}"
 
 
 def wrong_unit(east: float, north: float, is_degrees: bool) -> str:

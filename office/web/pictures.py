@@ -23,12 +23,15 @@ SIDE, LEAST = 500, 5
 BEYOND = 1500
 
 
-def bar(value: float, of: float, kind: str) -> Markup:
-    """A bar for the cell of a table: a length of a whole, with the class of its colour. The numbers
-    are in the cells beside it, so it is hidden from a screen reader.
+def bar(value: float, of: float, kind: str, *more: tuple[float, str]) -> Markup:
+    """A bar for the cell of a table: a length of a whole, with the class of its colour, and others
+    after it. The numbers are in the cells beside it, so it is hidden from a screen reader.
     """
-    width = 100 * value / of if of else 0
-    drawn = rect(0, 0, max(width - 0.4, 0.4), 10, kind) if value else ""
+    drawn, at = "", 0.0
+    for length, colour in ((value, kind), *more):
+        width = 100 * length / of if of else 0
+        drawn += rect(at, 0, max(width - 0.4, 0.4), 10, colour) if length else ""
+        at += width
     return Markup('<svg class="bar" viewBox="0 0 100 10" preserveAspectRatio="none"'
                   f' aria-hidden="true">{rect(0, 0, 100, 10, "trough")}{drawn}</svg>')
 
@@ -102,6 +105,42 @@ def ring(ground: Ground, it: Places) -> str:
         f"<title>{escape(it.code)}: {it.taken} of {it.places} places are taken</title></circle>"
         f'{label(x, y + 5, str(it.vacant), "many", "middle")}'
         f'{label(x, y + r + 20, it.code, "halo name", "middle")}')
+
+
+def columns(
+    name: str, title: str, text: str, first: datetime.date, counts: Sequence[int],
+    closing: datetime.date, words: str,
+) -> Markup:
+    """A column for each day from the first on: those after the closing day are of another colour,
+    and a line is between.
+    """
+    width, high, top, low, left = 720.0, 150.0, 28.0, 26.0, 44.0
+    most, wide = max(counts), (width - 52) / len(counts)
+    step = next((it for it in (1, 2, 5, 10, 20, 25, 50, 100, 200) if most / it <= 4), 500)
+    ceiling = math.ceil(most / step) * step
+
+    def y_of(value: float) -> float:
+        return top + high * (1 - value / ceiling)
+
+    parts = []
+    for value in range(0, ceiling + 1, step * 2 if ceiling / step > 3 else step):
+        parts += [line(left, y_of(value), width, y_of(value), "grid"),
+                  label(left - 8, y_of(value) + 5, str(value), "quiet", "end")]
+    for at, value in enumerate(counts):
+        day, x = first + at * DAY, left + at * wide
+        if value:
+            kind = "late" if day > closing else "first"
+            parts.append(rect(x + 1, y_of(value), wide - 2, y_of(0) - y_of(value), kind,
+                              f"{day.day} {day:%B}: {value}"))
+        if day.day in (1, 15):
+            parts += [line(x + wide / 2, y_of(0), x + wide / 2, y_of(0) + 5, "axis"),
+                      label(x + wide / 2, top + high + low - 4, f"{day.day} {day:%b}", "quiet",
+                            "middle")]
+    x = left + ((closing - first).days + 1) * wide
+    if left <= x <= width:
+        parts += [line(x, 16, x, y_of(0), "today"), label(x - 6, 16, words, "strong", "end")]
+    parts.append(line(left, y_of(0), width, y_of(0), "axis"))
+    return svg(name, width, top + high + low, title, text, parts, "days")
 
 
 @dataclasses.dataclass(frozen=True)

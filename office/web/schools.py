@@ -51,12 +51,6 @@ def code(text: str) -> Field:
     return Field("", f"a code of {rules.CODE_IN_WORDS}{' (it is empty)' if not found else ''}")
 
 
-def name(text: str) -> Field:
-    """The name of a school."""
-    found = fields.trimmed(text)
-    return fields.name(text, None) if found else Field("", "the school's name (it is empty)")
-
-
 def criterion(text: str, words: Mapping[int, str]) -> str:
     """A criterion as the register has it: also one by the words of its flag."""
     for number, said in words.items():
@@ -90,10 +84,10 @@ def example(form: rules.Criterion) -> str:
 
 READERS: dict[str, Callable[[str, Mapping[int, str]], Field]] = {
     "school": lambda text, _: code(text),
-    "name": lambda text, _: name(text),
+    "name": fields.name,
     "pan": lambda text, _: fields.number(text, LIMITS["pan"], "the admission number"),
-    "east": lambda text, _: fields.number(text, LIMITS["east"], "metres on the map"),
-    "north": lambda text, _: fields.number(text, LIMITS["north"], "metres on the map"),
+    "east": lambda text, _: fields.number(text, LIMITS["east"], "the point"),
+    "north": lambda text, _: fields.number(text, LIMITS["north"], "the point"),
     "criteria": criteria,
 }
 

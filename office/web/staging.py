@@ -84,14 +84,12 @@ class Staging:
     def files(self) -> list[File]:
         """The files, the last first, without those of which all is in the register."""
         counts: dict[int, dict[str, int]] = {}
-        versions: dict[int, int] = {}
-        for it in self.store.rows("SELECT file, state, count(*) AS many, sum(version) AS version"
-                                  " FROM staged_row GROUP BY file, state"):
+        for it in self.store.rows("SELECT file, state, count(*) AS many FROM staged_row"
+                                  " GROUP BY file, state"):
             counts.setdefault(it["file"], {})[it["state"]] = it["many"]
-            versions[it["file"]] = versions.get(it["file"], 0) + it["version"]
         found = self.store.rows("SELECT * FROM staged_file ORDER BY id DESC")
         made = [File(it["id"], it["name"], bool(it["is_form"]), bool(it["is_uk"]),
-                     json.loads(it["changes"]), it["who"], it["added"], versions.get(it["id"], 0),
+                     json.loads(it["changes"]), it["who"], it["added"],
                      {state: counts.get(it["id"], {}).get(state, 0)
                       for state in (OPEN, WITHDRAWN, SENDING, COMMITTED)}) for it in found]
         return [it for it in made if sum(it.counts.values()) > it.counts[COMMITTED]]
@@ -178,56 +176,53 @@ class Staging:
             raise Meanwhile(f"{found.where} was changed meanwhile, by {found.changed_by}")
         return found
 
-    def save(self, who: str, number: int, version: int, cells: Mapping[str, str]) -> Staged:
-        """Gives a row other cells. What was in doubt since its reading is confirmed by it."""
+    def save(self, who: str, number: int, version: int, cells: Mapping[str, str],
+             is_confirmed: bool = False) -> Staged:
+        """Gives a row other cells. What was in doubt since its reading ends in those, and, where
+        the row is confirmed, in all others.
+        """
         see_lengths(cells)
         with self.lock:
             found = self.seen(number, version, OPEN)
             changes = {it: f'"{told(found.cells[it])}" to "{told(text)}"'
                        for it, text in cells.items() if found.cells[it] != text}
+            left = [] if is_confirmed or not changes else [
+                it for it in found.notes if it.column and it.column not in changes]
             if changes or found.notes:
                 what = "corrected" if changes else "confirmed"
                 self.history.add(who, f"{what} an application",
                                  {"row": found.where, **named(found), **changes})
                 with self.writing() as db:
-                    db.execute("UPDATE staged_row SET cells=?, notes='[]', point=?,"
+                    db.execute("UPDATE staged_row SET cells=?, notes=?, point=?,"
                                " version=version+1, changed_by=?, changed=? WHERE id=?",
-                               (packed({**found.cells, **cells}),
+                               (packed({**found.cells, **cells}), packed_notes(left),
                                 points.after(found.point, found.cells, cells).packed(), who, now(),
                                 number))
             return self.row(number)
 
     def move(self, who: str, rows: Iterable[tuple[int, int]], state: str) -> list[Staged]:
         """Withdraws rows, or brings them back: each by its id and its version."""
-        what, before = ("withdrew", OPEN) if state == WITHDRAWN else ("brought back", WITHDRAWN)
+        what, before = ("withdrew applications", OPEN) if state == WITHDRAWN else (
+            "brought back applications", WITHDRAWN)
         with self.lock:
             found = [self.seen(*it, before) for it in rows]
             if state == OPEN:
                 self.see_place(len(found))
             if not found:
                 return []
-            self.history.add(who, f"{what} applications", {"rows": places_of(found)})
+            self.history.add(who, what, {"rows": places_of(found)})
             with self.writing() as db:
                 db.executemany(
                     "UPDATE staged_row SET state=?, version=version+1, changed_by=?, changed=?"
                     " WHERE id=?", [(state, who, now(), it.id) for it in found])
         return found
 
-    def withdraw_file(self, who: str, file: int, version: int) -> None:
-        """Withdraws all rows of a file, as they were shown."""
-        with self.lock:
-            found = next((it for it in self.files() if it.id == file), None)
-            if found is None or found.version != version:
-                raise Meanwhile("somebody has changed rows of this file meanwhile")
-            self.move(who, [(it.id, it.version) for it in self.rows(OPEN) if it.file == file],
-                      WITHDRAWN)
-
     def bring_back(self, who: str, seen: str) -> None:
-        """Brings all rows back that were withdrawn, as they were shown."""
+        """Puts all rows back that were set aside, as they were shown."""
         with self.lock:
             rows = self.rows(WITHDRAWN)
             if digest_of(rows) != seen:
-                raise Meanwhile("nothing was changed: the withdrawn rows are others meanwhile")
+                raise Meanwhile("nothing was changed: other rows are set aside meanwhile")
             self.move(who, [(it.id, it.version) for it in rows], OPEN)
 
     def merge(self, who: str, into: tuple[int, int], other: tuple[int, int]) -> Staged:
@@ -265,25 +260,14 @@ class Staging:
                 [(packed(cells), packed(others), point.packed(), who, now(), it.id)
                  for it, cells, others, point in rows])
 
-    def read_uk(self, who: str, file: int) -> None:
-        """Says of a file that all its days are day, month and year."""
-        with self.lock:
-            found = self.store.row("SELECT name FROM staged_file WHERE id=?", file)
-            if found is None:
-                raise Refused("there is no such file in the table")
-            self.history.add(who, "read days as day/month/year", {"file": found["name"]})
-            with self.writing() as db:
-                db.execute("UPDATE staged_file SET is_uk=1 WHERE id=?", (file,))
-                db.execute("UPDATE staged_row SET version=version+1 WHERE file=? AND state IN"
-                           " (?, ?)", (file, OPEN, WITHDRAWN))
-
 
 def insert(db: sqlite3.Connection, file: int, it: Given, who: str, moment: str,
-           point: Point = Point()) -> int:
+           point: Point = Point(), state: str = OPEN) -> int:
     """Stores a new row, and returns its id."""
+    cells = packed(it.cells)
     made = db.execute(
         "INSERT INTO staged_row (file, number, cells, others, notes, state, who, added, changed_by,"
-        " changed, point) VALUES (?, ?, ?, ?, ?, ?, ?, ?, ?, ?, ?)",
-        (file, it.number, packed(it.cells), packed(it.others), packed_notes(it.notes), OPEN, who,
-         moment, who, moment, point.packed())).lastrowid
+        " changed, point, first) VALUES (?, ?, ?, ?, ?, ?, ?, ?, ?, ?, ?, ?)",
+        (file, it.number, cells, packed(it.others), packed_notes(it.notes), state, who,
+         moment, who, moment, point.packed(), cells)).lastrowid
     return made or 0

@@ -4,7 +4,8 @@ once in each of its versions; which rows may be of one child; and which the regi
 import dataclasses
 import re
 import threading
-from collections.abc import Iterable, Sequence
+from collections.abc import Callable, Iterable, Iterator, Mapping, Sequence
+from typing import Any
 
 from office import across, check, fields, texts
 from office.check import ERROR, FIXED, LOOK, Context, Finding
@@ -12,13 +13,16 @@ from office.model import PLAN, Register, School
 from office.rules import LIMITS
 
 from . import points
+from .points import GAZETTEER, POSTCODE, Point
 from .staging_rows import Staged
+from .wording import sentence
 
 SAME_NUMBER, ALIKE = "the same number", "a similar name at the same home, or nearby"
 # what a program writes that cannot write a letter
 LOST = re.compile(r"\w\?|\?\w")
-IS_LOST = "is the question mark a letter that was lost? Take the name from the form again"
+IS_LOST = "was a letter lost at the question mark?"
 Differences = list[tuple[str, str]]
+Words = Mapping[int, str]
 
 
 @dataclasses.dataclass(frozen=True)
@@ -44,11 +48,13 @@ class Pair:
 
 
 class Checker:
-    """What is known of rows that were checked before, beside the same schools and season."""
+    """What is known of rows that were checked before, beside the same schools, season and words of
+    flags.
+    """
 
-    def __init__(self) -> None:
-        self.lock = threading.Lock()
-        self.beside: tuple[dict[str, School], object] | None = None
+    def __init__(self, words: Callable[[], Words] = dict) -> None:
+        self.lock, self.words = threading.Lock(), words
+        self.beside: tuple[dict[str, School] | None, object, Words] | None = None
         self.known: dict[int, Checked] = {}
 
     def table(self, rows: Sequence[Staged], register: Register | None,
@@ -56,50 +62,77 @@ class Checker:
         """The table of these rows, and of one that is typed and not in it yet. Only rows that are
         new or were changed are read.
         """
-        beside = (register.schools, register.days) if register else None
+        words = self.words()
+        beside = (register.schools if register else None, register.days if register else None,
+                  words)
         with self.lock:
             old = self.known if beside == self.beside else {}
-            found = [self.checked(it, old.get(it.id), register) for it in rows]
+            found = [known if (known := old.get(it.id)) and known.staged.version == it.version
+                     else checked(it, register, words) for it in rows]
             self.beside, self.known = beside, {it.staged.id: it for it in found}
-        return Table([*found, *([checked(typed, register)] if typed else [])], register)
-
-    def checked(self, it: Staged, old: Checked | None, register: Register | None) -> Checked:
-        """A row that was checked, now or before."""
-        return old if old and old.staged.version == it.version else checked(it, register)
+        more = [checked(typed, register, words)] if typed else []
+        return Table([*found, *more], register, words)
 
 
-def checked(it: Staged, register: Register | None) -> Checked:
+def checked(it: Staged, register: Register | None, words: Words) -> Checked:
     """A row with what is found in it."""
-    findings = [Finding(it.id, note.column, it.cells.get(note.column, ""), note.text, note.kind)
-                for note in it.notes]
+    findings = [Finding(it.id, note.column, it.cells.get(note.column, ""), note.text, note.kind,
+                        fault=note.fault) for note in it.notes]
     row = check.Row(it.id, dict(it.cells), dict.fromkeys(fields.REQUIRED, ""), it.where)
     if any(note.is_whole for note in it.notes):
         return Checked(it, row, tuple(findings), False)
 
     def add(number: int, column: str, value: str, text: str, kind: str = ERROR,
-            written: str | None = None) -> None:
-        findings.append(Finding(number, column, value, text, kind, written))
+            written: str | None = None, **more: Any) -> None:
+        findings.append(Finding(number, column, value, text, kind, written, **more))
 
     broken = {note.column for note in it.notes if note.kind == ERROR}
-    context = Context(register.schools if register else {}, it.is_uk)
+    context = Context(register.schools if register else {}, it.is_uk, words)
     for column in fields.COLUMNS:
         check.read_field(row, column, it.cells[column], context, add, column in broken)
     if LOST.search(it.cells["name"]):
         add(it.id, "name", it.cells["name"], IS_LOST, LOOK)
-    for said_of in points.findings(it.point, it.cells):
+    for said_of in of_point(it.point, it.cells):
         add(it.id, "east", it.cells["east"], said_of, LOOK)
+    for said_of in of_flags(row.fields["flags"], register, words):
+        add(it.id, "flags", it.cells["flags"], said_of, LOOK)
     if register:
         check.see_days([row], register, add)
         check.see_homes([row], register, add)
     return Checked(it, row, tuple(findings), True)
 
 
+def of_point(point: Point, cells: Mapping[str, str]) -> Iterator[str]:
+    """What is to be looked at of the point of a home, in short: its screen says the rest."""
+    if points.question(point, cells):
+        yield "the gazetteer has another point"
+    elif point.source == GAZETTEER and point.by == POSTCODE and not point.is_kept:
+        yield "approximate: the middle of its postcode"
+    if not points.has_any(cells):
+        yield from point.said
+    elif points.metres_of(cells) == (0, 0):
+        yield "0, 0 is in the sea"
+    elif points.degrees_in(cells):
+        yield "these look like latitude and longitude"
+
+
+def of_flags(text: str, register: Register | None, words: Words) -> Iterator[str]:
+    """The flags of a row that say nothing to an office: without words, or of no criterion."""
+    used = {it for school in register.schools.values() for it in school.criteria} if (
+        register) else set()
+    for it in map(int, filter(None, text.split(";"))):
+        if it not in words:
+            yield f"reason {it} has no words"
+        elif used and f"flag:{it}" not in used:
+            yield f"reason {it} is in no criterion"
+
+
 class Table:
     """Rows that were checked, also beside each other and beside the register."""
 
-    def __init__(self, rows: Iterable[Checked], register: Register | None) -> None:
+    def __init__(self, rows: Iterable[Checked], register: Register | None, words: Words) -> None:
         self.rows = {it.staged.id: it for it in rows}
-        self.register = register
+        self.register, self.words = register, words
         self.findings = {at: list(it.findings) for at, it in self.rows.items()}
         self.pairs: list[Pair] = []
         # the rows that the register has: as they are, and with other values
@@ -117,9 +150,9 @@ class Table:
                     self.see_known(row, register)
 
     def add(self, row: int, column: str, value: str, text: str, kind: str = ERROR,
-            written: str | None = None) -> None:
+            written: str | None = None, fault: str = "") -> None:
         """Adds a finding."""
-        self.findings[row].append(Finding(row, column, value, text, kind, written))
+        self.findings[row].append(Finding(row, column, value, text, kind, written, fault))
 
     def see_repeated(self, rows: list[check.Row]) -> set[int]:
         """Adds the rows with the number of another, and returns those that are equal to it."""
@@ -144,14 +177,16 @@ class Table:
         found, number = differing(row, register), row.child
         if not found:
             self.equal.add(row.number)
-            self.add(row.number, "", "", f"the register has child {number} with these values: the"
-                     " row is left out", FIXED)
+            self.add(row.number, "", "", f"child {number} is in the register already", FIXED)
             return
         self.differing[row.number] = found
         for column, had in found:
-            self.add(row.number, column, row.given[column], "what the register has for child"
-                     f" {number}, {texts.shown(had)}: correct the child in the register, and"
-                     " withdraw this row")
+            self.add(row.number, column, row.given[column], f"the register has {texts.shown(had)}",
+                     fault="register")
+
+    def errors(self, row: int) -> list[Finding]:
+        """What is wrong with a row."""
+        return [it for it in self.findings[row] if it.kind == ERROR]
 
     def has_error(self, row: int) -> bool:
         """Whether something is wrong with a row."""
@@ -196,8 +231,6 @@ def too_many(new: int, register: Register) -> str:
 
 def said(finding: Finding) -> str:
     """A finding as it is shown beside its cell."""
-    if finding.kind == ERROR and finding.column:
-        return f"expected {finding.text}"
     if finding.kind == FIXED and finding.written is not None:
         return f"read as {texts.shown(finding.written)}"
-    return finding.text
+    return sentence(finding.text)

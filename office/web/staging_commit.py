@@ -75,10 +75,10 @@ class Commit:
         """Why nothing can be stored, or ""."""
         if self.wrong:
             these = texts.count(len(self.wrong), "row")
-            return f"{these} must be corrected or withdrawn before anything is stored"
+            return f"{these} must be corrected or set aside before anything is added"
         if self.too_many:
             return self.too_many
-        return "" if self.rows or self.equal else "there is nothing to store"
+        return "" if self.rows or self.equal else "there is nothing to add"
 
     @property
     def counts(self) -> Counts:
@@ -250,7 +250,7 @@ class Committing:
 
     def note(self, row: Staged, why: str) -> None:
         """Keeps with a row why the register does not take it, until it is saved again."""
-        notes = [*row.notes, Note("", f"the register does not take it: {why}")]
+        notes = [*row.notes, Note("", f"the register does not take it: {why}", fault="refused")]
         with self.staging.writing() as db:
             db.execute("UPDATE staged_row SET notes=?, version=version+1 WHERE id=?",
                        (packed_notes(notes), row.id))

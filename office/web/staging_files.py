@@ -7,7 +7,7 @@ from collections.abc import Iterator
 from register_files import Refused
 
 from office import fields, header, sheet, sheet_apart, texts
-from office.check import ERROR, FIXED, Check, Finding
+from office.check import ERROR, FIXED, LOOK, Check, Finding
 
 from . import gazetteer_rows
 
@@ -16,7 +16,7 @@ MOST_NAME = 80
 MOST_WORDS = 30
 ADVICE = "write the name of the one that is meant into the field Sheet"
 NO_COLUMN = "no column of an application: it is kept beside the rows, and not stored"
-LEFT_OVER = "what is too much"
+LEFT_OVER = "left over"
 # the columns of a home's point
 POINT = ("east", "north")
 
@@ -31,6 +31,7 @@ class Note:
     text: str
     kind: str = ERROR
     is_whole: bool = False
+    fault: str = ""
 
 
 @dataclasses.dataclass(frozen=True)
@@ -150,12 +151,12 @@ def row_of(reading: Check, row: sheet.Row, found: list[Finding]) -> Given:
     """A row. What has a wrong number of fields is kept at the places where it may belong."""
     before = len(reading.findings)
     cells = reading.cells_of(row)
-    notes = [Note(it.column, it.text, it.kind) for it in found]
-    left_over = ""
+    notes = [Note(it.column, it.text, it.kind, fault=it.fault) for it in found]
     if cells is None:
         cells, left_over = placed(reading, row.cells)
-        notes += [Note(it.column, it.text + left_over, ERROR, True)
+        notes += [Note(it.column, it.text, ERROR, True, it.fault)
                   for it in reading.findings[before:] if it.kind == ERROR]
+        notes += [Note(notes[-1].column, it, LOOK) for it in left_over]
         reading.findings[before:] = [
             it for it in reading.findings[before:] if it.kind != ERROR]
     given = {it: cells[reading.columns[it]] if it in reading.columns else fields.OMITTED[it]
@@ -163,7 +164,7 @@ def row_of(reading: Check, row: sheet.Row, found: list[Finding]) -> Given:
     return Given(row.number, given, others_of(reading, cells), tuple(notes))
 
 
-def placed(reading: Check, cells: list[str]) -> tuple[list[str], str]:
+def placed(reading: Check, cells: list[str]) -> tuple[list[str], list[str]]:
     """The cells of a row that has too many or too few, and what is said of those that have no
     place.
     """
@@ -171,11 +172,11 @@ def placed(reading: Check, cells: list[str]) -> tuple[list[str], str]:
     if reading.has_split_name(cells):
         at = reading.columns["name"]
         name = reading.sheet.separator.join(cells[at:at + 1 + more])
-        return [*cells[:at], name, *cells[at + 1 + more:]], ""
+        return [*cells[:at], name, *cells[at + 1 + more:]], []
     if more <= 0:
-        return cells + [""] * -more, ""
+        return cells + [""] * -more, []
     rest = [it for it in cells[reading.width:] if it.strip()]
-    said = f"; {LEFT_OVER}: {', '.join(map(texts.shown, rest))}" if rest else ""
+    said = [f"{LEFT_OVER}: {', '.join(map(texts.shown, rest))}"] if rest else []
     return cells[:reading.width], said
 
 

@@ -15,6 +15,8 @@ from .points import FILE, Point, unpacked
 from .staging_files import Note
 
 OPEN, WITHDRAWN, SENDING, COMMITTED = "open", "withdrawn", "sending", "committed"
+# a row of a file that is to replace another one, and has not yet
+PROPOSED = "proposed"
 # so much of a cell is in the history
 MOST_TOLD = 300
 
@@ -22,7 +24,8 @@ MOST_TOLD = 300
 @dataclasses.dataclass(frozen=True)
 class Staged:
     """A row of the table: its file and its number there, its cells by their columns, and those of
-    other columns; what was found in its reading; and who added and changed it, and when.
+    other columns; what was found in its reading; who added and changed it, and when; and its cells
+    as they were read.
     """
 
     id: int
@@ -42,6 +45,7 @@ class Staged:
     changed: str
     entry: int | None
     point: Point = Point()
+    first: Mapping[str, str] = dataclasses.field(default_factory=dict)
 
     @property
     def where(self) -> str:
@@ -66,8 +70,8 @@ class Staged:
 
 @dataclasses.dataclass(frozen=True)
 class File:
-    """A file that was added: who added it and when, what was changed to read it, the sum of the
-    versions of its rows, which grows with each change of one, and how many are in each state.
+    """A file that was added: who added it and when, what was changed to read it, and how many of
+    its rows are in each state.
     """
 
     id: int
@@ -77,7 +81,6 @@ class File:
     changes: list[str]
     who: str
     added: str
-    version: int
     counts: dict[str, int]
 
 
@@ -88,7 +91,8 @@ def staged_of(row: sqlite3.Row) -> Staged:
         row["id"], row["file"], row["name"], bool(row["is_form"]), bool(row["is_uk"]),
         row["number"], whole(json.loads(row["cells"])), json.loads(row["others"]), notes,
         row["state"], row["version"], row["who"], row["added"], row["changed_by"], row["changed"],
-        row["entry"], unpacked(row["point"]))
+        row["entry"], unpacked(row["point"]),
+        whole(json.loads(row["first"])) if row["first"] else {})
 
 
 def whole(cells: Mapping[str, str]) -> dict[str, str]:

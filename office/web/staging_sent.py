@@ -12,24 +12,25 @@ from office import fields
 from .staging import Staging
 from .staging_rows import WITHDRAWN, Staged, too_long
 
-SEEN = "seen-"
+SEEN, MEANT = "seen-", "meant"
 
 
 @dataclasses.dataclass(frozen=True)
 class Typed:
-    """A row as it was sent: in which version and with which cells it was seen, and what its fields
-    had then.
+    """A row as it was sent: in which version it was seen, which of its cells were fields, what they
+    had, and what they have now; and whether it is its button of what is meant that was pressed.
     """
 
     number: int
     version: int
     seen: dict[str, str]
     cells: dict[str, str]
+    is_meant: bool = False
 
     @property
     def is_changed(self) -> bool:
         """Whether anything was typed."""
-        return self.cells != self.seen
+        return self.is_meant or self.cells != self.seen
 
 
 @dataclasses.dataclass(frozen=True)
@@ -61,20 +62,26 @@ def packed(version: int, cells: Mapping[str, str]) -> str:
 
 
 def read(form: Mapping[str, str]) -> list[Typed]:
-    """The rows of a page that was sent."""
-    numbers = (it.removeprefix(SEEN) for it in form if it.startswith(SEEN))
-    return [row_of(int(it), form) for it in numbers
+    """The rows of a page that was sent; a button of what is likely to be meant is as if it had been
+    typed.
+    """
+    name, _, text = form.get(MEANT, "").partition("=")
+    given = {**form, name: text} if name in form else dict(form)
+    numbers = (it.removeprefix(SEEN) for it in given if it.startswith(SEEN))
+    rows = [row_of(int(it), given) for it in numbers
             if it.isascii() and it.isdigit() and len(it) < 10]
+    return [dataclasses.replace(it, is_meant=any(name == name_of(column, it.number)
+                                                 for column in it.cells)) for it in rows]
 
 
 def row_of(number: int, form: Mapping[str, str]) -> Typed:
     """One of them, or a refusal where its form is not as it was made."""
     try:
         version, seen = json.loads(form[f"{SEEN}{number}"])
-        seen = {it: str(seen[it]) for it in fields.COLUMNS}
-        cells = {it: form[name_of(it, number)] for it in fields.COLUMNS}
+        seen = {it: str(text) for it, text in seen.items() if it in fields.COLUMNS}
+        cells = {it: form[name_of(it, number)] for it in seen}
         return Typed(number, int(version), seen, cells)
-    except (KeyError, TypeError, ValueError, RecursionError) as error:
+    except (AttributeError, KeyError, TypeError, ValueError, RecursionError) as error:
         raise Refused("the page did not arrive whole: load it again") from error
 
 
@@ -85,7 +92,8 @@ def save(staging: Staging, who: str, rows: Iterable[Typed], confirmed: int) -> C
         if not it.is_changed and it.number != confirmed:
             continue
         try:
-            came.saved[it.number] = staging.save(who, it.number, it.version, it.cells)
+            came.saved[it.number] = staging.save(
+                who, it.number, it.version, it.cells, it.number == confirmed)
         except Refused as error:
             came.refused[it.number] = refusal(staging, it, error)
     return came

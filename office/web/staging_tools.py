@@ -8,7 +8,7 @@ from register_files import Refused
 
 from office.model import Register
 
-from . import numbers
+from . import flags, numbers
 from .gazetteer import Gazetteer
 from .guard import parts
 from .staging import Staging
@@ -31,7 +31,8 @@ class Tools:
 def begin(state: Any) -> None:
     """Makes them with an application."""
     found = state.app.extensions["office"]
-    staging, checker = Staging(found.store, found.history), Checker()
+    staging = Staging(found.store, found.history)
+    checker = Checker(lambda: flags.words_of(found.store))
     committing = Committing(staging, checker, found.desk, found.history, found.copies.make)
     gazetteer = Gazetteer(found.config.folder / "gazetteer", found.store, found.history)
     points = Points(staging, gazetteer, found.history)
@@ -57,6 +58,11 @@ def table_now() -> tuple[Table, str]:
     unknown = tools().committing.settle()
     register, reason = register_now()
     return tools().checker.table(tools().staging.rows(OPEN), register), unknown or reason
+
+
+def numbers_taken(register: Register | None) -> set[int]:
+    """The numbers that no other child can get."""
+    return tools().staging.numbers() | set(register.children if register else ())
 
 
 def number_in(given: Mapping[str, str], name: str, other: int = 0) -> int:

@@ -226,6 +226,16 @@ STEPS = (
         about ->> 'is_chosen' AS is_chosen, state, said, after, sent
         FROM sending WHERE kind='again';
     """,
+    # of a row of the staging table its cells as they were read, as JSON its places in the files
+    # that were replaced since, and what it was before the last correction of many rows with the
+    # entry of the history that this has; and of a file which one it is to replace
+    """
+    ALTER TABLE staged_row ADD COLUMN first TEXT NOT NULL DEFAULT '';
+    ALTER TABLE staged_row ADD COLUMN places TEXT NOT NULL DEFAULT '[]';
+    ALTER TABLE staged_row ADD COLUMN mend INTEGER;
+    ALTER TABLE staged_row ADD COLUMN before TEXT NOT NULL DEFAULT '';
+    ALTER TABLE staged_file ADD COLUMN replaces INTEGER REFERENCES staged_file (id);
+    """,
 )
 # the disk, or the limit of a file of the system, is reached
 FULL = "SQLITE_FULL"

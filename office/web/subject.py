@@ -303,6 +303,9 @@ def known_of(store: Rows, number: int) -> Known:
              if number in json.loads(row["asked"]).get("children", [])}
     places = {(FORM if row["is_form"] else row["file_name"], row["number"]): is_staged(row, number)
               for row in staged(store)}
+    # (and where a row was in a file that was replaced since)
+    places |= {(name, at): is_staged(row, number) for row in staged(store)
+               for name, at in json.loads(row["places"])}
     return Known(number, places, frozenset(sets))
 
 

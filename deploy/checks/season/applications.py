@@ -27,10 +27,11 @@ def from_workbook(office: Office) -> None:
     hal.see(f"applications.xlsx is added: {len(given) + 1} rows.")
     hal.look("Applications, with errors")
     report.see(hal.driver.execute_script(
-        "const it = document.querySelector('.cells .region');"
+        "const it = document.querySelector('#rows .region');"
         "return it.scrollWidth <= it.clientWidth"), "the table is wider than its window")
     wrong = len(town.FAULTS) + 1
-    hal.see(f"{len(given) + 1} rows: {wrong} with errors, {len(town.LATE)} to look at.")
+    hal.see(f"{wrong} rows have errors of {wrong} kinds")
+    hal.see(f"To check {len(town.LATE)}")
     for child, fault in town.wrong_rows(given):
         said = found_at(hal, child, fault.column)
         report.see(fault.said in said, f"at {fault.column} of child {child.number} is {said!r},"
@@ -42,12 +43,11 @@ def from_workbook(office: Office) -> None:
 def row_of(hands: Hands, child: Child) -> WebElement:
     """The row of a child: of two with its number, the one with its home."""
     rows: list[WebElement] = hands.driver.execute_script(
-        "const value = (row, name) => row.querySelector(`input[name^='${name}-']`)?.value;"
-        "return [...document.querySelectorAll('.cells tbody tr')].filter("
-        "(row) => value(row, 'child') === arguments[0])", str(child.number))
-    if len(rows) > 1:
-        rows = [it for it in rows if cell(it, "east").get_attribute("value") == str(child.east)]
-    return rows[0]
+        "const number = (row) => row.querySelector(`input[name^='child-']`)?.value"
+        " ?? row.cells[1].innerText.trim();"
+        "return [...document.querySelectorAll('tr.mend')].filter("
+        "(row) => number(row) === arguments[0])", str(child.number))
+    return next(it for it in rows if len(rows) == 1 or str(child.east) in it.text)
 
 
 def cell(row: WebElement, column: str) -> WebElement:
@@ -66,7 +66,7 @@ def found_at(hands: Hands, child: Child, column: str) -> str:
 
 def corrected(office: Office) -> None:
     """Each cell is corrected where it is, and saved by Enter, the first two at once; the doubled
-    row is withdrawn.
+    row is set aside.
     """
     report, hal = office.report, office.people[HAL]
     given = list(office.season.children.values())
@@ -75,17 +75,18 @@ def corrected(office: Office) -> None:
     left = len(town.FAULTS) + 1 - len(wrong[:AT_ONCE])
     several(hal, [(it, fault.column) for it, fault in wrong[:AT_ONCE]])
     hal.see(f"Saved: {AT_ONCE} rows; nothing is wrong in them.")
-    hal.see(f"{len(given) + 1} rows: {left} with errors")
+    hal.see(f"With errors {left}")
     for child, fault in wrong[AT_ONCE:]:
         typed(hal, child, fault.column, town.texts_of(child)[fault.column])
         left -= 1
         hal.see("nothing is wrong in it.", f"child {child.number}, {fault.column}")
-        hal.see(f"{len(given) + 1} rows: {left} with errors")
+        hal.see(f"With errors {left}")
         if fault.column == "preferences" and left == len(town.FAULTS) - 2:
             slip(hal, child)
     twice = row_of(hal, town.doubled(given))
-    hal.press("Withdraw", twice)
-    hal.see(f"{len(given)} rows: 0 with errors, {len(town.LATE)} to look at.")
+    hal.press("Set aside", twice)
+    hal.see("With errors 0")
+    hal.see(f"To check {len(town.LATE)}")
 
 
 def several(hal: Hands, cells: list[tuple[Child, str]]) -> None:
@@ -112,7 +113,10 @@ def typed(hal: Hands, child: Child, column: str, text: str) -> None:
 
 
 def slip(hal: Hands, child: Child) -> None:
-    """A cell that was right gets a wrong text, and is corrected: it has the focus meanwhile."""
+    """A cell that was right becomes a field by its row's link, gets a wrong text, and is corrected:
+    it has the focus meanwhile.
+    """
+    hal.press("Edit", row_of(hal, child))
     typed(hal, child, "preferences", "A;A")
     hal.see("1 error left")
     here = cell(row_of(hal, child), "preferences")
@@ -126,19 +130,20 @@ def stored(office: Office) -> None:
     report, hal = office.report, office.people[HAL]
     given = list(office.season.children.values())
     report.step("they are stored")
-    hal.go("Applications", "Store in the register")
+    hal.go("Applications", "Add to the register")
     facts, late = hal.facts(), len(town.LATE)
     in_time = len(given) - late
-    report.same(facts.get("Children"), str(len(given)), "children to be stored")
+    report.same(facts.get("Applications"), str(len(given)), "applications to be stored")
     report.see(facts.get("In time", "").startswith(f"{in_time},"),
                f"in time: {facts.get('In time')}")
     report.same(facts.get("Late"), str(late), "late ones to be stored")
     report.same(facts.get("Looked after"), str(sum(it.looked_after for it in given)),
                 "looked after of those to be stored")
-    hal.see(f"Shall {len(given)} applications of {len(given)} children be stored, {in_time} in time"
+    hal.see(f"Shall {len(given)} applications of {len(given)} children be added to the register,"
+            f" {in_time} in time"
             f" and {late} late?")
-    hal.press(f"Store {len(given)} applications")
-    hal.see(f"Stored in the register: {len(given)} applications")
+    hal.press(f"Add {len(given)} applications")
+    hal.see(f"Added to the register: {len(given)} applications")
     kept = {it["child"]: it for it in office.read("/register")["children"]}
     for child in given:
         report.same(data_of(kept.get(child.number)), wanted_of(child),

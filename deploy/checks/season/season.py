@@ -133,8 +133,8 @@ STEPS: tuple[tuple[Callable[[Office], None], int], ...] = (
     (ready, 0),
     # the file, on the first screen
     (applications.from_workbook, 1),
-    # the row that is withdrawn
-    (applications.corrected, 1),
+    # the link of a row, and the row that is set aside
+    (applications.corrected, 2),
     (applications.stored, 2),
     # the screen, the batch, the question, and its answer
     (applications.plans, 4),

@@ -44,17 +44,17 @@ class Fault:
 
 # of ten rows, in their order: the other cells of these rows are right
 FAULTS = (
-    Fault("name", None, "the child's name (it is empty)"),
-    Fault("day", "31/11/{year}", "a day as 2024-10-20"),
-    Fault("preferences", "A;ELK", "ELK is none of its schools; is ELM meant?"),
-    Fault("preferences", "FERN;A;FERN", "FERN is in it twice"),
-    Fault("east", "1,250", "if 1250 is meant, write that"),
-    Fault("looked_after", "perhaps", "yes or no"),
-    Fault("flags", "16", "numbers of flags from 0 to 15"),
-    Fault("siblings", "OAK", "OAK is none of its schools"),
-    Fault("north", "=2400+50", "is a formula that was never calculated"),
+    Fault("name", None, "The name is missing."),
+    Fault("day", "31/11/{year}", "There is no such day."),
+    Fault("preferences", "A;ELK", "There is no school ELK."),
+    Fault("preferences", "FERN;A;FERN", "FERN is listed twice."),
+    Fault("east", "1,250", "Write 1250, without commas."),
+    Fault("looked_after", "perhaps", "Write yes or no."),
+    Fault("flags", "16", "Reasons are numbers from 0 to 15."),
+    Fault("siblings", "OAK", "There is no school OAK."),
+    Fault("north", "=2400+50", "is a formula that was never calculated."),
 )
-DOUBLED = "each child once"
+DOUBLED = "Also in row "
 
 
 def children(closing: datetime.date) -> list[Child]:

@@ -1,60 +1,104 @@
-"""Applications before they are in the register: files are added, cells corrected, and rows
-withdrawn and merged.
+"""Applications before they are in the register: what is wrong by kinds, cells corrected, and rows
+set aside and merged.
 """
-from collections.abc import Mapping, Sequence
-from typing import Any, BinaryIO, cast
+from collections.abc import Iterator, Mapping, Sequence
+from typing import Any
 
 import flask
 from register_files import Refused
 from werkzeug.wrappers import Response
 
-from office import inputs, persons, texts
+from office import persons, texts
 from office.check import ERROR
 
-from .. import staging_files, staging_page, staging_points, staging_sent, staging_tools, tables
+from .. import (
+    staging_kinds, staging_mends, staging_page, staging_pictures, staging_points, staging_replace,
+    staging_sent, staging_tools, tables,
+)
 from ..guard import needs, person
 from ..people import RECORD
+from ..staging import Meanwhile
 from ..staging_check import Table
+from ..staging_kinds import Kind
+from ..staging_page import ALL, ASIDE, FILTERS, WRONG, Asked
 from ..staging_rows import OPEN, WITHDRAWN, digest_of
 from ..staging_sent import Refusal
-from ..staging_tools import number_in, table_now, tools
+from ..staging_tools import number_in, numbers_taken, table_now, tools
 
 screen = flask.Blueprint("applications", __name__, url_prefix="/applications")
 screen.record(staging_tools.begin)
 Answer = str | Response | tuple[str, int]
 # what the address of the table keeps from one page to the next
-KEPT = ("show", "find", "page")
+KEPT = ("show", "find", "kind", "page")
+# so many kinds are seen at once
+MOST_KINDS = 12
+# chosen in the place of an item that is left out
+LEFT_OUT = "-"
 
 
 def page(text: str = "", is_bad: bool = False, saved: Sequence[int] = (),
-         refused: Mapping[int, Refusal] | None = None) -> Answer:
+         refused: Mapping[int, Refusal] | None = None, show: str = "") -> Answer:
     """The table. Rows that were saved, or could not be, are the first; so is one that the address
     names.
     """
     table, reason = table_now()
-    args = flask.request.args
+    args, staging = flask.request.args, tools().staging
     refused = refused or {}
-    first = [*refused, *saved, *numbers_in("see")]
-    which = args.get("show", staging_page.ALL)
-    asked = {"show": which if which in staging_page.FILTERS else staging_page.ALL,
-             "find": args.get("find", "")}
-    shown = staging_page.page_of(
-        table, asked["show"], asked["find"], number_in(args, "page", 1), first, refused)
+    edited = numbers_in("edit")
+    first = [*refused, *saved, *edited, *numbers_in("see")]
+    away = staging.rows(WITHDRAWN)
+    counts = staging_page.counts(table, len(away))
+    kinds = staging_kinds.kinds(table, lambda: numbers_taken(table.register))
+    kind = next((it for it in kinds if it.key == args.get("kind", "")), None)
+    asked = Asked(which(show or args.get("show", ""), counts, first), args.get("find", ""),
+                  frozenset(kind.rows) if kind else None, frozenset(edited))
+    shown = staging_page.page_of(table, away, asked, number_in(args, "page", 1), first, refused)
     changes, more = staging_page.changes(table)
-    counts = staging_page.counts(table)
-    text = f"{said_of_saved(table, saved)} {text}".strip()
+    here = {"show": asked.show, "find": asked.find, "kind": kind.key if kind else None}
+    wrong = table.wrong()
     body = flask.render_template(
-        "applications.html", said=text, is_bad=is_bad, reason=reason, page=shown, asked=asked,
-        filters=[(words, flask.url_for("applications.show", show=it, find=asked["find"]),
-                  counts[it], "") for it, words in staging_page.FILTERS.items()],
-        here=staging_page.FILTERS[asked["show"]], counts=counts, changes=changes,
-        more_changes=more, address=tables.pages("applications.show", **asked),
-        files=tools().staging.files(), pairs=len(table.pairs),
-        lost=lost_of(table, refused), columns=staging_page.columns(),
-        uk=staging_page.uk_files(table), withdrawn=tools().staging.count(WITHDRAWN),
+        "applications.html", said=f"{said_of_saved(table, saved)} {text}".strip(), is_bad=is_bad,
+        reason=reason, page=shown, here=here, kinds=kinds[:MOST_KINDS], others=kinds[MOST_KINDS:],
+        kind=kind, aside_kind=staging_kinds.whole_kind(kind, table) if kind else None,
+        filters=filters(counts, asked.find), filter="" if kind else FILTERS[asked.show],
+        counts=counts, wrong=len(wrong), aside_all=staging_kinds.aside(wrong), changes=changes,
+        more_changes=more, address=tables.pages("applications.show", **here),
+        files=list(sources(table)), waiting=staging_replace.waiting(staging),
+        pairs=len(table.pairs), lost=lost_of(table, refused), groups=staging_page.groups(),
         to_see=sum(staging_points.needs_look(it.staged) for it in table.rows.values()),
-        focus=staging_page.focus_of(shown, first))
+        undo=undo_of(numbers_in("did")), focus=staging_page.focus_of(shown, first),
+        may_add="add" in args or not counts[ALL], days=staging_pictures.by_day(table),
+        wanted=staging_pictures.wanted(table), seen=digest_of(away))
     return body, 409 if is_bad else 200
+
+
+def which(asked: str, counts: Mapping[str, int], first: Sequence[int]) -> str:
+    """Which rows are shown: those that were asked for, else those with errors, if there are any or
+    the last of them was corrected just now.
+    """
+    if asked in FILTERS:
+        return asked
+    return WRONG if counts[WRONG] and not first else ALL
+
+
+def filters(counts: Mapping[str, int], find: str) -> list[tuple[str, str, str, str]]:
+    """The links to the rows of each state, with their number."""
+    return [(words, flask.url_for("applications.show", show=it, find=find or None),
+             f"{counts[it]:,}", staging_page.KINDS.get(it, "") if counts[it] else "")
+            for it, words in FILTERS.items()]
+
+
+def sources(table: Table) -> Iterator[tuple[Any, Any]]:
+    """The files, each with what sets its rows aside."""
+    for it in tools().staging.files():
+        rows = [row.staged for row in table.rows.values() if row.staged.file == it.id]
+        yield it, staging_kinds.of_file(rows) if rows else None
+
+
+def undo_of(entries: Sequence[int]) -> Any:
+    """What can be taken back of what was done last."""
+    found = (staging_mends.undoable(tools().staging, it) for it in entries[:1])
+    return next((it for it in found if it), None)
 
 
 def numbers_in(name: str) -> list[int]:
@@ -67,8 +111,8 @@ def lost_of(table: Table, refused: Mapping[int, Refusal]) -> list[tuple[str, dic
     """What was typed into rows that are not in the table any more: how each was called, and its
     cells.
     """
-    return [(it.where, {title: it.typed.cells[column] for column, title in staging_page.columns()
-                        if it.typed.cells[column]})
+    return [(it.where, {staging_page.title_of(column): text
+                        for column, text in it.typed.cells.items() if text})
             for number, it in refused.items() if number not in table.rows]
 
 
@@ -77,7 +121,7 @@ def to_table(**more: Any) -> Response:
     that goes to one gives the focus to no cell.)
     """
     kept: dict[str, Any] = {it: flask.request.args.get(it) for it in KEPT}
-    return flask.redirect(flask.url_for("applications.show", **kept, **more), 303)
+    return flask.redirect(flask.url_for("applications.show", **{**kept, **more}), 303)
 
 
 @screen.get("/")
@@ -88,16 +132,19 @@ def show() -> Answer:
     entry, out = number_in(args, "done"), number_in(args, "out")
     if entry or out:
         many = texts.count(staging.stored(entry), "application")
-        said = [f"Stored in the register: {many} (entry {entry} of the activity)."] if entry else []
+        said = [f"Added to the register: {many} (entry {entry} of the activity)."] if entry else []
         left = [f"{texts.count(out, 'row')} that the register had are out of the table."]
         return page(" ".join(said + left if out else said))
     saved = numbers_in("row")
-    if number := number_in(args, "withdrew"):
-        return page(f"Withdrawn: {staging.row(number).where}. It can be brought back from the"
-                    " withdrawn rows.", saved=saved)
+    if number := number_in(args, "aside"):
+        return page(f"Set aside: {staging.row(number).where}. It can be put back from the rows that"
+                    " are set aside.", saved=saved)
     if saved or "same" in args:
         return page("" if saved else "No cell was changed, and nothing had to be saved.",
                     saved=saved)
+    if undone := number_in(args, "undone"):
+        return page(f"Undone: {texts.count(undone, 'row')} {'is' if undone == 1 else 'are'} as"
+                    " before.")
     added = [it for it in staging.files() if str(it.id) in args.getlist("added")]
     return page(" ".join(f"{it.name} is added: {texts.count(sum(it.counts.values()), 'row')}."
                          for it in added))
@@ -118,100 +165,95 @@ def said_of_saved(table: Table, numbers: Sequence[int]) -> str:
 @screen.post("/")
 @needs(RECORD)
 def save() -> Answer:
-    """All rows of a page that were changed; then, by its button, one of them is withdrawn or is
+    """All rows of a page that were changed; then, by its button, one of them is set aside or is
     confirmed as it is.
     """
     form, staging, who = flask.request.form, tools().staging, person().name
-    withdrawn = number_in(form, "withdraw")
+    aside = number_in(form, "aside")
     try:
         rows = staging_sent.read(form)
     except Refused as error:
         return page(f"Nothing was changed: {error}.", True)
     came = staging_sent.save(staging, who, rows, number_in(form, "confirm"))
     for it in rows:
-        if it.number == withdrawn:
+        if it.number == aside:
             staging_sent.withdraw(staging, who, it, came)
     if came.refused:
         reasons = "; ".join(dict.fromkeys(it.why for it in came.refused.values()))
         return page(f"Not saved: {reasons}. What you typed is kept below.", True,
                     list(came.saved), came.refused)
-    return to_table(row=list(came.saved), withdrew=withdrawn or None,
-                    same=None if came.saved or withdrawn else "yes")
+    return to_table(row=list(came.saved), aside=aside or None,
+                    same=None if came.saved or aside else "yes")
 
 
-@screen.post("/files")
+@screen.post("/mend")
 @needs(RECORD)
-def add_files() -> Answer:
-    """Files that were dropped in. One that is refused does not keep the others out."""
-    form = flask.request.form
-    added: list[int] = []
-    refused: list[str] = []
-    for it in flask.request.files.getlist("files"):
-        name = staging_files.name_of(it.filename)
+def mend() -> Answer:
+    """All rows of a kind, by the button that was pressed: what it does was shown by it."""
+    form, staging = flask.request.form, tools().staging
+    with staging.lock:
         try:
-            if not name:
-                raise Refused("choose a file")
-            data = inputs.taken(name, cast(BinaryIO, it.stream))
-            read = staging_files.read(name, data, form.get("sheet", ""))
-            added.append(tools().staging.add_file(person().name, name, data, "uk" in form, read))
-            tools().points.fill(person().name, added[-1])
+            table, _ = table_now()
+            kinds = staging_kinds.kinds(table, lambda: numbers_taken(table.register))
+            chosen = chosen_item(kinds) if "by" in form else staging_mends.chosen(
+                staging_kinds.all_mends(table, kinds), form.get("mend", ""))
+            did = staging_mends.apply(staging, person().name, chosen)
         except Refused as error:
-            refused.append(str(error))
-    if not added and not refused:
-        refused = ["choose a file"]
-    if refused:
-        names = [it.name for it in tools().staging.files() if it.id in added]
-        done = f" Added: {texts.listed(names)}." if names else ""
-        return page(f"Not added: {'; '.join(refused)}.{done}", True)
-    return to_table(added=added)
+            return page(f"Nothing was changed: {error}.", True)
+    return to_table(did=did, kind=None, page=None)
+
+
+def chosen_item(kinds: Sequence[Kind]) -> staging_mends.Mend:
+    """What replaces a school or a flag that is not known by the one that was chosen, or leaves it
+    out.
+    """
+    form = flask.request.form
+    kind = next((it for it in kinds if it.digest == form.get("seen", "")), None)
+    if kind is None:
+        raise Meanwhile("the table has changed since it was shown")
+    by = form["by"]
+    if by != LEFT_OUT and by not in dict(kind.choices):
+        raise Refused(f"choose what is meant by {texts.shown(kind.item)}")
+    return staging_kinds.replaced(kind, "" if by == LEFT_OUT else by)
+
+
+@screen.post("/undo")
+@needs(RECORD)
+def undo() -> Answer:
+    """What was done to many rows is taken back."""
+    try:
+        rows = staging_mends.undo(tools().staging, person().name,
+                                  number_in(flask.request.form, "entry"))
+    except Refused as error:
+        return page(f"Nothing was changed: {error}.", True)
+    return to_table(undone=len(rows))
 
 
 @screen.post("/row/<int:number>")
 @needs(RECORD)
 def bring_one_back(number: int) -> Answer:
-    """One row that was withdrawn, brought back."""
+    """One row that was set aside, put back."""
     try:
         tools().staging.move(
             person().name, [(number, number_in(flask.request.form, "version"))], OPEN)
     except Refused as error:
         return page(f"Nothing was changed: {error}.", True)
-    return to_table(see=number)
-
-
-@screen.post("/file/<int:number>")
-@needs(RECORD)
-def change_file(number: int) -> Answer:
-    """All rows of a file: withdrawn, or their days read in one way."""
-    form, staging = flask.request.form, tools().staging
-    try:
-        if form.get("what") == "uk":
-            staging.read_uk(person().name, number)
-            return to_table()
-        staging.withdraw_file(person().name, number, number_in(form, "version"))
-        return to_table()
-    except Refused as error:
-        return page(f"Nothing was changed: {error}.", True)
+    return to_table(see=number, show=None)
 
 
 @screen.get("/withdrawn")
 @needs(RECORD)
 def withdrawn() -> Answer:
-    """The rows that were withdrawn."""
-    rows = tools().staging.rows(WITHDRAWN)
-    lines = [staging_page.line_of(it, None, {}) for it in rows]
-    return flask.render_template(
-        "applications_withdrawn.html", columns=staging_page.columns(), many=len(lines),
-        seen=digest_of(rows),
-        page=tables.paged(lines, flask.request.args.get("page", "")),
-        address=tables.pages("applications.withdrawn"))
+    """The rows that were set aside."""
+    return page(show=ASIDE)
 
 
 @screen.post("/withdrawn")
 @needs(RECORD)
 def bring_back() -> Answer:
-    """All of them, brought back."""
+    """All of them, put back."""
     tools().staging.bring_back(person().name, flask.request.form.get("seen", ""))
-    return to_table()
+    return to_table(show=None)
 
 
 @screen.get("/duplicates")
@@ -240,7 +282,7 @@ def pairs_page(text: str = "") -> Answer:
 @screen.post("/duplicates")
 @needs(RECORD)
 def decide() -> Answer:
-    """One of two is withdrawn, alone or after its values went into the other."""
+    """One of two is set aside, alone or after its values went into the other."""
     form, staging, who = flask.request.form, tools().staging, person().name
     one, other = ((number_in(form, it), number_in(form, f"{it}-version"))
                   for it in ("one", "other"))

@@ -13,7 +13,7 @@ from ..people import RECORD
 from ..staging_check import Table, said
 from ..staging_points import Keys
 from ..staging_rows import COMMITTED, OPEN, SENDING
-from ..staging_tools import number_in, register_now, table_now, tools
+from ..staging_tools import number_in, numbers_taken, register_now, table_now, tools
 
 screen = flask.Blueprint("applications_add", __name__, url_prefix="/applications/add")
 Answer = str | Response | tuple[str, int]
@@ -21,8 +21,7 @@ Answer = str | Response | tuple[str, int]
 
 def free_number(register: Register | None) -> int | None:
     """The number that is proposed for the next child."""
-    return staging_form.next_free(
-        tools().staging.numbers() | set(register.children if register else ()))
+    return staging_form.next_free(numbers_taken(register))
 
 
 @screen.get("/")
@@ -47,7 +46,7 @@ def page(cells: dict[str, str] | None, text: str = "", table: Table | None = Non
     free = free_number(register)
     typed = cells or staging_form.cells_of({"child": str(free or "")})
     row = staging_form.typed_row(typed, person().name)
-    found = {it.column: it for it in staging_page.cells_of(row, table, {})}
+    found = {it.column: it for it in staging_page.cells_of(row, table, {}, True)}
     body = flask.render_template(
         "applications_add.html", cells=found, said=text, is_bad=table is not None, reason=reason,
         preferences=list(zip(staging_form.PREFERENCES, staging_form.preferences_of(typed))),

@@ -5,11 +5,11 @@ import flask
 from register_files import Refused
 from werkzeug.wrappers import Response
 
-from .. import staging_page
+from .. import staging_kinds, staging_page
 from ..guard import needs, parts, person
 from ..people import RECORD
 from ..staging_commit import Commit
-from ..staging_rows import WITHDRAWN, Staged
+from ..staging_rows import Staged
 from ..staging_tools import tools
 
 screen = flask.Blueprint("applications_commit", __name__, url_prefix="/applications/commit")
@@ -26,7 +26,8 @@ def page(text: str = "", refused: Staged | None = None) -> Answer:
     body = flask.render_template(
         "applications_commit.html", said=" ".join(said), found=found, unknown=unknown,
         closed=parts().desk.closed(), refused=refused, columns=staging_page.columns(),
-        title_of=staging_page.title_of, names=names_of(found) if found else [])
+        title_of=staging_page.title_of, names=names_of(found) if found else [],
+        aside=staging_kinds.aside(found.wrong) if found else None)
     return body, 409 if said else 200
 
 
@@ -56,17 +57,3 @@ def store() -> Answer:
         return page(found.said, found.row)
     return flask.redirect(
         flask.url_for("applications.show", done=found.entry, out=found.out or None), 303)
-
-
-@screen.post("/wrong")
-@needs(RECORD)
-def withdraw_wrong() -> Answer:
-    """Withdraws the rows that keep the others from being stored, as they were shown."""
-    with tools().staging.lock:
-        found = tools().committing.found(parts().desk.now())
-        if found.digest != flask.request.form.get("digest", ""):
-            return page("Nothing was withdrawn: the table or the register has changed since it was"
-                        " shown.")
-        tools().staging.move(
-            person().name, [(it.id, it.version) for it in found.wrong], WITHDRAWN)
-    return flask.redirect(flask.url_for("applications_commit.show"), 303)
