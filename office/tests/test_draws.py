@@ -209,6 +209,7 @@ def test_a_round_by_five_hands(machine: Machine, town: Town) -> None:
         assert sup.post("/lots/1/seal", given).status_code == 303
         found = tasks(sup.get("/").text)
         assert "Due now" not in found and found["Done"][0][0] == "Seal the lots of draw 1"
+        assert found["Not yet"][0][::2] == ("See draw 1 held", "Nothing for you")
         assert sup.get("/lots/1/sealed.txt").text == text
         assert hal.browser.get("/draws/1/sealed.txt").text == text
         # (the rehearsal follows)

@@ -22,8 +22,10 @@ def office_fixture(tmp_path: pathlib.Path) -> Iterator[Site]:
     """The application after a round: three children have one name, and one has it in a longer one.
     """
     commands = [school("OAK", 1), school("ELM", 1, 9000)]
-    for at, name, wishes in ((1, "Zoë Abel-Moor", ["OAK"]), (2, ZOE, ["OAK", "ELM"]),
-                             (3, "Zoe ABEL", ["ELM"]), (4, ZOE, []), (5, "Bo Reed", ["OAK"])):
+    rows: list[tuple[int, str, list[str]]] = [
+        (1, "Zoë Abel-Moor", ["OAK"]), (2, ZOE, ["OAK", "ELM"]), (3, "Zoe ABEL", ["ELM"]),
+        (4, ZOE, []), (5, "Bo Reed", ["OAK"])]
+    for at, name, wishes in rows:
         made = child(at, 100 * at)
         made["name"] = name
         commands += [made, *([apply(at, wishes)] if wishes else [])]

@@ -114,8 +114,7 @@ def test_an_administrator_sees_who_cannot_sign_in(office: Site) -> None:
 def test_a_first_screen_has_what_its_person_did(office: Site) -> None:
     """And nobody else."""
     ada, ben = (office.browser(it, "administrator") for it in ("ada", "ben"))
-    ada.get("/people/")
-    ada.post("/people/", {"what": "add", "name": "newcomer", "role": "officer"})
+    office.parts.history.add("ada", "added", {"person": "newcomer", "role": "officer"})
     assert '<p class="what">Added</p>' in ada.get("/").text
     assert '<p class="what">Added</p>' not in ben.get("/").text
 

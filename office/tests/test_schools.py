@@ -277,7 +277,7 @@ REFUSED = [
     ("a PDF", b"%PDF-1.7 x", "the file is a PDF"),
     ("a page", b"<html><body>x", "the file is a web page"),
     ("a register", b"SQLite format 3\0" + b"x" * 90, "the file is a register"),
-    ("a torn workbook", b"PK\x03\x04 and no more", "the file is no workbook that can be read"),
+    ("a torn workbook", b"PK\x03\x04 and no more", "the file is no Excel file that can be read"),
     ("zero bytes", b"a\0b\n", "the file is no text"),
     ("other columns", b"child,name\n1,Ann\n", "must have the columns"),
     ("a column twice", b"school,code,name,pan,east,north,criteria\nA,A,B,1,1,1,\n", "school twice"),
@@ -651,7 +651,7 @@ def test_flags_have_words_on_each_screen(tmp_path: pathlib.Path) -> None:
     with office_over(tmp_path, [*commands, {**child(9, "Eve", 1), "flags": [3, 7]}]) as office:
         jane, bo = office.browser("jane"), office.browser("bo")
         page, other = Page(jane.get("/flags/").text), Page(bo.get("/flags/").text)
-        assert page.tables["What each flag means"][4][2:] == ["A, B", "1"]
+        assert page.tables["What each reason means"][4][2:] == ["A, B", "1"]
         words = "a \"medical\" <need> مدرسة"
         found = press(jane, "/flags/", page, "Store the words", **{"flag-3": f" {words} "})
         assert found.status_code == 303 and flags.words_of(office.parts.store) == {3: words}

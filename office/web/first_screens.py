@@ -40,6 +40,9 @@ def of_supervisor(
                           f"The office has begun it: {present.terms.what} for"
                           f" {weekday(present.terms.day)}. First the register is closed and"
                           " copied.", "Soon", LATER))
+    elif present and not tasks:
+        tasks.append(Task(f"See {present.terms.numbers} held", "The lots are sealed. The office"
+                          " rehearses, confirms and holds it.", "Nothing for you", LATER))
     elif not tasks and register is not None:
         tasks += lots_to_come(register, today)
     done = [Task(f"Seal the lots of {it.terms.numbers}",
@@ -82,7 +85,7 @@ def of_school(register: Register, code: str, why_hidden: str, today: datetime.da
     if not register.rounds:
         tasks.append(Task("See who is offered a place",
                           f"The offer day of the first round is {weekday(offer)}.",
-                          home.from_day(offer), LATER))
+                          home.from_day(offer) if today < offer else "Once it is held", LATER))
     elif today <= last:
         tasks.append(Task("See the last list", f"The waiting lists end on {weekday(last)}.",
                           home.from_day(last), LATER))

@@ -47,7 +47,7 @@ class OfCopies:
     def __init__(self, copies: Copies) -> None:
         self.copies = copies
         # by the copy and its file: of each school the children, and their positions
-        self.kept: dict[tuple[int, ...], dict[str, tuple[Numbers, ...]]] = {}
+        self.kept: dict[tuple[int, ...], dict[str, tuple[Numbers, Numbers]]] = {}
 
     def at(self, number: int | None, code: str) -> Positions | None:
         """Those of a school, or None where there is no copy, or it cannot be read."""
@@ -62,12 +62,13 @@ class OfCopies:
                 for old in list(self.kept)[:-KEPT]:
                     del self.kept[old]
                 self.kept[key] = {it: packed(positions(register, it)) for it in register.schools}
-            return dict(zip(*self.kept[key].get(code, ((), ()))))
+            there = self.kept[key].get(code)
+            return dict(zip(*there)) if there else {}
         except (OSError, Refused):
             return None
 
 
-def packed(found: Positions) -> tuple[Numbers, ...]:
+def packed(found: Positions) -> tuple[Numbers, Numbers]:
     """Children, and their positions."""
     return array.array("l", found.keys()), array.array("l", found.values())
 
@@ -195,16 +196,17 @@ def says(found: Sequence[Moved], present: Positions) -> str:
     """What the list did since the first of the draws of which a copy tells it, in a few sentences.
     """
     first = next((it for it in found if it.positions), None)
-    if first is None or not first.positions:
+    after = first.positions if first else None
+    if first is None or not after:
         return "No copy from after a round or a fill says who waited then: nothing is known of it."
-    waited = texts.count(len(first.positions), "child", "children")
+    waited = texts.count(len(after), "child", "children")
     said = (f"After {first.of.words}, {waited} waited. Since then"
             f" {texts.count(first.joined or 0, 'child has', 'children have')} joined the list, and"
             f" {texts.count(first.left or 0, 'has', 'have')} left it")
     offers = sum(it.of.offers for it in found[found.index(first) + 1:])
     said += f"; {texts.count(offers, 'place was', 'places were')} offered." if offers else "."
-    if both := first.positions.keys() & present.keys():
-        child = min(both, key=lambda it: (abs(first.positions[it] - MIDDLE), it))
-        said += (f" The child at position {first.positions[child]} then is at position"
+    if both := after.keys() & present.keys():
+        _, child = min((abs(after[it] - MIDDLE), it) for it in both)
+        said += (f" The child at position {after[child]} then is at position"
                  f" {present[child]} now.")
     return said

@@ -164,16 +164,16 @@ def list_page(
 ) -> str:
     """A list of a school: what of it is asked for, in order, one page of it."""
     found, name = choice(), "waiting" if title == "Waiting list" else "held"
-    met = {str(it.number): it.words for it in sorted(rows, key=lambda it: it.number or 0)
-           if it.number is not None}
+    met: dict[str, str] = {str(it.number): it.words for it in sorted(
+        rows, key=lambda it: it.number or 0) if it.number is not None}
+    asked: dict[str, Any] = {**found.address, "order": flask.request.args.get("order")}
     table = tables.table(columns, found.of(rows))
     shown = tables.paged(table.rows, flask.request.args.get("page", ""), tables.SHORT)
     return page(
         name, title, register, code, table=table, shown=shown, every=len(rows), choice=found,
         met=[("", "any"), *met.items()], places=[("", "any"), *places],
         address=tables.pages(f"schools.{name}", code=code, **found.address),
-        whole=flask.url_for(f"schools.{name}", code=code, page="all", **found.address,
-                            order=flask.request.args.get("order")))
+        whole=flask.url_for(f"schools.{name}", code=code, page="all", **asked))
 
 
 @screen.get("/<code>/waiting")
