@@ -673,7 +673,7 @@ def test_flags_have_words_on_each_screen(tmp_path: pathlib.Path) -> None:
         assert again.fields["flag-5"]["value"] == "twins"
         assert flags.words_of(office.parts.store) == {3: words}
         shown = jane.get("/activity/?who=jane").text
-        assert "named flags words 3 a &#34;medical&#34; &lt;need&gt; مدرسة before" in shown
+        assert "Reason 3: none → a &#34;medical&#34; &lt;need&gt; مدرسة" in shown
         shown = jane.get("/schools/").text
         assert "1. with a verified priority: a &#34;medical&#34; &lt;need&gt; مدرسة" in shown
         rita = office.browser("rita", "reader")
