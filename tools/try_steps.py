@@ -77,12 +77,14 @@ class Browser:
 
     def waited(self, path: str, *running: str) -> Answer:
         """A page, once nothing runs any more of what it shows."""
-        end = time.monotonic() + LONGEST_WAIT
+        end, pause = time.monotonic() + LONGEST_WAIT, 0.1
         found = self.get(path)
         while any(it in found.text for it in running or RUNNING):
             if time.monotonic() > end:
                 raise NotMade(f"{path} runs for more than {LONGEST_WAIT:.0f} seconds")
-            time.sleep(0.1)
+            # (each look costs as much as a page)
+            time.sleep(pause)
+            pause = min(1.0, 1.5 * pause)
             found = self.get(path)
         return found
 
