@@ -142,8 +142,8 @@ def test_children_to_look_at_are_found_by_group(town: Machine) -> None:
         assert "1 by a plan" in checked and "119 children take part." in checked
         assert 'href="?what=late#children"' in shown.page.text
         assert "Agrees The independent audit" in " ".join(shown.page.by_id["next"].split())
-        # (a page has a hundred rows; who may not read notes is not told who has one)
-        assert [len(shown.at(it).tables["By child"]) - 1 for it in ("", "page=2")] == [100, 29]
+        # (a page has fifty rows; who may not read notes is not told who has one)
+        assert [len(shown.at(it).tables["By child"]) - 1 for it in ("", "page=3")] == [50, 29]
         assert "With a note" not in office.browser("rita", "reader").get(f"/draws/{number}").text
         none = shown.children("what=none")
         assert none and all(it[2] == "none" and "Why not " in it[4] for it in none)
@@ -153,6 +153,8 @@ def test_children_to_look_at_are_found_by_group(town: Machine) -> None:
         assert said in shown.jane.get("/schools/ASH").text
         office.parts.draws.confirm(people.Person("jane", "officer"), number,
                                    version(office, number))
+        office.add("hal", "head")
+        assert "It waits for a head of the office: hal." in shown.at("").by_id["next"]
         office.parts.draws.send(HAL, number, version(office, number))
         assert said not in shown.jane.get("/children/1").text
 

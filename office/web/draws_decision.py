@@ -3,7 +3,7 @@ import dataclasses
 
 from .draws_second import Second
 from .draws_terms import (
-    GIVEN_UP, LOTS, OPENED, REHEARSED, RESTORED, SEALED, SENDING, STEPS, Draw,
+    CLOSED, GIVEN_UP, LOTS, OPENED, REHEARSED, RESTORED, SEALED, SENDING, STEPS, Draw,
 )
 from .draws_words import parties
 
@@ -29,7 +29,7 @@ class Decision:
 class Known:
     """What decides it: the name of the draw; whether the register does not answer; the state to
     which the next step leads, or ""; the request with the button of that; why this person does not
-    do it, or ""; who may confirm it; and who may seal its lots.
+    do it, or ""; who may confirm it; who may seal its lots; and the heads of the office.
     """
 
     name: str
@@ -40,6 +40,7 @@ class Known:
     why_not: str
     second: Second | None
     sealers: tuple[str, ...]
+    heads: tuple[str, ...]
 
 
 def decision(draw: Draw, known: Known) -> Decision:
@@ -64,6 +65,8 @@ def decision(draw: Draw, known: Known) -> Decision:
         said += waits(known.sealers, "the supervisor")
     if known.why_not:
         said.append(known.why_not)
+    if known.why_not and known.state in (CLOSED, SENDING):
+        said += waits(known.heads, "a head of the office")
     if draw.state == REHEARSED and known.second:
         said += waits(tuple(known.second.may), "a second person")
     action = "" if known.why_not else known.action
@@ -94,5 +97,5 @@ def wrong(draw: Draw, known: Known) -> Decision:
             f"It cannot go on: cancel {known.name}, and tell IT support.",),
             is_to_cancel=True)
     return Decision("The register is not right. Inform no family.", (
-        f"Undo {known.name}: the copy from before it is restored. And tell IT"
-        " support.",), is_to_cancel=True)
+        f"Undo {known.name}: the copy from before it is restored. And tell IT support.",),
+        is_to_cancel=True)

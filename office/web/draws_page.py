@@ -126,7 +126,7 @@ def decision_of(found: Seen) -> Decision:
     return decision(draw, Known(
         found.name, found.register is None, found.state, action_of(draw, found.state),
         button_of(found), why_not(draw, found.state, found.register), second_of(draw),
-        sealers_of(draw)))
+        sealers_of(draw), tuple(who_may(DRAW))))
 
 
 def not_second(draw: Draw) -> str:

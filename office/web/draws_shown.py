@@ -20,7 +20,7 @@ from .home import RANK_KINDS, RANKS, share
 from .tables import Column
 
 # so many children are on a page of the screen
-PAGE = 100
+PAGE = 50
 # a flow has so many schools, and all others as one
 MOST_FLOW = 16
 Group = Callable[[OfChild], bool]
