@@ -13,11 +13,14 @@ class Made:
     def __init__(self) -> None:
         self.kept: dict[str, tuple[Hashable, object, Any]] = {}
 
-    def of(self, kind: str, key: Hashable, register: Register, make: Callable[[], One]) -> One:
-        """What was made by this key of the same register, or what is made now."""
+    def of(
+        self, kind: str, key: Hashable, register: Register, make: Callable[..., One],
+        *more: object,
+    ) -> One:
+        """What was made by this key of the same register, or what is made now of that and more."""
         # (a register that is read anew and shows the same has the same children)
         found = self.kept.get(kind)
         if found is None or found[0] != key or found[1] is not register.children:
-            found = self.kept[kind] = (key, register.children, make())
+            found = self.kept[kind] = (key, register.children, make(register, *more))
         value: One = found[2]
         return value

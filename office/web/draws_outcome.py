@@ -44,6 +44,10 @@ class OfChild:
         return texts.nth(self.listed.index(self.has) + 1) if self.has in self.listed else ""
 
 
+# the places of a school, as a rehearsal keeps them
+PLACES = ("pan", "plans", "vacancies", "waiting", "taken")
+
+
 @dataclasses.dataclass(frozen=True)
 class OfSchool:
     """What the draws did at a school: how many new places, those of them for children who move from
@@ -119,9 +123,10 @@ def by_school(
     """The outcomes of all schools of a register, with their places as the rehearsal had them."""
     has = collections.Counter((it.has, it.what) for it in rows)
     left = collections.Counter(it.had for it in rows if it.what == MOVE)
-    return [OfSchool(
-        code, has[code, OFFER] + has[code, MOVE], has[code, MOVE], has[code, KEPT], left[code],
-        *(places or {}).get(code, ())) for code in sorted(register.schools)]
+    found = [OfSchool(code, has[code, OFFER] + has[code, MOVE], has[code, MOVE],
+                      has[code, KEPT], left[code]) for code in sorted(register.schools)]
+    return [dataclasses.replace(it, **dict(zip(PLACES, (places or {}).get(it.school, ()))))
+            for it in found]
 
 
 def late(register: Register, draw: Draw) -> list[int]:
@@ -136,7 +141,8 @@ def whole(register: Register, draw: Draw, flags: Mapping[int, str]) -> Whole:
     """The outcome of a draw that was rehearsed."""
     # (a rehearsal of an earlier release did not keep all of it)
     kept = draw.rehearsal
-    last = {code: Cutoff(*it, 0) for code, it in kept.get("last", {}).items()}
+    last = {code: Cutoff(number, metres, 0)
+            for code, (number, metres) in kept.get("last", {}).items()}
     rows = by_child(kept["outcomes"], kept.get("accepted_ended", []))
     late_rows = [OfChild(draw.terms.first, it, "", "", LATE) for it in late(register, draw)]
     by_lot = {(number, child) for number, child in kept.get("by_lot", [])}

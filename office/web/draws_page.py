@@ -168,20 +168,20 @@ def outcome_of(draw: Draw, register: Register | None) -> Whole | None:
         return None
     words = flags.present()
     key = draw.number, draw.version, tuple(sorted(words.items()))
-    return parts().draws.made.of("outcome", key, register, lambda: whole(register, draw, words))
+    return parts().draws.made.of("outcome", key, register, whole, draw, words)
 
 
 def flow_of(draw: Draw, register: Register, found: Whole) -> dict[str, Any]:
     """The flow of a round from first preferences."""
-    return parts().draws.made.of("flow", (draw.number, draw.version), register,
-                                 lambda: draws_shown.flow(register, found))
+    return parts().draws.made.of("flow", (draw.number, draw.version), register, draws_shown.flow,
+                                 found)
 
 
 def grouped_of(draw: Draw, register: Register, found: Whole) -> Grouped:
     """Its children in groups. (Who may not read notes is not told who has one.)"""
     notes = frozenset(parts().notes.children() if person().may(NOTES) else ())
     return parts().draws.made.of(f"groups {bool(notes)}", (draw.number, draw.version, notes),
-                                 register, lambda: draws_shown.grouped(found, register, notes))
+                                 register, draws_shown.grouped, found, notes)
 
 
 def shown_outcome(draw: Draw, register: Register, found: Whole) -> dict[str, Any]:
@@ -205,7 +205,7 @@ def changes_of(draw: Draw, register: Register | None) -> list[Change] | None:
     last = next((it.number for it in reversed(entries) if it.what in (SENDS, ANSWER, SETTLED)), 0)
     return parts().draws.made.of(
         "changes", (draw.number, last), register,
-        lambda: draws_changes.changes(parts().history, register, draw.terms))
+        lambda it: draws_changes.changes(parts().history, it, draw.terms))
 
 
 def verdicts_of(
@@ -215,8 +215,8 @@ def verdicts_of(
     if draw.state != REHEARSED or found is None or register is None:
         return [], []
     same = parts().draws.made.of(
-        "same", (draw.number, draw.version), register,
-        lambda: draws_verdict.unchanged(register, parts().copies, draw))
+        "same", (draw.number, draw.version), register, draws_verdict.unchanged, parts().copies,
+        draw)
     known = draws_verdict.Known(
         found, draws_again.given_up(parts().draws, draw), changes or [], same)
     return (draws_verdict.to_look_at(draw, known),

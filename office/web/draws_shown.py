@@ -156,7 +156,7 @@ class Grouped:
     texts: list[str]
 
 
-def grouped(whole: Whole, register: Register, notes: Collection[int]) -> Grouped:
+def grouped(register: Register, whole: Whole, notes: Collection[int]) -> Grouped:
     """The rows in their groups, with a mark of those children that have a note."""
     rows = [dataclasses.replace(it, marks=(*it.marks, NOTE)) if it.child in notes else it
             for it in whole.children]
