@@ -137,8 +137,8 @@ def test_two_weeks_after_the_offers(tmp_path: pathlib.Path) -> None:
                    " applications, of which 40 late", "for 1 March 2027: "):
             assert it in page
         assert "held, and open for all" in head.get("/draws/")
-        activity = head.get("/activity/?day=2027-03-12&person=owen")
-        assert "12 March 2027, 10:15" in activity and "accept child" in activity
+        activity = head.get("/activity/?since=12/3/2027&until=12/3/2027&who=owen")
+        assert "12 March 2027, 10:15" in activity and "Accepted the place of" in activity
 
         officer, _ = found.signed_in(ROLES[1])
         schools = officer.get("/schools/")
