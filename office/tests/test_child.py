@@ -58,7 +58,7 @@ def test_a_child_is_shown_with_its_place_its_list_and_its_data(office: Site) -> 
         "The child was offered a place at Beta on 3 March 2025. There is no answer yet.")
     assert page.by_id["deadline"] == "A reminder is due from 18 March 2025 on."
     assert page.tables["list"][1:] == [
-        ["1. A Alpha", "waits, position 1 of 2", "ranked by distance alone 300 metres",
+        ["1. A Alpha", "Waiting list: 1 of 2", "ranked by distance alone 300 metres",
          "ranked by distance alone 200 metres", "The last child admitted lives 100 metres nearer."],
         ["2. B Beta", "offered", "ranked by distance alone 300 metres",
          "ranked by distance alone 300 metres", ""]]

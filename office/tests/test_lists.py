@@ -223,8 +223,8 @@ def test_a_class_is_in_words_beside_its_number(tmp_path: pathlib.Path) -> None:
         flags.change(office.parts.store, "{}", {7: "medical need"}, lambda _: None)
         browser = office.browser("rita", "reader")
         found = listed(browser, "list")
-        at = found.heads.index("Class")
-        assert found.heads[at + 1] == "Criterion"
+        at = found.heads.index("Criterion no.")
+        assert found.heads[at + 1] == "Criterion met"
         words = [["1", "with a verified priority: medical need"],
                  ["2", "with a brother or sister at the school"],
                  ["3", "meeting no criterion of the school"]]
@@ -233,7 +233,7 @@ def test_a_class_is_in_words_beside_its_number(tmp_path: pathlib.Path) -> None:
         rows = list(csv.reader(io.StringIO(text)))
         assert [it[at:at + 2] for it in rows] == [["class", "criterion"], words[0]]
         for found in (listed(browser, "child", child="1"), listed(browser, "last-offered")):
-            at = found.heads.index("Class")
+            at = found.heads.index("Criterion no.")
             assert found.rows[0][at:at + 2] == ["0", "looked after, or previously looked after"]
         jane = office.browser("jane", "officer")
         page = jane.get(jane.get("/letters/from-list/list?words=medical").location)

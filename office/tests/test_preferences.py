@@ -98,7 +98,7 @@ def test_a_late_application_waits_after_the_round(after: Site) -> None:
     assert "What was held stays as it is." in page.by_id["becomes"]
     found = press(jane, PATH, page, BUTTON)
     listed = Page(jane.get(found.location).text).tables["list"][1:]
-    assert [it[:2] for it in listed] == [["1. A Alpha", "waits, position 1 of 3"]]
+    assert [it[:2] for it in listed] == [["1. A Alpha", "Waiting list: 1 of 3"]]
 
 
 WRONG: list[tuple[dict[str, str], str, str]] = [

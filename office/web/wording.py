@@ -108,7 +108,7 @@ def state(found: Preference, held: Place | None) -> str:
     if found.state == model.HELD and held:
         return KINDS[held.kind]
     if found.state == model.WAITS:
-        return f"waits, position {found.position:,} of {found.of:,}"
+        return f"Waiting list: {found.position:,} of {found.of:,}"
     return STATES[found.state]
 
 

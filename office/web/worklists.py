@@ -32,6 +32,9 @@ TYPED = {"day": "as 17 March 2025 or 17/3/2025", "child": "", "text": "in any sp
 CHILD, SCHOOLS = "child", ("school", "from", "to", "allotted")
 # the column of a class at the school of a row, and the one after it that has it in words
 CLASS, SCHOOL, CRITERION = "class", "school", "criterion"
+# the columns whose heads on the screen are others than their names in files
+HEADS = {CLASS: "Criterion no.", CRITERION: "Criterion met", "metres": "Distance (m)",
+         "came": "Result"}
 
 
 @dataclasses.dataclass(frozen=True)
@@ -46,6 +49,11 @@ class Option:
     given: str
     words: str = ""
     wrong: str = ""
+
+
+def head(column: str) -> str:
+    """The head of a column on the screen."""
+    return HEADS.get(column) or column.capitalize()
 
 
 def title(name: str) -> str:

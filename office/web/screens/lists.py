@@ -138,7 +138,7 @@ def page(
         "list.html", name=found.name, title=worklists.title(found.name),
         purpose=worklists.purpose(found.name), options=found.options, is_typed=worklists.TYPED,
         choice=found.choice, wrong=found.wrong, address=found.address, columns=columns,
-        states=[(it, it) for it in states], orders=[(it, it.capitalize()) for it in columns],
+        states=[(it, it) for it in states], orders=[(it, worklists.head(it)) for it in columns],
         has_children=bool(found.all_rows) and worklists.CHILD in found.all_rows[0],
         has_schools=bool(found.all_rows) and list_choice.has_schools(found.all_rows),
         schools=worklists.choices(found.register, "school"), heads=heads(found, header, shown.rows),
@@ -168,7 +168,7 @@ def heads(
         way = {"order": name, **({"down": "yes"} if is_next_down else {})}
         values: dict[str, Any] = {**others, **way}
         kind = "number" if any(isinstance(row[at], int) for row in rows) else ""
-        made.append({"name": name, "title": name.capitalize(), "kind": kind,
+        made.append({"name": name, "title": worklists.head(name), "kind": kind,
                      "href": flask.url_for("lists.one", name=found.name, **values)})
     return made
 
