@@ -155,7 +155,7 @@ SHEETS: dict[str, tuple[Callable[[pathlib.Path], object], str]] = {
     ),
     "flags.csv": (
         text(HEADER + ROW.replace("no,,", f"no,{'0' * 32_000}x,")),
-        "numbers of flags from 0 to 15",
+        "numbers of verified reasons from 0 to 15",
     ),
     "names.csv": (
         text(HEADER.replace("north", "n" * 32_000) + ROW),

@@ -66,7 +66,7 @@ def reminders_go_on(lived: Room) -> None:
 def to_restore(lived: Room) -> None:
     """A restore is asked for."""
     hal = lived.person("hal")
-    hal.get("/draws/3/cancel").press("Close for all others, to restore copy ")
+    hal.get("/draws/3/cancel").press("Pause recording for everyone, to restore copy ")
     hal.press("Ask to restore copy ")
     lived.person("jane").get(hal.path)
 
@@ -79,7 +79,7 @@ def restore(lived: Room) -> None:
 def restore_goes_on(lived: Room) -> None:
     """What is left of it is sent, and the register is opened."""
     jane = lived.person("jane").get("/restores/1")
-    for text in ("Go on: send again what was ticked", "Open for all"):
+    for text in ("Go on: send again what was ticked", "Resume recording"):
         if text in jane.page.buttons():
             jane.press(text)
 

@@ -201,7 +201,7 @@ def test_what_differs_stays_closed(small: Machine, monkeypatch: pytest.MonkeyPat
         for who in (hal, jane):
             for path in ("/", f"/draws/{number}"):
                 page = who.browser.get(path).text
-                assert "Closed for draw 1 by hal" in page
+                assert "Recording is paused for draw 1 by hal" in page
             assert ">Cancel this round</a>" in page
             assert "Ask a second person to undo round 1</button>" in who.browser.get(
                 f"/draws/{number}/cancel").text
@@ -241,7 +241,7 @@ def test_a_look_goes_on_once(small: Machine, monkeypatch: pytest.MonkeyPatch) ->
             other.join()
             for _ in range(2):
                 page = jane.get(f"/draws/{number}")
-                assert page.status_code == 200 and ">Open for all</button>" in page.text
+                assert page.status_code == 200 and ">Resume recording</button>" in page.text
                 assert "What follows by itself was not done: An error in the appl" in page.text
             assert calls == [1]
         seen = {"seen": str(version(office, number))}
@@ -298,7 +298,7 @@ def test_long_work_says_that_it_runs(small: Machine, monkeypatch: pytest.MonkeyP
         may_end.set()
         assert work.is_over.wait(600)
         page = hal.browser.get(f"/draws/{number}").text
-        assert "the register is open for all again" in page and "data-running" not in page
+        assert "everybody can record again" in page and "data-running" not in page
         assert [it.who for it in office.parts.draws.get(number).done[-2:]] == ["hal", "hal"]
 
 

@@ -252,7 +252,7 @@ def workbook(rows: list[list[object]]) -> bytes:
 
 
 def test_lots_come_from_a_sheet(small: Machine) -> None:
-    """The sheet that the page gives, filled in a spreadsheet: as a workbook and as CSV."""
+    """The sheet that the page gives, filled in a spreadsheet: as an Excel file and as CSV."""
     with small.office() as office:
         number = begun(office)
         brought(office, number, "lots")
@@ -310,7 +310,7 @@ WRONG_SHEETS = {
     "a register": (b"SQLite format 3\0" + bytes(200), "a register, or another database"),
     "no archive": (b"PK\x03\x04" + bytes(200), "the file is no workbook that can be read"),
     "nothing": (b"", "the file has no lot of this draw"),
-    "an old workbook": (b"\xd0\xcf\x11\xe0" + bytes(200), "a workbook of the older kind"),
+    "an old workbook": (b"\xd0\xcf\x11\xe0" + bytes(200), "an Excel file of the older kind"),
     "too many columns": (b"x," * 100_000, "has too many columns"),
 }
 

@@ -80,8 +80,8 @@ def wanted(state: str, of: str, how: str, who: str) -> set[str]:
     other one nothing; what was decided by two goes on for both.
     """
     is_steady = who != of
-    goes_on = {"closed": "Make the copy", "copied": "Give the pairs to the supervisor",
-               "sealed": "Rehearse", "sending": "Audit round 1", "audited": "Open for all"}
+    goes_on = {"closed": "Make the copy", "copied": "Ask the supervisor for the lots",
+               "sealed": "Rehearse", "sending": "Audit round 1", "audited": "Resume recording"}
     found = {goes_on[state]} if state in goes_on else set()
     if state in UNSEALED:
         found.add("Cancel round 1")
@@ -89,7 +89,7 @@ def wanted(state: str, of: str, how: str, who: str) -> set[str]:
         found.add("Cancel round 1 alone" if state in UNSENT
                   else "Undo round 1 alone")
     if state == "begun" and who == "hal":
-        found.add("Close for all others")
+        found.add("Pause recording for everyone")
     if state == "rehearsed" and who == "jane" and is_steady:
         found.add("Confirm round 1")
     if state == "confirmed" and who == "hal":

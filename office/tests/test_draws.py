@@ -227,7 +227,7 @@ def test_a_round_by_five_hands(machine: Machine, town: Town) -> None:
         assert office.parts.desk.now().draws == []
         # (the audit follows, and the opening)
         assert hal.step(1, "send").status_code == 303
-        assert "the register is open for all again." in hal.browser.get("/draws/1").text
+        assert "everybody can record again." in hal.browser.get("/draws/1").text
         assert "is in progress" not in jane.browser.get("/").text
         register = office.parts.desk.now()
         assert register.outcomes[1] == wanted
@@ -434,13 +434,15 @@ def test_nobody_else_records_while_it_is_closed(small: Machine) -> None:
             waiting(office, number)
             found = portal.command(command)
             assert found.status_code == 503
-            assert re.fullmatch(r"Closed for draw 1 by hal since \d\d:\d\d\.", found.json["reason"])
+            assert re.fullmatch(r"Recording is paused for draw 1 by hal since \d\d:\d\d\.",
+                                found.json["reason"])
             rows = portal.post("/import", "child\n", "text/csv")
-            assert rows.status_code == 503 and "Closed for draw 1" in rows.json["reason"]
+            assert rows.status_code == 503
+            assert "Recording is paused for draw 1" in rows.json["reason"]
         for screen in ("/", "/schools/", "/applications/", "/applications/commit/", "/find",
                        "/children/1", "/answers/", "/draws/", "/lists/", "/flags/", "/activity/"):
             text = jane.get(screen).text
-            assert text.count("Closed for draw 1 by hal since") == 1, screen
+            assert text.count("Recording is paused for draw 1 by hal since") == 1, screen
             assert text.count(f'href="/draws/{number}">To draw 1</a>') == 1, screen
         assert "To draw 1<" not in jane.get(f"/draws/{number}").text
         assert "Closed for" not in office.browser("sup", "supervisor").get("/lots/").text
@@ -720,7 +722,7 @@ def test_a_crash_between_fills(
         draw = office.parts.draws.get(number)
         held = {"before the second": 1}.get(when, 2)
         assert draw.state == "sending" and len(office.parts.desk.now().draws) == 1 + held
-        assert "Closed for draws 2 to 4" in office.parts.desk.closed()
+        assert "Recording is paused for draws 2 to 4" in office.parts.desk.closed()
         page = office.browser("rita", "reader").get(f"/draws/{number}").text
         assert f"the register has {held} of 3 draws" in page and "go on, and hold the" in page
         with pytest.raises(Refused, match="not all is held yet"):
@@ -728,7 +730,7 @@ def test_a_crash_between_fills(
         assert office.parts.draws.get(number).state == "sending"
         # (who may confirm a draw has it go on by looking)
         page = Person(office, "jane", "officer").browser.get(f"/draws/{number}").text
-        assert "the register is open for all again." in page
+        assert "everybody can record again." in page
         assert office.parts.draws.get(number).state == "opened"
         assert [it.number for it in office.parts.desk.now().draws] == [1, 2, 3, 4]
         sends = [it for it in office.parts.history.entries if it.what == "sends"]

@@ -61,7 +61,8 @@ def test_an_application_in_time_is_asked_by_name_and_recorded_once(before: Site)
     assert "cannot be changed" in page.by_id["becomes"] and applied(before, 5) is None
     found = press(jane, PATH, page, BUTTON)
     assert found.status_code == 303 and applied(before, 5) == ("2024-10-31", ["B", "A"])
-    assert Page(jane.get(found.location).text).said().startswith("Recorded: application of 31 Oct")
+    assert Page(jane.get(found.location).text).said().startswith(
+        "Recorded: entered an application of 31 Oct")
     again = press(jane, PATH, page, BUTTON)
     assert again.status_code == 409 and "jane recorded an application" in Page(again.text).said()
     assert sum(it.what == "sends" for it in before.parts.history.entries) == 1

@@ -188,7 +188,7 @@ def test_a_copy_is_restored_and_what_is_ticked_is_sent_again(small: Machine) -> 
             assert it in lost, lost
         assert "<b>" not in page.replace("&lt;b&gt;", "")
         # nobody else records anything, holds a draw, or restores
-        said = "Closed for the restore of copy 1 by hal since"
+        said = "Recording is paused for the restore of copy 1 by hal since"
         assert said in room.jane.get("/").text
         assert office.parts.desk.send(JANE, RAISED).said.startswith(said)
         for path in ("/draws/", "/copies/1/restore"):
@@ -208,7 +208,7 @@ def test_a_copy_is_restored_and_what_is_ticked_is_sent_again(small: Machine) -> 
         page = room.hal.get(f"/restores/{number}").text
         assert "stored" in text_of(page, "since") and "It was not done" in text_of(page, "since")
         assert office.parts.desk.closed()
-        assert ("Can be taken back by restoring copy 2, which has what was there before"
+        assert ("Can be undone by restoring copy 2, which has what was there before"
                 in " ".join(re.sub("<[^>]*>", "", page.replace("</dt>", " ")).split()))
         assert room.press(room.hal, number, "open").status_code == 303
         assert not office.parts.desk.closed()
@@ -655,7 +655,8 @@ def test_a_pile_that_is_being_recorded_stops_and_keeps_its_rest(
         piles.send_all(JANE, piles.of("jane"))
         pile = piles.of("jane")
         assert [it.state for it in pile] == ["done", "waits", "waits"]
-        assert pile[1].said.startswith("Closed for the restore of copy 1 by hal since")
+        assert pile[1].said.startswith(
+            "Recording is paused for the restore of copy 1 by hal since")
         assert not pile[2].said and piles.recorded["jane"] == (1, 3)
         rows = found.sending.rows(found.get(1))
         assert [found.sending.entry(it).about["command"]["child"] for it in rows] == [1]
@@ -676,7 +677,7 @@ def test_a_draw_with_a_wrong_day_is_held_again_with_its_lots(small: Machine) -> 
         other = office.parts.history.entries[-6].number
         opened = Page(room.hal.get(f"/draws/{number}/cancel").text)
         found = press(room.hal, "/copies/1/restore", opened,
-                      "Close for all others, to restore copy 1")
+                      "Pause recording for everyone, to restore copy 1")
         restore = int(found.headers["Location"].rsplit("/", 1)[1])
         rows = office.parts.restores.sending.rows(office.parts.restores.get(restore))
         entries = {office.parts.history.entries[it.entry - 1].about["command"]["cmd"]: it
@@ -842,7 +843,7 @@ def test_an_officer_ends_a_restore_when_the_head_cannot(away: Site) -> None:
     """
     number, jane = in_state(away, "restored"), away.browser("jane")
     page = Page(jane.get(f"/restores/{number}").text)
-    found = press(jane, f"/restores/{number}", page, "Open for all, and send no more now")
+    found = press(jane, f"/restores/{number}", page, "Resume recording, and send no more now")
     assert found.status_code == 303 and away.parts.restores.get(number).state == "opened"
     assert not away.parts.desk.closed()
     number = in_state(away, "closed")
@@ -851,7 +852,7 @@ def test_an_officer_ends_a_restore_when_the_head_cannot(away: Site) -> None:
     assert jane.post(f"/restores/{number}/second/ask", seen).status_code == 404
     assert jane.post(f"/restores/{number}/second/give-up", {"seen": "x"}).status_code == 400
     page = Page(jane.get(f"/restores/{number}").text)
-    found = press(jane, f"/restores/{number}", page, "Give up the restore of copy 1")
+    found = press(jane, f"/restores/{number}", page, "Cancel the restore of copy 1")
     assert found.status_code == 303 and away.parts.restores.get(number).state == "given up"
     rita = away.browser("rita", "reader")
     assert rita.post(f"/restores/{number}/second/give-up", seen).status_code == 403

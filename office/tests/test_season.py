@@ -159,9 +159,9 @@ def test_the_first_screen_says_how_the_season_stands(office: Site) -> None:
     assert office.parts.desk.send(HAL, command).is_done
     office.browser("bo")
     rita = office.browser("rita", "reader")
-    office.parts.desk.closed = lambda: "Closed for draw 2 by hal since 10:02."
+    office.parts.desk.closed = lambda: "Recording is paused for draw 2 by hal since 10:02."
     page = Page(rita.get("/").text)
-    assert page.text.count("Closed for draw 2 by hal since 10:02.") == 1
+    assert page.text.count("Recording is paused for draw 2 by hal since 10:02.") == 1
     assert "bo, rita" in page.text
     text = html.unescape(re.sub(r"<[^>]*>|\s+", " ", page.text))
     for words in ("Applications 4", "Offers not answered 1", "Vacant places 1",
@@ -233,7 +233,7 @@ WRONG = [
 
 @pytest.mark.parametrize("path, field", WRONG)
 def test_a_wrong_option_is_said_at_its_field(office: Site, path: str, field: str) -> None:
-    """And there is no list, nor a workbook."""
+    """And there is no list, nor an Excel file."""
     rita = office.browser("rita", "reader")
     found = rita.get(f"/lists/{path}")
     page = Page(found.text)

@@ -95,7 +95,7 @@ class Draws(DrawStore):
             register = self.unchanged(draw)
             pairs = self.pairs(draw)
             if pairs != draw.terms.pairs_in(register):
-                raise Refused("the register says other pairs than it shows. " + GIVE_UP)
+                raise Refused("the register draws lots for others than it shows. " + GIVE_UP)
             fills = draw.terms.fills
             see_accepted(self.copies.path(draw.before or 0), draw.terms,
                          {it: [at] * fills for at, it in enumerate(pairs, 1)})
@@ -112,7 +112,7 @@ class Draws(DrawStore):
         """The pairs of the next draw, as the register says them now."""
         text = self.desk.sender.read(draw.terms.path).decode("ascii", "replace")
         if not text:
-            raise Refused("the register has no pair for which a lot is drawn")
+            raise Refused("the register has nobody for whom a lot is drawn")
         return lot_sheets.pairs_in("the register", text, draw.terms.school)
 
     def unchanged(self, draw: Draw) -> Register:
@@ -200,7 +200,7 @@ class Draws(DrawStore):
                 if draw.state == CONFIRMED:
                     if count:
                         raise Refused("the register has the draw already, and it was not held"
-                                      " from here: tell whoever maintains the system")
+                                      " from here: tell IT support")
                     self.record(who, "held", draw)
                     with self.moving(draw, who, SENDING):
                         pass
@@ -382,10 +382,10 @@ def see_goes_on(draw: Draw) -> None:
     """Refuses to go on with a draw that is to be given up or undone."""
     if draw.give_up_by:
         raise Refused(f"{draw.give_up_by} has asked to cancel the draw: that is to be confirmed or"
-                      " taken back first")
+                      " undone first")
     if draw.restore_by:
         raise Refused(f"{draw.restore_by} has asked to restore the copy from before the draw: that"
-                      " is to be confirmed or taken back first")
+                      " is to be confirmed or undone first")
     if draw.state == SEALED and draw.wrong:
         raise Refused(f"the rehearsal has found a difference. {GIVE_UP}")
 

@@ -8,7 +8,7 @@ from .draws_terms import OPENED, SENT, UNSEALED, UNSENT_SEALED, Draw
 # the requests that cancel it, or take that back
 ALL = ("give-up", "ask-give-up", "keep-on", "confirm-give-up", "give-up-alone", "ask-restore",
        "keep", "restore", "restore-alone")
-NOTHING = "Nothing of it was recorded. Afterwards the register is open for all again."
+NOTHING = "Nothing of it was recorded. Afterwards everybody can record again."
 LOTS = ("The lots are not in the next one: the supervisor enters the same ones again, with what was"
         " wrong in them corrected.")
 BACK = ("The register becomes what it was before. As nobody else could record anything since,"

@@ -43,7 +43,7 @@ class Drafts:
         """A draw and its lots."""
         draw = self.draws.get(number)
         if not draw.who(LOTS):
-            raise Refused("there are no pairs of this draw yet")
+            raise Refused("there is nobody yet for whom lots are drawn")
         return draw, sheet_of(self.store, number, draw.terms)
 
     def to_change(self, who: Person, number: int) -> tuple[Draw, Sheet]:

@@ -21,7 +21,7 @@ from .people import CONFIRM, Person
 LOG = logging.getLogger(__name__)
 # a request waits so long for the end of what it has begun, and then says that it runs
 WAIT_SECONDS = 4.0
-BROKEN = "an error in the application, which its log has. Tell whoever maintains the system"
+BROKEN = "an error in the application, which its log has. Tell IT support"
 
 
 @dataclasses.dataclass

@@ -100,7 +100,7 @@ class DrawStore(StepStore[Draw]):
         if draw is None or draw.state not in CLOSING:
             return ""
         done = draw.came_to(CLOSED)
-        return f"Closed for {draw.terms.numbers} by {done.who} since {local(done.at)}."
+        return f"Recording is paused for {draw.terms.numbers} by {done.who} since {local(done.at)}."
 
     @contextlib.contextmanager
     def moving(

@@ -172,12 +172,12 @@ def of_rows(row: sqlite3.Row, steps: list[sqlite3.Row]) -> Draw:
 
 # each state as an office reads it; and what runs from it, where something does
 IN_WORDS = {
-    BEGUN: "begun, and nothing is closed", CLOSED: "closed for all others",
+    BEGUN: "begun, and nothing is closed", CLOSED: "recording is paused",
     COPIED: "closed, and the register is copied", LOTS: "closed, and the supervisor draws the lots",
     SEALED: "closed, and the lots are sealed",
     REHEARSED: "closed, and rehearsed: not confirmed yet",
     CONFIRMED: "closed, and confirmed: not held yet", SENDING: "closed, and being held",
-    AUDITED: "held, and the audit agrees", OPENED: "held, and open for all",
+    AUDITED: "held, and the audit agrees", OPENED: "held, and recording goes on",
     GIVEN_UP: "cancelled: nothing was recorded", RESTORED: "undone: the copy was restored",
 }
 # the same in one to three words, and how it looks
@@ -189,8 +189,8 @@ TAGS = {
     GIVEN_UP: ("Cancelled", "plain"), RESTORED: ("Undone", "bad"),
 }
 RUNS = {
-    BEGUN: "the register is closed for all others", CLOSED: "the register is copied",
-    COPIED: "the pairs are given to the supervisor", SEALED: "the draw is rehearsed",
+    BEGUN: "recording is paused", CLOSED: "the register is copied",
+    COPIED: "the supervisor is asked for the lots", SEALED: "the draw is rehearsed",
     CONFIRMED: "the draw is held", SENDING: "the draw is held, and then audited",
     AUDITED: "the register is opened",
 }
@@ -208,16 +208,16 @@ class Step:
 
 STEPS = (
     Step(BEGUN, "Begin", "Nothing is closed yet."),
-    Step(CLOSED, "Close for all others",
+    Step(CLOSED, "Pause recording for everyone",
          "Nobody can record anything from then on until the register is open again. All can still"
          " read, and what somebody has typed stays. The next two steps follow by themselves.",
-         "Close for all others"),
+         "Pause recording for everyone"),
     Step(COPIED, "Copy the register",
          "For some seconds nobody can read it. The copy can be restored if something goes wrong.",
          "Make the copy"),
     Step(LOTS, "List the lots for the supervisor",
          "A lot is drawn for each child at each school where it takes part.",
-         "Give the pairs to the supervisor"),
+         "Ask the supervisor for the lots"),
     Step(SEALED, "Draw and seal the lots",
          "The supervisor draws and seals them on the screen of lots. Nobody changes them after"
          " that, and the rehearsal follows by itself."),
@@ -230,5 +230,5 @@ STEPS = (
     Step(AUDITED, "Audit once more",
          "The register is copied, and audited against the copy from before and the rehearsal. If"
          " they agree it is opened by itself.", "Audit"),
-    Step(OPENED, "Open for all", "Everybody can record again.", "Open for all"),
+    Step(OPENED, "Resume recording", "Everybody can record again.", "Resume recording"),
 )

@@ -84,7 +84,7 @@ def doubtful(draw: Draw, found: Known) -> Iterator[Verdict]:
     ended = sum(ENDS in it.marks for it in found.outcome.children)
     if ended:
         said = texts.count(ended, "child gives up a place that it had accepted",
-                           "children give up a place that they had accepted")
+                           "children lose a place that they had accepted")
         yield Verdict("Look at this", WARN, f"{said}: they move to a school higher on their list.",
                       "Show them", "?what=ends#children")
     outside = [it.school for it in found.outcome.schools if not it.is_within]

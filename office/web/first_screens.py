@@ -32,7 +32,7 @@ def of_supervisor(
     """
     tasks = [Task(f"Draw the lots of {it.terms.numbers}",
                   f"{sentence(it.terms.what)[:-1]} for {weekday(it.terms.day)}. The register is"
-                  " closed for all others until they are sealed and the draw is held.",
+                  " recording is paused until they are sealed and the draw is held.",
                   "Waits for you", DUE, "lots.one", {"number": str(it.number)})
              for it in draws if it.state == LOTS]
     if present and not present.who(LOTS):

@@ -168,7 +168,7 @@ def of_answers(register: Register, today: datetime.date) -> Iterator[Task]:
 def of_work(known: Known, register: Register) -> Iterator[Task]:
     """What somebody has begun and not finished: answers, letters, applications."""
     if known.answers:
-        yield Task("Record the answers in your pile", "They are entered, and not recorded yet.",
+        yield Task("Record the answers in your batch", "They are entered, and not recorded yet.",
                    f"{known.answers:,} waiting", WAITING, "answers.show")
     for number, many in known.untold.items():
         whom = PART if register.draws[number - 1].round == 1 else OFFERS
@@ -178,7 +178,7 @@ def of_work(known: Known, register: Register) -> Iterator[Task]:
         yield Task("Check and store applications", "They are in the table, and not in the register"
                    " yet.", texts.count(known.rows, "row"), WAITING, "applications.show")
     if known.withdrawn and not register.draws:
-        yield Task("Look at rows that were withdrawn", "They are not in the register. Bring back"
+        yield Task("Look at rows that were withdrawn", "They are not in the register. Put back"
                    " what a family still wants.", texts.count(known.withdrawn, "row"), READY,
                    "applications.withdrawn")
 

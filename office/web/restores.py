@@ -76,7 +76,7 @@ class Restores(StepStore[Restore]):
         if found is None:
             return ""
         first = found.done[0]
-        return (f"Closed for the restore of copy {found.copy} by {first.who} since"
+        return (f"Recording is paused for the restore of copy {found.copy} by {first.who} since"
                 f" {local(first.at)}.")
 
     def record(self, who: Person, what: str, restore: Restore, **about: object) -> None:
@@ -186,7 +186,7 @@ class Restores(StepStore[Restore]):
                 pass
 
     def copy(self, who: Person, number: int, seen: int) -> None:
-        """Copies what is there, by which the restore can be taken back."""
+        """Copies what is there, by which the restore can be undone."""
         with self.step(number, seen, CONFIRMED) as found:
             self.record(who, "copied the register", found)
             copy = self.copies.make(f"before copy {found.copy} was restored", who.name)

@@ -79,7 +79,7 @@ class Step:
 
 
 STEPS = (
-    Step(CLOSED, "Closed for all others",
+    Step(CLOSED, "Recording is paused",
          "Nobody can record anything until the register is opened. All can still read."),
     Step(ASKED, "What is sent again is chosen",
          "All that came since the copy is listed. What is not ticked is lost."),
@@ -87,12 +87,12 @@ STEPS = (
          "Somebody else has read what is lost and what is sent again, and says that the copy may"
          " be restored. The next steps follow at once."),
     Step(COPIED, "Copy of what is there",
-         "The register is copied as it is. By that copy the restore can be taken back."),
+         "The register is copied as it is. By that copy the restore can be undone."),
     Step(RESTORED, "Restored",
          "The register becomes that of the copy, and is compared with it. For some seconds nobody"
          " can read it."),
     Step(SENT, "Sent again",
          "What was ticked is sent in its first order. What the register refuses is shown."),
-    Step(OPENED, "Open for all",
+    Step(OPENED, "Resume recording",
          "Everybody can record again. Where all that was ticked is stored this follows by itself."),
 )

@@ -66,7 +66,7 @@ def flags(office: Office) -> None:
     """Words for flags."""
     office.report.step("words for flags")
     jane = office.jane
-    jane.go("Schools", "Flags")
+    jane.go("Schools", "Verified reasons")
     for number, words in town.FLAG_WORDS.items():
         jane.fill(f"Words of flag {number}", words)
     jane.enter()

@@ -157,21 +157,22 @@ def begun(office: Office, draw: Draw) -> None:
 
 
 def closed(office: Office, draw: Draw, pairs: int) -> None:
-    """The register is closed for all others, copied, and its pairs are given to the supervisor."""
+    """Recording is paused, copied, and its pairs are given to the supervisor."""
     report, jane = office.report, office.jane
     checks = jane.text("#checks")
     report.see(f"{pairs} pairs of " in checks, f"pairs: {checks}")
     if jane.has(AGREED):
         jane.press(AGREED, is_new=False)
         office.ticks += 1
-    jane.press("Close for all others")
+    jane.press("Pause recording for everyone")
     rested(jane)
     report.same(jane.facts().get("State"), "closed, and the supervisor draws the lots",
                 f"the state of {draw.numbers}")
     jane.look("A draw that waits for lots")
     hal = office.people[HAL]
     hal.open("/")
-    report.see(hal.text("#closed").startswith(f"Closed for {draw.numbers} by {jane.who}"),
+    said = f"Recording is paused for {draw.numbers} by {jane.who}"
+    report.see(hal.text("#closed").startswith(said),
                f"the officer sees that it is closed: {hal.text('#closed')!r}")
 
 
@@ -300,8 +301,9 @@ def sent(office: Office, draw: Draw) -> None:
     jane.reload()
     jane.press(f"Hold {draw.name}")
     rested(jane)
-    jane.see("The audit agrees, and the register is open for all again.")
+    jane.see("The audit agrees, and everybody can record again.")
     jane.see("The outcome is that of the rehearsal, and the second program has worked out the"
              " same.")
     jane.look("A draw that was opened")
-    report.same(jane.facts().get("State"), "held, and open for all", f"the state of {draw.numbers}")
+    report.same(jane.facts().get("State"), "held, and recording goes on",
+                f"the state of {draw.numbers}")

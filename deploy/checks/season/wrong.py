@@ -83,7 +83,7 @@ def restored(office: Office, draw: Draw, before: Season, answered_by: tuple[int,
     report.step(f"{draw.words}: the copy from before it is restored")
     number = jane.facts()["Copies"].split()[0]
     jane.press("This round was wrong: undo it")
-    jane.press(f"Close for all others, to restore copy {number}")
+    jane.press(f"Pause recording for everyone, to restore copy {number}")
     report.same(jane.title, f"Restore of copy {number}", "the heading of the restore")
     came = [(row[2], row[3]) for row in jane.captioned("Came since the copy")]
     report.same(len(came), 3, "entries that came since the copy")

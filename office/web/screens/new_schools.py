@@ -111,7 +111,7 @@ def add_many(given: list[Cells], source: str) -> Response:
 @screen.post("/sheet")
 @needs(RECORD)
 def sheet() -> Answer:
-    """The schools of a workbook or a CSV."""
+    """The schools of an Excel file or a CSV."""
     try:
         rows = uploads.rows_of(flask.request.files.get("sheet"))
         return add_many(schools.rows_of(rows), "a sheet")

@@ -34,7 +34,7 @@ NEXT = {
     COPIED: ("restore", "Restore copy {}"),
     RESTORING: ("restore", "Go on with the restore of copy {}"),
     RESTORED: ("send", "Go on: send again what was ticked"),
-    SENT: ("open", "Open for all"),
+    SENT: ("open", "Resume recording"),
 }
 # who does a step that does not follow by itself
 DOES = {ASKED: "by a head of the office", CONFIRMED: "by a second person"}

@@ -67,7 +67,7 @@ def attachment(data: bytes, name: str) -> Response:
 
 
 def title_of(register: Register, what: str) -> str:
-    """The heading of the pages of a workbook."""
+    """The heading of the pages of an Excel file."""
     return (f"Admission {register.year} {register.phase}, {what}, as of"
             f" {today().isoformat()}")
 
@@ -273,7 +273,7 @@ def drawn(register: Register, code: str, words: Mapping[int, str]) -> dict[str, 
 @screen.get("/<code>/workbook")
 @needs(LISTS)
 def workbook(code: str) -> Response:
-    """The same as a workbook."""
+    """The same as an Excel file."""
     guard.see_own_school(code)
     register = parts().desk.register()
     school = school_of(register, code)
