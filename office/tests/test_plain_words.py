@@ -23,6 +23,7 @@ from register_files import Refused
 from werkzeug.datastructures import FileStorage
 
 from office.web import copies, entry_words, held_again, plain, rehearsal, trials, uploads
+from office.web.draws_terms import GIVEN_UP
 from office.web.people import Person
 from office.web.trials import Asked, Run
 
@@ -51,7 +52,7 @@ READ_OUT = re.compile(r"(?:aria-label|placeholder|title)=\"([^\"]*)\"")
 def is_text(text: str) -> bool:
     """Whether a literal is a text for people, and not a name or a question to the store."""
     is_words = " " in text.strip() or text[:1].isupper()
-    return is_words and text not in entry_words.STEPS and not re.match(
+    return is_words and text not in (*entry_words.STEPS, GIVEN_UP) and not re.match(
         r"\s*(SELECT|INSERT|UPDATE|DELETE|CREATE|ALTER|PRAGMA)\b", text)
 
 

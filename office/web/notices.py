@@ -140,7 +140,7 @@ class Notices(Outbox[Item]):
             return number
 
     def kept(self, kind: str) -> dict[int, str]:
-        """The children whose offer is not withdrawn now, with why: an answer waits in a pile."""
+        """The children whose offer is not withdrawn now, with why: an answer waits in a batch."""
         return waiting(self.store) if kind == LAPSE else {}
 
     def see_none_kept(self, kind: str, children: Iterable[int]) -> None:

@@ -119,8 +119,8 @@ class Restores(StepStore[Restore]):
             if said := self.closed_by_another():
                 raise Refused(said.rstrip("."))
             if other_draw := self.draws.present():
-                raise Refused(f"{other_draw.terms.numbers} is in progress: it must end or be given"
-                              " up first")
+                raise Refused(f"{other_draw.terms.numbers} is in progress: it must end or be"
+                              " cancelled first")
             self.copies.register(copy)
             self.desk.settle()
             self.desk.now()

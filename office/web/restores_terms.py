@@ -18,6 +18,13 @@ UNTOUCHED = IN_ORDER[:4]
 # what came since the copy and rests on the draw that was wrong: it is sent once that is held again;
 # and what was refused
 LATER, REFUSED = "later", "refused"
+# each state as an office reads it
+IN_WORDS = {
+    CLOSED: "recording is paused", ASKED: "waits for a second person", CONFIRMED: "confirmed",
+    COPIED: "confirmed, and copied", RESTORING: "being restored", RESTORED: "restored",
+    SENT: "restored, and sent again", OPENED: "done, and recording goes on",
+    GIVEN_UP: "cancelled",
+}
 
 
 @dataclasses.dataclass(frozen=True)
@@ -48,6 +55,11 @@ class Restore:
     before: int | None
     draw: int | None
     done: tuple[Done, ...]
+
+    @property
+    def in_words(self) -> str:
+        """How far it is."""
+        return IN_WORDS[self.state]
 
     def came_to(self, state: str) -> Done:
         """Who brought it to a state last, and when; nobody where it has not been there. (A step

@@ -100,7 +100,7 @@ def restored(office: Office, draw: Draw, before: Season, answered_by: tuple[int,
     hal.press(f"To the restore of copy {number}")
     hal.press(f"Restore copy {number}")
     hal.look("A restore, done")
-    report.same(hal.facts().get("State"), "opened", "the state of the restore")
+    report.same(hal.facts().get("State"), "done, and recording goes on", "the state of the restore")
     again = {int(row[3].split()[1]): (row[2], row[4]) for row in hal.captioned("Came since the")
              if row[3].startswith("child ")}
     report.same(again.get(stayed), (hal.who, "stored"), f"the answer of child {stayed}, sent again")
