@@ -56,7 +56,7 @@ def test_the_last_that_was_done_is_first_with_what_came_of_it(office: Site) -> N
     shown = [it for it in rows(rita) if it[0] in ("bo", "jane") and it[1] != "Signed in"]
     assert [it[:2] for it in shown] == [
         ["jane", "Corrected the details of Eve Eden (5) Name: Eve → Eve Eden;"
-         " Flags: none → <b>medical</b> need; Siblings at: A → none"],
+         " Verified reasons: none → <b>medical</b> need; Siblings at: A → none"],
         ["jane", "Added the child Eve Eden (5) Name: Eve; East, in metres: 0;"
          " North, in metres: 500; Siblings at: A"],
         ["bo", "Changed the verified reasons Reason 2: none → <b>medical</b> need"],
