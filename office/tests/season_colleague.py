@@ -130,7 +130,7 @@ def closing(lived: Room) -> Pressed:
     hal.get("/draws/").press("Begin draw 2", {
         "kind": "fill", "day": "18 March 2025", "school": "ELM", "fills": "1"})
     jane.get(f"{hal.path}/cancel").press("Cancel ")
-    return hal, "Close for all others", NOTHING
+    return hal, "Pause recording for everyone", NOTHING
 
 
 def sealing(lived: Room) -> Pressed:
@@ -168,15 +168,15 @@ def holding(lived: Room) -> Pressed:
 def restoring(lived: Room) -> Pressed:
     """A restore that is to be asked for, and is given up meanwhile."""
     hal, jane = lived.person("hal"), lived.person("jane")
-    hal.get("/draws/3/cancel").press("Close for all others, to restore copy ")
-    jane.get(hal.path).press("Give up the restore of copy ")
+    hal.get("/draws/3/cancel").press("Pause recording for everyone, to restore copy ")
+    jane.get(hal.path).press("Cancel the restore of copy ")
     return hal, "Ask to restore copy ", NOTHING
 
 
 def confirming_restore(lived: Room) -> Pressed:
     """A restore that is to be confirmed, and is chosen anew meanwhile."""
     hal, jane = lived.person("hal"), lived.person("jane")
-    hal.get("/draws/3/cancel").press("Close for all others, to restore copy ")
+    hal.get("/draws/3/cancel").press("Pause recording for everyone, to restore copy ")
     hal.press("Ask to restore copy ")
     jane.get(hal.path)
     hal.press("Choose once more what is sent again")

@@ -127,7 +127,7 @@ def begin_draw(hal: Hand, number: int, **given: str) -> None:
 def close_for_draw(hal: Hand) -> None:
     """The register is closed for the draw of the page."""
     agreed = hal.page.fields.get("agreed")
-    hal.press("Close for all others", {"agreed": agreed["value"]} if agreed else {})
+    hal.press("Pause recording for everyone", {"agreed": agreed["value"]} if agreed else {})
 
 
 def lots_of_workbook(sheet: bytes) -> bytes:
@@ -295,7 +295,7 @@ def restored(lived: Room, trace: Trace) -> None:
     once more on another day; an answer to an offer that it makes is sent after it.
     """
     hal, jane, sup = (lived.person(it) for it in ("hal", "jane", "sup"))
-    hal.get("/draws/3/cancel").press("Close for all others, to restore copy ")
+    hal.get("/draws/3/cancel").press("Pause recording for everyone, to restore copy ")
     trace.page(hal, hal.path)
     hal.press("Ask to restore copy ")
     path = hal.path

@@ -377,7 +377,8 @@ def test_a_correction_shows_what_it_changes(office: Site) -> None:
     page = Page(found.text)
     assert page.tables["changes"][1:] == [
         ["Name", "=Eve \"<i>Eden</i>\"", "Eve Eden"], ["East, in metres", "0", "50000"],
-        ["Flags", "2;5", "5"], ["Siblings at", "A", "A;B"], ["Present school", "PRIM7", "none"]]
+        ["Verified reasons", "2;5", "5"], ["Siblings at", "A", "A;B"],
+        ["Present school", "PRIM7", "none"]]
     assert "The home moves by 50 km" in page.text
     assert "The present school PRIM7 is removed" in page.text and sent(office) == []
     button = "Correct the details of =Eve \"<i>Eden</i>\""

@@ -291,7 +291,7 @@ NOT_ONE: dict[str, tuple[str, bytes, str]] = {
     "blanks": ("a.csv", b"\n \n", "a.csv is no CSV with a row for each address"),
     "an endless line": ("a.csv", b"x" * 5_000_000, "line 1: the line has more than 32,767"),
     "two columns": ("a.csv", b"one,two\n1,2\n", "a row has a property number or a postcode"),
-    "a workbook": (
+    "an Excel file": (
         "a.xlsx", workbook([[1, 2, 3]], ["UPRN", "X", "Y"]), "is an Excel file: save it"),
     "a PDF": ("a.pdf", b"%PDF-1.7\n", "a.pdf is a PDF"),
     "a part of a zip": ("a.zip", b"PK\x03\x04 and nothing", "a.zip is no zip that can be read"),

@@ -1,4 +1,4 @@
-"""Points of homes in the application: looked up for files, forms and corrections; what was found,
+"""Homes to locate in the application: looked up for files, forms and corrections; what was found,
 what was not and what differs; and where each point came from, before and after it is stored.
 """
 import dataclasses
@@ -89,7 +89,7 @@ def day(office: Site) -> str:
 
 def to_see(browser: Browser) -> dict[str, str]:
     """What is to be seen to of each row, by the name of the child."""
-    table = Page(browser.get(PATH).text).tables.get("Rows to see to", [])
+    table = Page(browser.get(PATH).text).tables.get("Rows to check", [])
     return {it[0].rpartition(" row ")[0] or it[0]: it[1] for it in table[1:]}
 
 

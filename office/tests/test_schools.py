@@ -125,7 +125,8 @@ def test_a_copy_is_made_before_schools_are_stored(
         raise Refused("there is no copy: the disk is full")
 
     for name, found, said in (("make", none, "There is no copy: the disk is full."),
-                              ("closed", lambda: "Closed for draw 1 by hal.", "Closed for draw 1")):
+                              ("closed", lambda: "Recording is paused for draw 1 by hal.",
+                               "Recording is paused for draw 1")):
         with monkeypatch.context() as patch:
             target = empty.parts.copies if name == "make" else empty.parts.desk
             patch.setattr(target, name, found)
@@ -497,10 +498,10 @@ def test_nothing_is_stored_while_the_register_is_closed(empty: Site) -> None:
     """The draft stays, and the reason is said."""
     jane = empty.browser("jane")
     page = drafted(jane)
-    empty.parts.desk.closed = lambda: "Closed for draw 1 by hal."
+    empty.parts.desk.closed = lambda: "Recording is paused for draw 1 by hal."
     found = stores(jane, "", page, "Store 2 schools")
     assert found.status_code == 409
-    assert Page(found.text).said() == "Closed for draw 1 by hal. Nothing was recorded."
+    assert Page(found.text).said() == "Recording is paused for draw 1 by hal. Nothing was recorded."
     assert sent(empty) == [] and len(Draft(empty.parts.store).rows()) == 2
 
 

@@ -213,7 +213,7 @@ WRONG_KINDS = [
     ("empty.csv", b"", "empty.csv is empty"), ("blank.csv", b"\n\n", "expected a header"),
     ("a.pdf", b"%PDF-1.4", "a PDF"), ("a.png", b"\x89PNG\r\n\x1a\n", "a picture"),
     ("a.html", b"<html><script>alert(1)</script>", "a web page"),
-    ("a.xls", b"\xd0\xcf\x11\xe0junk", "a workbook of the older kind"),
+    ("a.xls", b"\xd0\xcf\x11\xe0junk", "an Excel file of the older kind"),
     ("a.db", b"SQLite format 3\0", "a register"), ("a.xlsx", b"PK\x03\x04junk", "no workbook"),
     ("zero.csv", b"\0" * 50, "no text"), ("bad.csv", b"child\x81\n\x81", "neither in UTF-8"),
     ("lots.csv", b"school,child,lot\nOAK,1,5\n", "column name: expected a column of this name"),
@@ -311,7 +311,7 @@ def test_empty_cells_are_counted_too(rows: int) -> None:
         for it in old.namelist():
             new.writestr(it, text if it.endswith("sheet1.xml") else old.read(it))
     assert len(out.getvalue()) < 100_000
-    with pytest.raises(Refused, match="a.xlsx has too many cells: a workbook has at most"):
+    with pytest.raises(Refused, match="a.xlsx has too many cells: an Excel file has at most"):
         sheet_apart.read("a.xlsx", out.getvalue(), None, "")
 
 
@@ -868,12 +868,13 @@ def test_a_closed_register_keeps_the_table(office: Site, screens: Screens) -> No
     """While a draw is held nothing is sent, and the rows are as they were."""
     screens.add(("a.csv", lines(GOOD[:2])))
     digest = screens.digest()
-    office.parts.desk.closed = lambda: "Closed for draw 5 by hal since 10:02."
+    office.parts.desk.closed = lambda: "Recording is paused for draw 5 by hal since 10:02."
     seen = screens.see("commit/")
-    assert "Closed for draw 5" in seen.text
+    assert "Recording is paused for draw 5" in seen.text
     assert not any(it.startswith("Add ") for it in seen.buttons)
     found = screens.store(digest)
-    assert found.status_code == 409 and "Closed for draw 5" in Seen(found.text).texts["answer"]
+    assert found.status_code == 409
+    assert "Recording is paused for draw 5" in Seen(found.text).texts["answer"]
     assert states(office) == {OPEN: 2} and not imports(office)
 
 

@@ -232,7 +232,7 @@ class Desk:
         self, who: Person, about: dict[str, Any], seen: Seen | None = None, is_closed: bool = False,
     ) -> Result:
         """Sends a request in its turn, if what its command rests on is as it was seen; also while
-        the register is closed for all others.
+        recording is paused.
         """
         with self.sending(is_closed) as reason:
             if reason:

@@ -55,7 +55,7 @@ GROUPS: dict[str, tuple[Screen, ...]] = {
         of_list("list", "Waiting lists")),
     "Schools": (
         Screen("schools.show", "Schools", READ, ("schools",)),
-        Screen("flags.show", "Flags", READ, ("flags",)),
+        Screen("flags.show", "Verified reasons", READ, ("flags",)),
         Screen("new_schools.show", "Add schools", RECORD, ("new_schools",))),
     "Offers": (
         Screen("draws.show", "Draws", READ, ("draws",)),

@@ -113,7 +113,7 @@ class Outbox(Generic[It]):
         self, who: Person, items: Iterable[It], is_closed: bool = False, end: float = math.inf,
     ) -> Result | None:
         """Sends those that wait, one after another, until the end, some moment, or until nothing
-        can be sent: then what came of the last. Also while the register is closed for all others.
+        can be sent: then what came of the last. Also while recording is paused.
         """
         for it in items:
             if it.state != WAITS:

@@ -43,7 +43,7 @@ ELSEWHERE = (
 UNSEALED = {
     False: "{} is in progress: the lots of this child in it are seen by the supervisor alone until"
            " they are sealed, and are not in this.",
-    True: "{} was given up before its lots were sealed: those of this child were seen by the"
+    True: "{} was cancelled before its lots were sealed: those of this child were seen by the"
           " supervisor alone, and are not in this.",
 }
 NAMED = re.compile(r"\bchild (\d+)\b", re.I)
