@@ -2,15 +2,22 @@
 application has counted."""
 import contextlib
 import http.client
+import io
 import json
 import pathlib
 import socket
 import ssl
+import time
 import typing
 
 from office.web.failures import KINDS
 
 PORT = 443
+# so long an answer is waited for, and so many bytes it has at most
+SECONDS, MOST_ANSWER = 10.0, 1 << 18
+# what is raised where an application answers nothing, or anything
+NO_ANSWER = (OSError, http.client.HTTPException, ValueError, KeyError, TypeError, AttributeError,
+             OverflowError, RecursionError)
 
 
 class Counts(typing.NamedTuple):
@@ -21,19 +28,29 @@ class Counts(typing.NamedTuple):
     sign_ins_failed: dict[str, int]
 
 
-def status_of(path: pathlib.Path, seconds: float = 10) -> int | None:
+def status_of(path: pathlib.Path) -> int | None:
     """The status of its answer to a request that reads the register (200, or 404 before the first
     round), or None where it gives none."""
     with contextlib.suppress(OSError, ValueError, IndexError):
         with socket.socket(socket.AF_UNIX) as it:
-            it.settimeout(seconds)
-            it.connect(str(path))
-            it.sendall(b"GET /round/1 HTTP/1.1\r\n\r\n")
-            answer = b""
-            while b"\r\n" not in answer and (piece := it.recv(4096)):
-                answer += piece
+            answer = answered(it, path, b"GET /round/1 HTTP/1.1\r\n\r\n", b"\r\n")
             return int(answer.split(b" ", 2)[1])
     return None
+
+
+def answered(it: socket.socket, path: pathlib.Path, request: bytes, end: bytes = b"") -> bytes:
+    """The answer to a request up to its end, or until the connection ends. One that takes too long
+    or has too much is an error."""
+    last, answer = time.monotonic() + SECONDS, b""
+    it.settimeout(SECONDS)
+    it.connect(str(path))
+    it.sendall(request)
+    while not (end and end in answer) and (piece := it.recv(4096)):
+        answer += piece
+        if len(answer) > MOST_ANSWER or time.monotonic() > last:
+            raise TimeoutError(f"{path} answers without end")
+        it.settimeout(max(0.01, last - time.monotonic()))
+    return answer
 
 
 def site_status_of(host: str, seconds: float = 10) -> tuple[int, bytes]:
@@ -53,17 +70,25 @@ def site_status_of(host: str, seconds: float = 10) -> tuple[int, bytes]:
         return answer.status, secure.getpeercert(binary_form=True) or b""
 
 
-def counts_of(path: pathlib.Path, seconds: float = 10) -> Counts:
-    """What the application at a socket has counted. OSError, HTTPException or ValueError where it
-    does not say."""
+class Told:
+    """An answer that is here, where HTTPResponse reads a socket."""
+
+    def __init__(self, data: bytes) -> None:
+        self.data = data
+
+    def makefile(self, _: str) -> io.BytesIO:
+        return io.BytesIO(self.data)
+
+
+def counts_of(path: pathlib.Path) -> Counts:
+    """What the application at a socket has counted. One of NO_ANSWER where it does not say."""
     with socket.socket(socket.AF_UNIX) as it:
-        it.settimeout(seconds)
-        it.connect(str(path))
-        it.sendall(b"GET /counts HTTP/1.1\r\nHost: localhost\r\nConnection: close\r\n\r\n")
-        answer = http.client.HTTPResponse(it)
-        answer.begin()
-        found = json.loads(answer.read()) if answer.status == 200 else {"requests": {}}
-        # (no label has what the application makes up)
-        failed = {kind: int(found.get("sign_ins_failed", {}).get(kind, 0)) for kind in KINDS}
-        requests = {f"{int(status)}": int(it) for status, it in found["requests"].items()}
-        return Counts(requests, failed)
+        data = answered(
+            it, path, b"GET /counts HTTP/1.1\r\nHost: localhost\r\nConnection: close\r\n\r\n")
+    answer = http.client.HTTPResponse(typing.cast(socket.socket, Told(data)))
+    answer.begin()
+    found = json.loads(answer.read()) if answer.status == 200 else {"requests": {}}
+    # (no label has what the application makes up)
+    failed = {kind: int(found.get("sign_ins_failed", {}).get(kind, 0)) for kind in KINDS}
+    requests = {f"{int(status)}": int(it) for status, it in found["requests"].items()}
+    return Counts(requests, failed)

@@ -21,6 +21,9 @@ LOCK = pathlib.Path("/run/admissions-setup.lock")
 READ = os.O_RDONLY | os.O_NONBLOCK | os.O_CLOEXEC
 AS_IT_IS = READ | os.O_NOFOLLOW
 FOLDER = os.O_RDONLY | os.O_DIRECTORY | os.O_CLOEXEC
+# bytes, more than a history, a report or a file of settings has, and more than the file of an
+# application or its copy: what is longer is read by no command
+MOST_HISTORY, MOST_STORE = 256_000_000, 600_000_000
 # of a folder in which somebody beside its owner can make a link
 OTHERS_WRITE = 0o022
 
@@ -185,12 +188,25 @@ def as_desk() -> contextlib.AbstractContextManager[None]:
 def content_as(name: str, path: pathlib.Path) -> bytes:
     """What a file has, as a user reads it."""
     with acting_as(name):
-        handle = os.open(path, os.O_RDONLY | AS_IT_IS)
-    with closing(handle):
-        if not stat.S_ISREG(os.fstat(handle).st_mode):
+        return content(path)
+
+
+def content(path: pathlib.Path) -> bytes:
+    """What a file of somebody else has, which is no link and not too long."""
+    with closing(os.open(path, AS_IT_IS)) as handle:
+        found = os.fstat(handle)
+        if not stat.S_ISREG(found.st_mode):
             raise Refused(f"{path} is no file")
         with open(handle, "rb", closefd=False) as file:
-            return file.read()
+            return bounded(path, file.read, found.st_size)
+
+
+def bounded(path: pathlib.Path, read: typing.Callable[[int], bytes], size: int = 0) -> bytes:
+    """What is read of a file, or a refusal of one that is too long."""
+    data = read(MOST_HISTORY + 1) if size <= MOST_HISTORY else b""
+    if max(size, len(data)) > MOST_HISTORY:
+        raise Refused(f"{path} has over {MOST_HISTORY // 1_000_000} MB, and is not read")
+    return data
 
 
 def write_as(name: str, path: pathlib.Path, data: bytes) -> None:

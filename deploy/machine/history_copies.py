@@ -3,6 +3,7 @@ longer each night, never shorter, and brought back on another machine."""
 import contextlib
 import gzip
 import hashlib
+import io
 import os
 import pathlib
 import re
@@ -12,14 +13,21 @@ from register_files import Refused
 
 from . import files, histories
 from .histories import Record
-from .programs import OFFICE
+from .programs import OFFICE, USER
 from .registers import Register
 
 FOLDER = "history"
 # in the settings of a register: copies that its history rightly does not begin with
 ACKNOWLEDGED = "history-acknowledged"
 # A number that grows with each copy, and the begin of the digest of the first line
+UNREADABLE = (*histories.UNREADABLE, Refused)
 NAME = re.compile(r"history-(\d{6,})-([0-9a-f]{16})\.gz")
+
+
+def unpacked(path: pathlib.Path, packed: bytes) -> bytes:
+    """The lines of a copy, which has these bytes."""
+    with gzip.open(io.BytesIO(packed)) as file:
+        return files.bounded(path, file.read)
 
 
 def place(path: pathlib.Path) -> tuple[int, str]:
@@ -58,8 +66,8 @@ def copy_lines(data: bytes, folder: pathlib.Path) -> list[str]:
         if place(it)[1] != digest:
             continue
         try:
-            before = gzip.decompress(it.read_bytes())
-        except histories.UNREADABLE as error:
+            before = unpacked(it, files.content_as(USER, it))
+        except UNREADABLE as error:
             problems.append(f"{it} cannot be read: {error}")
             continue
         if before.startswith(data):
@@ -80,8 +88,8 @@ def unlike(register: Register) -> dict[str, str]:
     folder, found = register.copies / FOLDER, {}
     # (before the history, which only grows)
     for it in made(folder):
-        with contextlib.suppress(*histories.UNREADABLE):
-            found[it.name] = gzip.decompress(it.read_bytes())
+        with contextlib.suppress(*UNREADABLE):
+            found[it.name] = unpacked(it, files.content_as(USER, it))
     data, known = histories.data_of(register), acknowledged(register)
     digests = {name: hashlib.sha256(before).hexdigest() for name, before in found.items()
                if not data.startswith(before)}
@@ -143,8 +151,8 @@ def last_whole(folder: pathlib.Path) -> bytes:
 def whole(path: pathlib.Path) -> bytes:
     """The history of a copy, which must be one from its first line to its last."""
     try:
-        data = gzip.decompress(path.read_bytes())
-    except histories.UNREADABLE as error:
+        data = unpacked(path, files.content(path))
+    except UNREADABLE as error:
         raise Refused(f"{path} cannot be read: {error}") from error
     found = Record(str(path), data)
     if found.problem or not found.entries:

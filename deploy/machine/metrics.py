@@ -14,7 +14,7 @@ import typing
 from register_files import Refused
 
 from . import certificates, copies, drill, files, histories, second_copy
-from .desk import counts_of
+from .desk import NO_ANSWER, counts_of
 from .findings import Report
 from .registers import Register
 
@@ -40,7 +40,7 @@ METRICS = {
 RESULTS = {True: "done", False: "not_done"}
 # for so long a request may have no answer yet
 IN_FLIGHT = datetime.timedelta(minutes=1)
-ERRORS = (Refused, OSError, ValueError, KeyError, TypeError, AttributeError)
+ERRORS = (Refused, *NO_ANSWER)
 
 
 def written(reports: dict[Register, Report], file: str | None) -> None:

@@ -5,6 +5,7 @@ import os
 import pathlib
 import sqlite3
 import stat
+import time
 import typing
 import urllib.parse
 
@@ -15,7 +16,13 @@ from .programs import OFFICE
 from .registers import Register
 
 NAME = "office.db"
-PEOPLE = "SELECT name, kind, role, is_locked FROM person ORDER BY name"
+# so long the file is read, which the application may keep locked
+SECONDS = 120.0
+# between two looks at the clock, of the steps of SQLite
+STEPS = 100_000
+# more people and programs than an office has
+MOST_PEOPLE = 10_000
+PEOPLE = f"SELECT name, kind, role, is_locked FROM person ORDER BY name LIMIT {MOST_PEOPLE + 1}"
 
 
 class Person(typing.NamedTuple):
@@ -44,7 +51,28 @@ def opened(register: Register) -> typing.Iterator[sqlite3.Connection]:
         with named_errors(str(path)):
             address = f"file:{urllib.parse.quote(str(path))}?mode=ro"
             with contextlib.closing(sqlite3.connect(address, uri=True)) as db:
+                # (what is judged is what is read then, whatever is written meanwhile)
+                db.execute("BEGIN")
+                distrust(db, str(path))
                 yield db
+
+
+def distrust(db: sqlite3.Connection, name: str) -> None:
+    """Has a file that others write do no more than keep rows: its people are a table, nothing is
+    done by a trigger, and what takes too long is given up."""
+    late = time.monotonic() + SECONDS
+    db.set_progress_handler(lambda: time.monotonic() > late, STEPS)
+    db.execute("PRAGMA trusted_schema=OFF")
+    [(others,)] = db.execute(
+        "SELECT count(*) FROM sqlite_master WHERE type='trigger' OR sql LIKE 'CREATE VIRTUAL%'"
+        " OR type='view' AND lower(name) IN ('person', 'session')")
+    [(size,)] = db.execute("SELECT page_count * page_size"
+                           " FROM pragma_page_count, pragma_page_size")
+    if size > files.MOST_STORE:
+        raise Refused(f"{name} has over {files.MOST_STORE // 1_000_000} MB, and is not read")
+    if others:
+        raise Refused(f"{name} has a trigger, or people that are no table, which the application"
+                      " never makes")
 
 
 @contextlib.contextmanager
@@ -61,13 +89,19 @@ def people_of(register: Register) -> list[Person]:
 
 
 def people(db: sqlite3.Connection) -> list[Person]:
-    return [Person(name, kind, role, bool(it)) for name, kind, role, it in db.execute(PEOPLE)]
+    found = [Person(name, kind, role, bool(it)) for name, kind, role, it in db.execute(PEOPLE)]
+    if len(found) > MOST_PEOPLE:
+        raise Refused(f"the file of the application has over {MOST_PEOPLE:,} people")
+    if not all(isinstance(text, str) for it in found for text in it[:3]):
+        raise Refused("somebody's name, kind or role in the file of the application is no text")
+    return found
 
 
 def people_in(data: bytes, name: str) -> list[Person]:
     """The people of a copy."""
     with named_errors(name), contextlib.closing(sqlite3.connect(":memory:")) as db:
         db.deserialize(data)
+        distrust(db, name)
         return people(db)
 
 
@@ -76,7 +110,14 @@ def copy_of(register: Register) -> bytes:
     would leave of a row that is deleted."""
     in_memory = sqlite3.connect(":memory:", isolation_level=None)
     with opened(register) as db, contextlib.closing(in_memory) as copy:
-        db.backup(copy)
+        late = time.monotonic() + SECONDS
+
+        def see(*_: int) -> None:
+            if time.monotonic() > late:
+                raise Refused(f"{path_of(register)} cannot be read: it is locked, or it changes all"
+                              " the time")
+        db.backup(copy, progress=see)
+        distrust(copy, str(path_of(register)))
         copy.execute("DELETE FROM session")
         copy.execute("VACUUM")
         return copy.serialize()

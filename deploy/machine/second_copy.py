@@ -185,7 +185,7 @@ def taken_over(register: Register) -> str | None:
     path = register.copies / TAKEN_OVER
     if not path.exists():
         return None
-    owner = path.read_text(encoding="utf-8", errors="replace").split()
+    owner = files.content(path).decode("utf-8", errors="replace").split()
     name, units = register.name, f"admissions@{register.name} admissions-office@{register.name}"
     return (f"the machine {' '.join(owner[1:]) or 'of another number'} has taken {name} over, and"
             f" copies to {place_of()}/{name}, so its office is stopped here. To open it here all"

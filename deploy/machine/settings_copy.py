@@ -23,8 +23,11 @@ exit status: 0 copied; 1 not or not wholly copied, or the history was erased,
 cut or changed, and the line says so; 2 wrong arguments.
 """
 import argparse
+import contextlib
 import io
+import os
 import pathlib
+import stat
 import tarfile
 import time
 import typing
@@ -92,8 +95,11 @@ def members_of(copy: pathlib.Path) -> dict[str, bytes]:
     out = {}
     path = copies.settings_of(copy)
     try:
-        with tarfile.open(path) as archive:
+        # (as it was made: a compressed archive, or a file with holes, may have much more)
+        with opened(path) as archive:
             for it in archive:
+                if it.issparse():
+                    raise tarfile.ReadError("a file in it has holes")
                 file = archive.extractfile(it) if it.isreg() and it.name in OWN + SHARED else None
                 if file:
                     out[it.name] = file.read()
@@ -104,6 +110,19 @@ def members_of(copy: pathlib.Path) -> dict[str, bytes]:
     except (tarfile.TarError, UnicodeDecodeError) as error:
         raise Refused(f"{path} cannot be read as an archive of settings: {error}") from error
     return out
+
+
+@contextlib.contextmanager
+def opened(path: pathlib.Path) -> typing.Iterator[tarfile.TarFile]:
+    """An archive, which is a file and not too long."""
+    with open(os.open(path, files.READ), "rb") as file:
+        found = os.fstat(file.fileno())
+        if not stat.S_ISREG(found.st_mode):
+            raise tarfile.ReadError("it is no file")
+        if found.st_size > files.MOST_STORE:
+            raise tarfile.ReadError(f"it has over {files.MOST_STORE // 1_000_000} MB")
+        with tarfile.open(fileobj=file, mode="r:") as archive:
+            yield archive
 
 
 def people_beside(copy: pathlib.Path) -> list[office_store.Person]:

@@ -36,6 +36,7 @@ from collections.abc import Callable
 
 from register_files import Refused
 
+from office import texts
 from office.days import DELETION_NOTICE
 
 from . import (
@@ -135,7 +136,13 @@ def report(register: Register) -> Report:
 
 
 def finding_of(name: str, part: Callable[[Register], State], register: Register) -> Finding:
-    """How a part is."""
+    """How a part is. What others have named is no line of its own, and acts on no terminal."""
+    found = state_of(name, part, register)
+    return Finding(found.level, texts.visible(found.text))
+
+
+def state_of(name: str, part: Callable[[Register], State], register: Register) -> Finding:
+    """How a part is, in words that may be anybody's."""
     bad = Level.FAILED if name == FILE else Level.ATTENTION
     try:
         is_well, text = part(register)
@@ -447,10 +454,10 @@ def copy_of(register: Register) -> State:
 def report_of(register: Register, name: str) -> tuple[str, float] | None:
     """The last line of a report and its age in seconds, or None."""
     path = register.copies / name
-    if not path.exists():
+    if not os.path.lexists(path):
         return None
-    lines = path.read_text(encoding="utf-8").splitlines()
-    return (lines[-1] if lines else ""), time.time() - path.stat().st_mtime
+    lines = files.content(path).decode("utf-8").splitlines()
+    return (lines[-1] if lines else ""), time.time() - path.lstat().st_mtime
 
 
 def second_of(register: Register) -> State:

@@ -32,6 +32,7 @@ from machine import (
 from office.web import people
 from office.web.store import Store
 from office_files import (
+    NO_HASH,
     add_note_and_file,
     add_people,
     children_of,
@@ -320,7 +321,7 @@ def test_a_copy_signs_nobody_in(
     path = copy(office, "nightly-000001-2025-03-01T023000.db", with_settings=False)
     with contextlib.closing(Store(str(office_store.path_of(office)))) as store:
         signed_in = people.People(store)
-        secret = signed_in.begin("jane")
+        secret = signed_in.begin("jane", False, f"{NO_HASH}jane")
         with store.writing() as db:
             db.execute("UPDATE person SET role='reader' WHERE name='alpha'")
             assert copy_settings(office) == 0
