@@ -76,6 +76,21 @@ class Outbox(Generic[It]):
                                " ORDER BY place, number", self.kind, str(batch))
         return [self.item_of(it) for it in rows]
 
+    def left(self, batch: object) -> list[It]:
+        """Those of a batch that are not done, in their order."""
+        rows = self.store.rows("SELECT * FROM sending WHERE kind=? AND batch=? AND state<>?"
+                               " ORDER BY place, number", self.kind, str(batch), DONE)
+        return [self.item_of(it) for it in rows]
+
+    def done(self, batch: object, most: int) -> tuple[list[It], int]:
+        """The last of a batch that are done, in their order, and how many there are."""
+        where = "FROM sending WHERE kind=? AND batch=? AND state=?"
+        values = self.kind, str(batch), DONE
+        count = self.store.rows(f"SELECT count(*) AS many {where}", *values)[0]["many"]
+        rows = self.store.rows(f"SELECT * {where} ORDER BY place DESC, number DESC LIMIT ?",
+                               *values, most)
+        return [self.item_of(it) for it in reversed(rows)], int(count)
+
     def item_of(self, row: sqlite3.Row) -> It:
         """The request of a row."""
         values = {it.name: row[it.name] for it in dataclasses.fields(Item)}
@@ -162,7 +177,7 @@ class Outbox(Generic[It]):
         """Finds out what came of requests that were being sent when the application ended, or of
         which there was no certain answer. None that may be done is sent again.
         """
-        left = [it for it in self.of(batch) if it.state == SENDING]
+        left = [it for it in self.left(batch) if it.state == SENDING]
         if not left:
             return
         with self.desk.lock:

@@ -111,7 +111,7 @@ class Piles(Outbox[Entry]):
 
     def shown(self, person: str, register: Register) -> list[Shown]:
         """The entries of a person that are not recorded, with what speaks against them."""
-        pile = [it for it in self.of(person) if it.state != DONE]
+        pile = self.left(person)
         by_child: dict[int | None, list[Entry]] = {}
         for it in pile:
             by_child.setdefault(it.meant.child, []).append(it)

@@ -49,7 +49,7 @@ def page(said: str = "", status: int = 200, pasted: str = "", typed: str = "") -
         said, status = f"{said} {sentence(str(error))}".strip(), max(status, 503)
     shown = found.shown(who, register) if register else []
     ready = [it for it in shown if it.is_ready]
-    done = [it for it in found.of(who) if it.state == DONE]
+    done, recorded = found.done(who, MOST_RECORDED)
     names = {it.number: it.name for it in register.children.values()} if register else {}
     failed = sum(bool(it.entry.said) for it in shown)
     if failed and not said:
@@ -59,12 +59,12 @@ def page(said: str = "", status: int = 200, pasted: str = "", typed: str = "") -
             found.recorded[who][1], "answer is", "answers are"))
     return flask.render_template(
         "answers.html", shown=shown, ready=ready, digest=digest_of(ready),
-        done=done[-MOST_RECORDED:], recorded=len(done),
+        done=done, recorded=recorded,
         wrong_decline=WRONG_DECLINE, marked=sum(bool(it.conflicts) for it in shown),
         names=names, words=ANSWERS, read=answer_rows.READ, said=said,
         is_bad=status != 200 or bool(failed), pasted=pasted,
         typed=typed, is_added="added" in flask.request.args, is_running=found.is_running(who),
-        is_away=register is None, waiting=found.of(who) if register is None else [],
+        is_away=register is None, waiting=found.left(who) if register is None else [],
         others=handovers.takeable(found, person())), status
 
 

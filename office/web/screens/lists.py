@@ -24,7 +24,6 @@ from ..list_choice import Choice
 from ..letters_whom import CHILDREN
 from ..list_views import Views
 from ..people import READ, RECORD
-from ..piles import DONE
 from ..wording import sentence
 from .answers import all_piles
 from .schools import attachment, title_of
@@ -229,7 +228,7 @@ def ticked(name: str) -> Answer:
     meant = [it for child, _, school in chosen
              for it in answers.unanswered(found.register, int(child), school)]
     piles, who = all_piles(), person().name
-    there_now = {(it.meant.child, it.meant.school) for it in piles.of(who) if it.state != DONE}
+    there_now = {(it.meant.child, it.meant.school) for it in piles.left(who)}
     try:
         if not meant:
             raise Refused("none of those ticked has an offer or waits for a place")
