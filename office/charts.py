@@ -63,8 +63,8 @@ def bars(
 
 def step_of(most: float) -> int:
     """Between two lines of a scale: at most six are needed up to the greatest value."""
-    return next(size * 10 ** power for power in range(9) for size in (1, 2, 5)
-                if size * 10 ** power * 6 >= most)
+    sizes = (size * int(10 ** power) for power in range(9) for size in (1, 2, 5))
+    return next(it for it in sizes if it * 6 >= most)
 
 
 def hatch(name: str) -> str:

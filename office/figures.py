@@ -8,6 +8,7 @@ the last place went to a child that is or was looked after, or by a flag.
 """
 from typing import Any
 
+from markupsafe import Markup
 from register_files import Refused
 
 from . import charts, criteria, days, figure_counts, model, pages, rounds, texts
@@ -100,7 +101,9 @@ def compared(row: Row, then: Row | None) -> Row:
     return {"code": row["code"], "name": row["name"], "pairs": pairs, "was_there": then is not None}
 
 
-def chart_of_preferences(found: Figures, last: Figures | None, keys: list[int | str]) -> str:
+def chart_of_preferences(
+    found: Figures, last: Figures | None, keys: list[int | str],
+) -> Markup:
     """How many percent of the children have which preference."""
     rates = {it.year: [percent(it, ("met", key), it.met[key]) for key in keys]
              for it in (found, last) if it}
@@ -113,7 +116,7 @@ def chart_of_preferences(found: Figures, last: Figures | None, keys: list[int | 
                        "percent of the children", WITHHELD)
 
 
-def chart_of_schools(found: Figures) -> tuple[str, str]:
+def chart_of_schools(found: Figures) -> tuple[str, Markup]:
     """Places, first preferences and offers of each school, or of those with the most places if
     there are many.
     """

@@ -126,8 +126,9 @@ class Person:
         """
         pages = [self.browser.get(f"/draws/{number}{it}") for it in ("", "/cancel")]
         assert [it.status_code for it in pages] == [200, 200], pages
-        seen = {it for page in pages if (it := Fields(page.text).values.get("seen"))}
-        return self.press(number, *(seen or {str(version(self.office, number))}), name, **given)
+        found = {it for page in pages if (it := Fields(page.text).values.get("seen"))}
+        [seen] = found or {str(version(self.office, number))}
+        return self.press(number, seen, name, **given)
 
     def press(self, number: int, seen: str, name: str, **given: str) -> Any:
         """Presses a button of a page that was shown at a version."""

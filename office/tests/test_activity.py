@@ -30,7 +30,7 @@ def office_fixture(tmp_path_factory: pytest.TempPathFactory) -> Iterator[Site]:
             found.parts.desk.send(Person(who, "officer"), {
                 "cmd": "accept", "child": number, "school": school})
         bo.post("/flags/", {"flag-2": "<b>medical</b> need", "seen": "{}"})
-        eve = {**child(5, "Eve", 500), "siblings": ["A"]}
+        eve: dict[str, Any] = {**child(5, "Eve", 500), "siblings": ["A"]}
         moved = {**eve, "cmd": "amend", "name": "Eve Eden", "flags": [2], "siblings": []}
         for it in (eve, {**moved, "present": ""}):
             found.record("jane", it)

@@ -77,7 +77,7 @@ def test_the_map_of_a_school_has_each_home_in_reach() -> None:
              for at in range(200)]
     picture, away = pictures.school_map(
         "m", "Homes", "said", ("A", 0, 0), [("B", 900, 900), ("C", 9000, 0)], homes,
-        [Circle(1500, "1,500 metres", "criterion")], 2000)
+        [Circle(1500, "1,500 metres", "criterion", "the distance of a criterion")], 2000)
     found = parsed(str(picture))
     inside = {it.hint for it in homes if abs(it.east) < 2000 and abs(it.north) < 1600}
     hints = [it.text for it in found.iter(f"{SVG}title")][1:]
@@ -101,7 +101,7 @@ def test_a_flow_is_as_thick_as_its_counts() -> None:
         assert abs(paths[words] / paths["A&B to first: 30"] - many / 30) < 0.01
     nodes = [it for it in found.iter(f"{SVG}rect") if "node" in it.get("class", "")]
     heights = [float(it.get("height", "")) for it in nodes]
-    every = [*map(sum, counts), *map(sum, zip(*counts))]
+    every = [sum(it) for it in (*counts, *zip(*counts))]
     assert all(abs(it / heights[0] - many / 40) < 0.01 for it, many in zip(heights, every))
     texts = [it.text for it in found.iter(f"{SVG}text")]
     assert "C  45" in texts and "43 (47.3%)" in texts

@@ -92,21 +92,21 @@ def season() -> tuple[list[list[str]], dict[int, list[str]]]:
                      str(drawn.randrange(100, 9000)), "no", "", "", f"{day:%d/%m/%Y}",
                      ";".join(drawn.sample(["OAK", "ELM", "YEW"], 2)), "PRIM7"])
     right = {int(it[0]): [*it] for it in rows}
-    at = iter(drawn.sample(range(1464), 37))
+    places = iter(drawn.sample(range(1464), 37))
     for _ in range(18):
-        it = rows[next(at)]
+        it = rows[next(places)]
         it[7], right[int(it[0])][7] = "04/09/2024", "2024-09-04"
     for _ in range(9):
-        it = rows[next(at)]
+        it = rows[next(places)]
         it[8], right[int(it[0])][8] = "OAK;ELK;YEW", "OAK;ELM;YEW"
     for _ in range(5):
-        it = rows[next(at)]
+        it = rows[next(places)]
         it[8], right[int(it[0])][8] = "YEW;OAK;YEW", "YEW;OAK"
     for _ in range(3):
-        it = rows[next(at)]
+        it = rows[next(places)]
         it[2], right[int(it[0])][2] = "1,250", "1250"
     for name in ("Mo Marsh", "Nia North"):
-        it = rows[next(at)]
+        it = rows[next(places)]
         it[1], right[int(it[0])][1] = "", name
     return rows, right
 

@@ -158,6 +158,7 @@ class Context:
 
     schools: dict[str, fields.School] = {}
     is_uk = False
+    words: dict[int, str] = {}
 
 
 def cells() -> list[tuple[str, str]]:
