@@ -205,9 +205,9 @@ def test_no_offer_is_withdrawn_whose_answer_waits_in_a_pile(
     late = press(jane, "/children/3/lapse", page, "Withdraw the offer of Beta from Cyd <b>Cole</b>",
                  read="yes")
     assert late.status_code == 409 and 3 in office.parts.desk.now().places
-    said = "bo has an answer for this child in a pile (accept)"
-    assert Page(late.text).said() == f"B{said[1:]}. Nothing was recorded."
-    assert f"B{said[1:]}." in jane.get("/children/3/lapse?day=2 April 2025").text
+    said = "bo has an answer for this child in a batch (accept)"
+    assert Page(late.text).said() == f"{said}. Nothing was recorded."
+    assert f"{said}." in jane.get("/children/3/lapse?day=2 April 2025").text
 
 
 def test_the_last_day_of_an_answer_is_said_before_a_reminder_and_a_withdrawal(

@@ -48,7 +48,7 @@ def test_namesakes_are_told_apart(office: Site) -> None:
         ["4", "Zoë Abel same name", "", "none", ""],
         ["1", "Zoë Abel-Moor", "OAK School", "OAK School offered", "20 October 2024"]]
     text = " ".join(re.sub("<[^>]*>", "", found).split())
-    assert "3 children have the same name as another one here." in text
+    assert "3 children here share a name with another child." in text
     assert "ask the caller for the first preference." in text
     assert rita.get("/find?q=reed").location == "/children/5"
     assert rita.get("/find?q=3").location == "/children/3"

@@ -131,5 +131,6 @@ def facts_of(child: Child, flag_words: Callable[[tuple[int, ...]], str]) -> list
             text = flag_words(tuple(value))
         else:
             text = ", ".join(map(str, value)) if isinstance(value, list) else str(value)
-        found.append((wording.label(field.name), text or "none"))
+        none = "not recorded" if field.name == "present" else "none"
+        found.append((wording.label(field.name), text or none))
     return found

@@ -339,8 +339,9 @@ def figures(register: Register, met: Sequence[int]) -> list[Figure]:
             Figure(f"{sum(it.vacancies for it in schools):,}", "Vacant places",
                    f"{waiting:,} with somebody waiting", "lists.one", {"name": "vacancies"},
                    "warn" if waiting else ""),
-            Figure(f"{without:,}", "Children without a place", f"{met[4]:,} of them applied",
-                   "lists.one", {"name": "unplaced"})]
+            Figure(f"{without:,}", "Children without a place",
+                   "" if met[4] == without else f"{met[4]:,} with an application", "lists.one",
+                   {"name": "unplaced"})]
 
 
 def preferences_met(register: Register) -> list[int]:

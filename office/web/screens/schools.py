@@ -128,7 +128,8 @@ def figures(
     found = [
         (f"{school.pan:,}", "Admission number", "", "", ""),
         (f"{school.taken:,}", "Places held",
-         f"{school.plans:,} of them by EHC plans" if school.plans else "", address("held"), ""),
+         texts.count(school.plans, "by an EHC plan", "by EHC plans") if school.plans else "",
+         address("held"), ""),
         (f"{school.vacancies:,}", "Vacant", f"{offers:,} can be offered now" if offers else "",
          address("offer") if offers and may_read else "", "warn" if offers else ""),
         (f"{school.waiting:,}", "Waiting", "", address("waiting"), "")]
