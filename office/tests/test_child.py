@@ -63,6 +63,8 @@ def test_a_child_is_shown_with_its_place_its_list_and_its_data(office: Site) -> 
         ["2. B Beta", "offered", "ranked by distance alone 300 metres",
          "ranked by distance alone 300 metres", ""]]
     assert page.tables["map-table"][1:] == [["A", "300"], ["B", "300"]]
+    assert "/schools/A/waiting?page=1#child-3" in page.stops
+    assert 'id="child-3"' in rita.get("/schools/A/waiting?page=1").text
     assert page.buttons() == []
     assert not [it for it in page.stops if it.startswith("/children/3/") and "/w" not in it]
     page = Page(rita.get("/children/5").text)

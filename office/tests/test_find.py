@@ -50,6 +50,12 @@ def test_namesakes_are_told_apart(office: Site) -> None:
     text = " ".join(re.sub("<[^>]*>", "", found).split())
     assert "3 children here share a name with another child." in text
     assert "ask the caller for the first preference." in text
+    alike = Page(rita.get("/children/2").text)
+    said = " ".join(alike.by_id["namesakes"].split())
+    assert said == (
+        "same name Child 3, Zoe ABEL: first preference ELM School, present school not recorded"
+        " same name Child 4, Zoë Abel: first preference none, present school not recorded")
+    assert "/children/3" in alike.stops and "namesakes" not in rita.get("/children/1").text
     assert rita.get("/find?q=reed").location == "/children/5"
     assert rita.get("/find?q=3").location == "/children/3"
     addresses = Addresses(office.parts.store, office.parts.history)

@@ -8,7 +8,7 @@ from typing import Any
 
 from register_files import Refused
 
-from office import days, model, risks, rules
+from office import days, model, risks, rules, texts
 from office.model import Child, Place, Register
 
 from . import wording
@@ -115,6 +115,19 @@ def last_day_warning(place: Place, day: datetime.date) -> list[str]:
     if since is None or day >= days.due_from(since):
         return []
     return [f"The family may answer until the end of {days.in_words(days.answer_by(since))}."]
+
+
+def first_of(register: Register, it: Child) -> str:
+    """The first preference of a child, or ""."""
+    application = register.applications.get(it.number)
+    return register.schools[application.preferences[0]].name if application else ""
+
+
+def namesakes(register: Register, child: Child) -> list[tuple[Child, str]]:
+    """The other children of the same name, each with its first preference."""
+    name = texts.folded(child.name)
+    return [(it, first_of(register, it)) for it in register.children.values()
+            if it.number != child.number and texts.folded(it.name) == name]
 
 
 FIELDS = tuple(it for it in rules.COMMANDS["amend"].values() if it.name != "child")

@@ -102,6 +102,11 @@ class Paged(Generic[Row]):
     count: int
 
 
+def page_of(position: int) -> int:
+    """The page of a short table that has a row."""
+    return (position - 1) // SHORT + 1
+
+
 def paged(rows: Sequence[Row], asked: str, most: int = 0) -> Paged[Row]:
     """A page of a table, of so many rows; all of its rows where that is asked."""
     most = most or PAGE

@@ -1,6 +1,7 @@
 """A child: its place, its list, its data and its history; and what can be recorded of it."""
 import dataclasses
 import datetime
+from collections.abc import Sequence
 from typing import Any
 
 import flask
@@ -11,7 +12,8 @@ from office import criteria, texts
 from office.model import WAITS, Register
 
 from .. import (
-    children, corrections, explanations, flags, pictures, reasons, records, staging_points, wording,
+    children, corrections, explanations, flags, pictures, reasons, records, staging_points, tables,
+    wording,
 )
 from ..asked import Typed
 from ..children import FIELDS, Question
@@ -51,6 +53,8 @@ class Listed:
     words: str
     metres: int
     waits: bool
+    # of the waiting list, the page that has the child
+    page: int
 
 
 def listed(register: Register, number: int) -> list[Listed]:
@@ -64,7 +68,7 @@ def listed(register: Register, number: int) -> list[Listed]:
             state = records.ended_by(parts().history, number, code) or state
         found.append(Listed(at, code, school.name, state,
                             criteria.in_words(school, it.number, words), it.metres,
-                            it.state == WAITS))
+                            it.state == WAITS, tables.page_of(it.position or 1)))
     return found
 
 
@@ -110,7 +114,7 @@ def child_page(number: int, said: str = "", status: int = 200) -> Answer:
                for name, code in children.possible(register, number)]
     return flask.render_template(
         "child.html", **shown(register, number), **drawn(register, number), said=said,
-        is_bad=status != 200,
+        is_bad=status != 200, namesakes=children.namesakes(register, register.children[number]),
         point=records.point_of(history, number), actions=actions,
         records=records.of_child(history, register, number, names, person().may(NOTES)),
         part=part(), rounds=explanations.taken(parts(), register, number),
@@ -140,14 +144,28 @@ def drawn(register: Register, number: int) -> dict[str, Any]:
         ways.append(pictures.Way(code, school.east, school.north, state,
                                  reason.metres if reason and reason.why else None))
     if not ways:
-        return {"reasons": found, "map": "", "map_says": ""}
+        return {"reasons": found, "map": "", "map_says": "", "map_key": []}
     nearest = min(application.listed.items(), key=lambda it: it[1].metres) if application else None
     says = f"The home and the {texts.count(len(ways), 'school')} of its list."
     if nearest:
         says += f" The nearest, {nearest[0]}, is {nearest[1].metres:,} metres away."
     picture = pictures.child_map("child-drawn", "Home and schools", says, (child.east, child.north),
                                  ways)
-    return {"reasons": found, "map": picture, "map_says": says}
+    return {"reasons": found, "map": picture, "map_says": says, "map_key": key_of(ways)}
+
+
+SIGNS = {"place": ("school place", "the school of its place"),
+         "waits": ("school waits", "a school where it waits"),
+         "below": ("school", "another school of its list")}
+
+
+def key_of(ways: Sequence[pictures.Way]) -> list[tuple[str, str]]:
+    """What the signs of a child's map mean, of those that are drawn."""
+    states = {it.state for it in ways}
+    found = [("dwelling", "the home"), *(it for state, it in SIGNS.items() if state in states)]
+    if any(it.metres is not None for it in ways):
+        found.append(("line last", "how far the last child admitted lives"))
+    return found
 
 
 def noted(number: int) -> dict[str, Any]:

@@ -11,6 +11,7 @@ from office import register_lists, texts
 from office.model import Child, Register, School
 
 from .. import tables
+from ..children import first_of
 from ..guard import needs, parts
 from ..letters_addresses import Addresses
 from ..people import READ
@@ -94,12 +95,6 @@ def rows_of(
             application.day if application else None, names[texts.folded(it.name)] > 1))
     whole = texts.folded(text)
     return sorted(rows, key=lambda it: texts.folded(it.name) != whole)
-
-
-def first_of(register: Register, it: Child) -> str:
-    """The first preference of a child, or ""."""
-    application = register.applications.get(it.number)
-    return register.schools[application.preferences[0]].name if application else ""
 
 
 COLUMNS: dict[str, Column[Row]] = {
