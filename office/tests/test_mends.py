@@ -294,6 +294,8 @@ def test_rows_of_one_kind_and_those_that_are_set_aside(office: Site, screens: Sc
     screens.add(("a.csv", lines(
         row(101, "", day="31/11/2024"), row(102, ""), row(103, "Cleo Carver", day="2024-02-30"),
         row(104, "Dov Drake"))))
+    assert '?kind=names-that-are-missing#rows"' in screens.browser.get(PATH).text
+    assert "Names that are missing shown below" in kinds(screens.see("?kind=names-that-are-missing"))
     assert screens.see("?kind=names-that-are-missing").rows() == [1, 2]
     assert screens.see("?kind=days-that-cannot-be-read").rows() == [1, 3]
     screens.press("Set 2 rows aside", "?kind=names-that-are-missing")

@@ -175,8 +175,9 @@ def of_work(known: Known, register: Register) -> Iterator[Task]:
         yield Task(f"Send the letters of draw {number}", "They are not recorded as sent.",
                    f"{many:,} left", WAITING, "letters.whom", {"whom": whom, "draw": str(number)})
     if known.rows:
-        yield Task("Check and store applications", "They are in the table, and not in the register"
-                   " yet.", texts.count(known.rows, "row"), WAITING, "applications.show")
+        yield Task("Add applications to the register",
+                   "They are in the table, and not in the register yet.",
+                   texts.count(known.rows, "row"), WAITING, "applications.show")
     if known.withdrawn and not register.draws:
         yield Task("Look at rows that were withdrawn", "They are not in the register. Put back"
                    " what a family still wants.", texts.count(known.withdrawn, "row"), READY,
@@ -279,7 +280,9 @@ def line_of(it: Entry) -> tuple[str, str, str]:
         return it.what[:1].upper() + it.what[1:], it.who, it.at[:10]
     kind = KINDS.get(it.about.get("command", {}).get("cmd", ""))
     title = kind.deeds if kind else "Sent a line to the register"
-    return "Stored applications" if "import" in it.about else title, it.who, it.at[:10]
+    if "import" in it.about:
+        title = "Added applications to the register"
+    return title, it.who, it.at[:10]
 
 
 def about(entries: Sequence[Entry]) -> str:

@@ -15,7 +15,7 @@ from collections.abc import Callable
 from register_files import Refused
 
 from office import commands, days, fields, persons, rules, sheet, texts
-from office.check import ERROR, FIXED, LOOK, values_of
+from office.check import values_of
 from office.model import PLAN, Register
 
 from .desk import DONE, REFUSED, Desk, Result
@@ -24,7 +24,6 @@ from .people import Person
 from .staging import Staging
 from .staging_check import Checked, Checker, Differences, Table, too_many
 from .staging_files import Note
-from .staging_page import title_of
 from .staging_rows import COMMITTED, OPEN, SENDING, WITHDRAWN, Staged, packed_notes
 
 # what the copy is for that is made before rows are sent, and without which nothing is sent
@@ -92,16 +91,9 @@ class Commit:
             sum(it["looked_after"] == "yes" for it in found), dict(sorted(first.items())))
 
     @property
-    def left(self) -> list[tuple[str, str, int]]:
-        """The findings that are left: their kind, their column, and their number."""
-        words = {ERROR: "errors", LOOK: "to look at", FIXED: "changes in reading"}
-        counted = collections.Counter(
-            (it.kind, it.column) for found in self.table.findings.values() for it in found)
-        order = {column: at for at, column in enumerate(fields.COLUMNS)}
-        found = sorted(counted.items(), key=lambda it: (
-            list(words).index(it[0][0]), order.get(it[0][1], -1)))
-        return [(words[kind], title_of(column) if column else "whole row", many)
-                for (kind, column), many in found]
+    def to_check(self) -> int:
+        """How many rows that would be stored should be checked first."""
+        return sum(self.table.has_look(it.staged.id) for it in self.rows)
 
     @functools.cached_property
     def digest(self) -> str:

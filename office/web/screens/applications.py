@@ -132,7 +132,7 @@ def show() -> Answer:
     entry, out = number_in(args, "done"), number_in(args, "out")
     if entry or out:
         many = texts.count(staging.stored(entry), "application")
-        said = [f"Added to the register: {many} (entry {entry} of the activity)."] if entry else []
+        said = [f"Added to the register: {many}."] if entry else []
         left = [f"{texts.count(out, 'row')} that the register had are out of the table."]
         return page(" ".join(said + left if out else said))
     saved = numbers_in("row")
