@@ -189,9 +189,24 @@ def flags(text: str, context: Context) -> Field:
             continue
         if re.search(r"[0-9]{4}-[0-9]{2}-[0-9]{2}", it):
             return Field("", "a spreadsheet has made a day of it", "day", it)
-        said = f"reasons are numbers from {limit.least} to {limit.most}"
-        return Field("", said, "flag", it, tuple(flags_like(text, it, context.words)))
+        return Field("", wrong_flag(it, context.words), "flag", it,
+                     (*flags_like(text, it, context.words), without(text, it)))
     return Field(";".join(good))
+
+
+def wrong_flag(item: str, words: Mapping[int, str]) -> str:
+    """What is wrong with a flag, by those that the season has."""
+    if not words:
+        return "reasons are numbers from {0.least} to {0.most}".format(LIMITS["flag"])
+    there = texts.spans(sorted(words))
+    if item.isdecimal():
+        return f"reason {texts.cut(item)} is none of {there}"
+    return f"write the reason’s number: {there}"
+
+
+def without(text: str, item: str) -> Likely:
+    """A list without an item of it."""
+    return Likely("Leave it out", replaced(text, item, ""))
 
 
 def flags_like(text: str, item: str, words: Mapping[int, str]) -> Iterator[Likely]:
@@ -254,8 +269,11 @@ def is_like(item: str, school: School) -> bool:
 
 
 def siblings(text: str, context: Context) -> Field:
-    """The siblings' schools."""
-    return codes(text, context.schools, LIMITS["siblings"])
+    """The siblings' schools. One that is not known may be left out."""
+    found = codes(text, context.schools, LIMITS["siblings"])
+    if found.fault != "school":
+        return found
+    return dataclasses.replace(found, likely=(*found.likely, without(text, found.item)))
 
 
 def preferences(text: str, context: Context) -> Field:

@@ -264,13 +264,24 @@ def test_a_flag_that_is_none_is_chosen_from_those_that_have_words(
     office.parts.store.set("flags", json.dumps({"2": "medical need", "3": "child of staff"}))
     screens.add(("a.csv", lines(row(101, "Ada Abbot", flags="16;3"), row(102, "Ben", flags="16"))))
     seen = screens.see("")
-    assert seen.said(1, "flags") == "Reasons are numbers from 0 to 15."
-    assert {"2 medical need", "3 child of staff"} <= set(seen.buttons)
+    assert seen.said(1, "flags") == "Reason 16 is none of 2, 3."
+    assert {"2 medical need", "3 child of staff", "Leave it out"} <= set(seen.buttons)
     assert not [it for it in seen.buttons if it.startswith("Read ")]
     screens.send(2, {"meant": "flags-2=2"})
     assert [it["flags"] for it in stored(office).values()] == ["16;3", "2"]
     screens.press("Replace in 1 row", "?", by="-")
     assert [it["flags"] for it in stored(office).values()] == ["3", "2"]
+
+
+def test_a_reason_or_a_sibling_is_left_out_of_one_row(office: Site, screens: Screens) -> None:
+    """By a button at its cell; what else the cell has stays."""
+    screens.add(("a.csv", lines(row(101, "Ada Abbot", flags="16;3"),
+                                row(102, "Ben Brook", siblings="QXZ;OAK"))))
+    assert screens.see("").buttons.count("Leave it out") == 2
+    screens.send(1, {"meant": "flags-1=3"})
+    screens.send(2, {"meant": "siblings-2=OAK"})
+    assert [(it["flags"], it["siblings"]) for it in stored(office).values()] == [
+        ("3", ""), ("", "OAK")]
 
 
 def test_one_number_in_two_rows(office: Site, screens: Screens) -> None:
@@ -294,8 +305,9 @@ def test_rows_of_one_kind_and_those_that_are_set_aside(office: Site, screens: Sc
     screens.add(("a.csv", lines(
         row(101, "", day="31/11/2024"), row(102, ""), row(103, "Cleo Carver", day="2024-02-30"),
         row(104, "Dov Drake"))))
-    assert '?kind=names-that-are-missing#rows"' in screens.browser.get(PATH).text
-    assert "Names that are missing shown below" in kinds(screens.see("?kind=names-that-are-missing"))
+    key = "?kind=names-that-are-missing"
+    assert f'{key}#rows"' in screens.browser.get(PATH).text
+    assert "Names that are missing shown below" in kinds(screens.see(key))
     assert screens.see("?kind=names-that-are-missing").rows() == [1, 2]
     assert screens.see("?kind=days-that-cannot-be-read").rows() == [1, 3]
     screens.press("Set 2 rows aside", "?kind=names-that-are-missing")
