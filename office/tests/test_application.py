@@ -493,7 +493,7 @@ def test_people_are_added_by_typing_alone(office: Site) -> None:
     assert (form.values["name"], form.values["role"]) == ([""], [""])
     for name, role, wrong, focus in (
         ("Ann B", "reader", {"name": "A name is 1 to 64 of"}, "name"),
-        ("ann", "reader", {"name": "Ann is there already."}, "name"),
+        ("ann", "reader", {"name": "ann is there already."}, "name"),
         ("bea", "", {"role": "Choose a role."}, "role"),
         ("<b>", "x", {"name": "A name is 1 to 64 of", "role": "X is no role:"}, "name"),
     ):

@@ -442,7 +442,7 @@ def test_no_application_of_a_usual_day_is_looked_at(tmp_path: Path) -> None:
 
 
 @pytest.mark.parametrize("data, text", [
-    (b"", "expected a header"), (b"PK\x03\x04junk", "no workbook"),
+    (b"", "expected a header"), (b"PK\x03\x04junk", "no Excel file"),
     (b"\xd0\xcf\x11\xe0junk", "older kind"), (b"%PDF-1.4", "PDF"),
     (b"child,child,name\n", "each column once"), (b"a,b,c\n1,2,3\n", "expected a header"),
     (b"17,Ann Abel,0,0,no,,,2024-10-20,OAK\n", "expected a header"),

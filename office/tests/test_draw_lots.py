@@ -308,7 +308,7 @@ WRONG_SHEETS = {
     "no lot": (b"OAK,1\nOAK,2\n", "the file has no lot of this draw"),
     "a web page": (b"<html><body>1</body></html>", "a web page (HTML)"),
     "a register": (b"SQLite format 3\0" + bytes(200), "a register, or another database"),
-    "no archive": (b"PK\x03\x04" + bytes(200), "the file is no workbook that can be read"),
+    "no archive": (b"PK\x03\x04" + bytes(200), "the file is no Excel file that can be read"),
     "nothing": (b"", "the file has no lot of this draw"),
     "an old workbook": (b"\xd0\xcf\x11\xe0" + bytes(200), "an Excel file of the older kind"),
     "too many columns": (b"x," * 100_000, "has too many columns"),
@@ -365,7 +365,7 @@ def test_lots_that_were_taken_out_again_were_seen(small: Machine) -> None:
         assert not any(office.parts.lots.sheet(first)[1].cells().values())
         hal = Person(office, "hal", "head")
         found = hal.step(first, "give-up")
-        assert found.status_code == 409 and "Type the reason for giving the draw up" in found.text
+        assert found.status_code == 409 and "Type the reason for cancelling the draw" in found.text
         assert hal.step(first, "give-up", reason=MISTYPED).status_code == 303
         page = hal.browser.get(f"/draws/{begun(office)}").text
         assert "was begun before, and" in " ".join(page.split()) and MISTYPED in page

@@ -539,7 +539,7 @@ def test_what_moved_a_class_or_a_limit_is_named(small: Machine) -> None:
         number = begun(office)
         wanted = [
             ["", "", "admission number of ELM raised to 10", "jane"],
-            ["4", "Child 4", "recorded an EHC plan that names OAK", "pat"],
+            ["4", "Child 4", "entered an EHC plan that names OAK", "pat"],
             ["5", "Child 5 x", "details corrected; those before are not in the history",
              "jane"],
             ["5", "Child 5 x", "North, in metres: 400 → 390", "pat"],
@@ -557,7 +557,7 @@ def test_a_step_that_is_sent_again_after_a_session_is_named(small: Machine) -> N
         hal, _ = office_of_two(office)
         path = f"/draws/{begun(office)}"
         page = Page(hal.browser.get(path).text)
-        button = next(it for it in page.buttons() if it.startswith("Close "))
+        button = next(it for it in page.buttons() if it.startswith("Pause "))
         hal.browser.post("/sign-out")
         late = press(hal.browser, path, page, button)
         assert late.status_code == 401 and Page(late.text).buttons() == [button]

@@ -29,6 +29,7 @@ SCREENS: dict[str, tuple[set[str], set[str]]] = {
     "activity": (RECORDS, set()), "answers": (RECORDS, RECORDS),
     "answers_of": (RECORDS, RECORDS), "applications": (RECORDS, RECORDS),
     "applications_add": (RECORDS, RECORDS), "applications_commit": (RECORDS, RECORDS),
+    "applications_files": (RECORDS, RECORDS),
     "gazetteer": (RECORDS, RECORDS), "points": (RECORDS, RECORDS),
     "child": (READS, RECORDS), "draws": (READS, {HEAD}), "figures": (READS, RECORDS),
     "flags": (READS, RECORDS), "find": (READS, set()),
@@ -308,4 +309,4 @@ def test_nobody_but_the_supervisor_sees_lots_before_the_seal(
             assert said in texts[OFFICER, f"/children/1/held.{form}"]
         office.parts.draws.give_up(HAL, number, office.parts.draws.get(number).version, MISTYPED)
         held = browsers[OFFICER].get("/children/1/held.json").text
-        assert not any(it in held for it in secret) and "given up before its lots were" in held
+        assert not any(it in held for it in secret) and "cancelled before its lots were" in held

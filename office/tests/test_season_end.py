@@ -723,7 +723,7 @@ def test_nobody_is_one_of_two_whom_the_other_has_made(
         head.press("take-back")
         office.parts.history.add("adm", "drew a new password", {"person": "hal"})
         said = head.press("ask", 409, name=NAME).text
-        assert "Hal was given another password by adm" in said
+        assert "hal was given another password by adm" in said
         end = office.parts.end.get()
         assert not end.phase and not end.asked_by
 

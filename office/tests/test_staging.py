@@ -214,7 +214,7 @@ WRONG_KINDS = [
     ("a.pdf", b"%PDF-1.4", "a PDF"), ("a.png", b"\x89PNG\r\n\x1a\n", "a picture"),
     ("a.html", b"<html><script>alert(1)</script>", "a web page"),
     ("a.xls", b"\xd0\xcf\x11\xe0junk", "an Excel file of the older kind"),
-    ("a.db", b"SQLite format 3\0", "a register"), ("a.xlsx", b"PK\x03\x04junk", "no workbook"),
+    ("a.db", b"SQLite format 3\0", "a register"), ("a.xlsx", b"PK\x03\x04junk", "no Excel file"),
     ("zero.csv", b"\0" * 50, "no text"), ("bad.csv", b"child\x81\n\x81", "neither in UTF-8"),
     ("lots.csv", b"school,child,lot\nOAK,1,5\n", "column name: expected a column of this name"),
     ("sibs.csv", b"child,name,east,north,looked_after,flags,sibs,day,preferences\n1,A,0,0,no,,,"
@@ -577,7 +577,7 @@ def test_duplicates_are_side_by_side_and_merged(office: Site, screens: Screens) 
     screens.add(("a.csv", lines(rows)))
     seen = screens.see("duplicates")
     text = " ".join(seen.text.split())
-    assert "Pair 1: the same number" in text and text.count("a similar name at the same home") == 2
+    assert "Two rows 1: the same number" in text and text.count("a similar name at the same home") == 2
     assert "child 7 of the register" in text and "Old Hand " in text
     at = [screens.see().row(f"row {it} of a.csv") for it in range(2, 7)]
     both = {"one": at[0], "one-version": 1, "other": at[1], "other-version": 1}

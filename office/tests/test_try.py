@@ -145,7 +145,7 @@ def test_two_weeks_after_the_offers(tmp_path: pathlib.Path) -> None:
         assert all(it in schools for it in ("Ysgol y Rhedyn, Tŷ Gwyn", "St Cuthbert’s", "Quayside"))
 
         _, page = found.signed_in(ROLES[2])
-        assert "Lots" in page and "Draw 1" in page
+        assert "Seal the lots of" in page and "sealed by sunita" in page
 
         _, page = found.signed_in(ROLES[3])
         assert "Ashdown High School" in page and "Quayside" not in page

@@ -31,8 +31,8 @@ def of_supervisor(
     are those that have lots, the last first.
     """
     tasks = [Task(f"Draw the lots of {it.terms.numbers}",
-                  f"{sentence(it.terms.what)[:-1]} for {weekday(it.terms.day)}. The register is"
-                  " recording is paused until they are sealed and the draw is held.",
+                  f"{sentence(it.terms.what)[:-1]} for {weekday(it.terms.day)}. Recording is"
+                  " paused until they are sealed and the draw is held.",
                   "Waits for you", DUE, "lots.one", {"number": str(it.number)})
              for it in draws if it.state == LOTS]
     if present and not present.who(LOTS):

@@ -17,6 +17,7 @@ from ..entry_words import Names
 from ..guard import needs, parts
 from ..history import ANSWER, SETTLED, Entry
 from ..kinds import WORK
+from ..numbers import MOST_DIGITS
 from ..people import NOTES
 from ..tables import Column
 from ..wording import NOT_A_DAY, day_of, moment
@@ -90,7 +91,7 @@ def has(word: str, register: Register | None) -> Test:
     children = register.children.values() if register else ()
     schools = register.schools.values() if register else ()
     numbers = {it.number for it in children if word in texts.plain(it.name)}
-    numbers |= {int(word)} if word.isdecimal() else set()
+    numbers |= {int(word)} if word.isdecimal() and len(word) <= MOST_DIGITS else set()
     codes = {it.code for it in schools if word in texts.plain(f"{it.code} {it.name}")}
     record = parts().history
     entries = {entry for it in numbers for entry in record.about.get(it, ())}

@@ -4,7 +4,6 @@ from collections.abc import Mapping, Sequence
 from typing import Any
 
 import flask
-from markupsafe import Markup
 from register_files import Refused
 
 from office.model import Register
@@ -74,13 +73,13 @@ def linked(it: Task) -> dict[str, str]:
             "href": address_of(it.view, it.values) if it.view else ""}
 
 
-def list_of(words: str, state: str) -> Markup:
+def list_of(words: str, state: str) -> dict[str, str]:
     """A link to the children of a state among those who applied."""
     href = flask.url_for("lists.one", name="children", state=state, filled="applied")
-    return Markup('<a href="{}">{}</a>').format(href, words)
+    return {"words": words, "href": href}
 
 
-def bars(rows: Sequence[tuple[str, int, str]]) -> list[tuple[str, str, str, Any]]:
+def bars(rows: Sequence[tuple[Any, int, str]]) -> list[tuple[Any, str, str, Any]]:
     """Numbers with their share of the whole, and a bar."""
     every = sum(many for _, many, _ in rows)
     return [(words, f"{many:,}", home.share(many, every), pictures.bar(many, every, kind))
