@@ -23,6 +23,19 @@ def is_private(school: School, number: int) -> bool:
     return number <= len(school.criteria) and school.criteria[number - 1].startswith("flag:")
 
 
+def in_brief(school: School, number: int, flags: Mapping[int, str] | None = None) -> str:
+    """What a class of a school means, for a screen and an explanation: a verified reason by its
+    words alone.
+    """
+    if school.criteria and number > len(school.criteria):
+        return "no criterion, by distance"
+    kind, _, value = school.criteria[number - 1].partition(":") if (
+        number and school.criteria) else ("", "", "")
+    if kind == "flag":
+        return (flags or {}).get(int(value)) or f"verified reason {value}"
+    return in_words(school, number, flags)
+
+
 def in_words(school: School, number: int, flags: Mapping[int, str] | None = None) -> str:
     """What a class of a school means, for children in it; `flags` are the office's words for flags
     by their numbers.

@@ -182,10 +182,15 @@ def hidden_of(found: School) -> set[str]:
     # (the admission number is published, and that the school is full is why the child has no place)
     if found.admitted == found.pan:
         del counts["admitted"]
-    is_full = found.plans + found.kept + found.admitted == found.pan
     tied = [(it, 1) for it in counts if it != "others"]
-    hidden: set[str] = withheld.withheld(counts, [tied] if is_full and len(tied) == 3 else [])
+    is_tied = is_full(found) and len(tied) == 3
+    hidden: set[str] = withheld.withheld(counts, [tied] if is_tied else [])
     return hidden
+
+
+def is_full(found: School) -> bool:
+    """Whether no place of a school was left after the draw."""
+    return found.plans + found.kept + found.admitted == found.pan
 
 
 class View:
@@ -210,17 +215,15 @@ class View:
 
     def words(self, number: int) -> str:
         """A class in words."""
-        return criteria.in_words(self.school, number, self.flags)
+        return criteria.in_brief(self.school, number, self.flags)
 
     def is_private(self, key: Cutoff) -> bool:
         """Whether the distance of the last child admitted is withheld."""
         return not self.is_office and criteria.is_private(self.school, key.number)
 
     def ranked(self, key: Cutoff) -> str:
-        """A class and a distance in words. A family does not know the number of a class."""
-        words = self.words(key.number)
-        found = f"class {key.number} ({words})" if self.is_office else words
-        return f"{found}, {key.metres:,} metres"
+        """A class and a distance in words."""
+        return f"{self.words(key.number)}, {key.metres:,} metres"
 
 
 def sentences_of(found: School, school: model.School, view: View) -> Iterator[str]:
@@ -232,11 +235,13 @@ def sentences_of(found: School, school: model.School, view: View) -> Iterator[st
     yield f"The school has {texts.count(found.pan, 'place')}." + "".join(taken_of(found, view))
     wanted = view.count("others", found.wanted, "child", "children")
     admitted = view.count("admitted", found.admitted, "was admitted", "were admitted")
+    if is_full(found) and "admitted" in view.hidden:
+        admitted = "As many were admitted as places were left"
     shown = found.classes if view.is_office else None
     yield (f"{wanted} wanted a place there in this round, this child among them."
            f" {admitted}{':' if shown else '.'}")
     for number, count in (shown or {}).items():
-        yield f"- {count:,} {view.words(number)}"
+        yield f"- {view.words(number)}: {count:,}"
     yield from compared(found, view)
 
 

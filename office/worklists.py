@@ -58,7 +58,7 @@ WORKLISTS = {
         "the last class, distance and lot that were offered at each school in each draw, and how"
         " many were", (), draw_lists.last_offered),
     "list": Worklist(
-        "the waiting lists, or that of one school: positions, names, classes and distances",
+        "the waiting lists, or that of one school: positions, names, criteria met and distances",
         ("school",), register_lists.waiting),
     "lots": Worklist(
         "the lots of a draw beside the children, school by school, and what each was allotted in"

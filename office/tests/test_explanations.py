@@ -10,9 +10,8 @@ from applications import ROUND, Site, child, town
 from explained import COPY, after_round
 from pages import Page
 
-# the only class of each school, for the office and for a family
+# the only class of each school
 WORDS = "ranked by distance alone"
-CLASS = f"class 1 ({WORDS})"
 
 
 @pytest.fixture(name="office", scope="module")
@@ -52,8 +51,8 @@ def test_the_office_reads_all_numbers(office: Site) -> None:
     for said in (
         "The child was offered Beta (B), its second preference.",
         "4 children wanted a place there in this round, this child among them. 2 were admitted:",
-        "<li>2 ranked by distance alone</li>",
-        f"The last child admitted: {CLASS}, 200 metres.", f"This child: {CLASS}, 300 metres.",
+        "<li>ranked by distance alone: 2</li>",
+        f"The last child admitted: {WORDS}, 200 metres.", f"This child: {WORDS}, 300 metres.",
         "the distance decided: the other child lives nearer to the school.",
     ):
         assert said in page.text, said
@@ -107,7 +106,7 @@ def test_both_are_on_paper(office: Site, tmp_path: pathlib.Path) -> None:
     assert "Child 3 Cyd <b>Cole</b>" in family and "For the family" in family
     assert "Some children wanted a place there" in family and "Ddewi" in family
     office_one = printed(jane.get("/children/3/why/1/office/pdf").data, tmp_path)
-    assert "2 ranked by distance alone" in office_one
+    assert "ranked by distance alone: 2" in office_one
 
 
 def test_what_is_no_explanation_is_not_there(office: Site) -> None:

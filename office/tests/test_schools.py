@@ -101,7 +101,7 @@ def test_a_school_is_typed_and_shown_whole_before_it_is_stored(empty: Site) -> N
     assert line[5] == (
         "1. sibling: with a brother or sister at the school"
         "2. within:1500: living within 1,500 metres of the school"
-        "3. flag:2: with a verified priority: medical need"
+        "3. flag:2: medical need"
         "4. feeder:PRIM7: from the feeder school PRIM7")
     assert "<b>&</b>" not in page.text
     found = stores(jane, "/schools/new/", page, "Store 1 school")
@@ -676,7 +676,7 @@ def test_flags_have_words_on_each_screen(tmp_path: pathlib.Path) -> None:
         shown = jane.get("/activity/?who=jane").text
         assert "Reason 3: none → a &#34;medical&#34; &lt;need&gt; مدرسة" in shown
         shown = jane.get("/schools/").text
-        assert "1. with a verified priority: a &#34;medical&#34; &lt;need&gt; مدرسة" in shown
+        assert "1. a &#34;medical&#34; &lt;need&gt; مدرسة" in shown
         rita = office.browser("rita", "reader")
         assert Page(rita.get("/flags/").text).buttons() == []
         assert rita.post("/flags/", {"flag-3": "x"}).status_code == 403

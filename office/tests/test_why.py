@@ -328,10 +328,10 @@ def test_the_sentences_of_a_family(tmp_path: Path) -> None:
         "Oak School (OAK), first preference: no place.",
         "The school has 3 places. 1 of them is taken by an EHC plan.",
         "4 children wanted a place there in this round, this child among them. 2 were admitted:",
-        "- 1 with a brother or sister at the school",
-        "- 1 meeting no criterion of the school",
-        "The last child admitted: class 2 (meeting no criterion of the school), 400 metres, lot 4.",
-        "This child: class 2 (meeting no criterion of the school), 400 metres, lot 9.",
+        "- with a brother or sister at the school: 1",
+        "- no criterion, by distance: 1",
+        "The last child admitted: no criterion, by distance, 400 metres, lot 4.",
+        "This child: no criterion, by distance, 400 metres, lot 9.",
         (
             "Both rank equally by the criteria and live at the same distance, and the lot decided:"
             " the smaller one ranks first."
@@ -339,8 +339,8 @@ def test_the_sentences_of_a_family(tmp_path: Path) -> None:
     ]
     text = "\n".join(lines_of(found[5], is_office=True))
     assert text.endswith(
-        "The last child admitted: class 2 (meeting no criterion of the school), 400 metres.\n"
-        "This child: class 2 (meeting no criterion of the school), 800 metres.\n"
+        "The last child admitted: no criterion, by distance, 400 metres.\n"
+        "This child: no criterion, by distance, 800 metres.\n"
         "Both rank equally by the criteria, and the distance decided: the other child lives nearer"
         " to the school."
     )
@@ -351,11 +351,11 @@ def test_the_sentences_of_a_family(tmp_path: Path) -> None:
     for it in (
         "The school has 3 places. Some of them are taken by EHC plans.",
         (
-            "Some children wanted a place there in this round, this child among them. Some were"
-            " admitted."
+            "Some children wanted a place there in this round, this child among them. As many were"
+            " admitted as places were left."
         ),
-        "The last child admitted: meeting no criterion of the school, 400 metres, lot 4.",
-        "This child: meeting no criterion of the school, 400 metres, lot 9.",
+        "The last child admitted: no criterion, by distance, 400 metres, lot 4.",
+        "This child: no criterion, by distance, 400 metres, lot 9.",
     ):
         assert it in lines, (it, lines)
     assert not any(it.startswith("- ") for it in lines), lines
@@ -391,25 +391,25 @@ def test_what_a_family_does_not_read(tmp_path: Path) -> None:
     assert family.startswith("For the family of the child: small numbers are withheld\n")
     for it in (
         (
-            "The last child admitted: with a verified priority: social or medical need;"
+            "The last child admitted: social or medical need;"
             " its distance is withheld.\n"
         ),
         "8 were admitted.",
         "The criterion decided",
     ):
         assert it in family, (it, family)
-    assert "700 metres" not in family and "\n- 1 " not in family
+    assert "700 metres" not in family and ": 1\n" not in family
     near = said(reg, 21)
     assert (
         "700 metres" not in near
         and "the distance, or between equal distances the lot, decided" in near
-        and "as reason 7" in near
+        and "verified reason 7" in near
     )
     whole = said(reg, 20, is_office=True)
     assert (
         whole.startswith("For the office alone")
-        and "8 were admitted:\n- 1 looked after" in whole
-        and "\n- 7 with the priority that the office has verified as reason 7\n" in whole
+        and "8 were admitted:\n- looked after, or previously looked after: 1\n" in whole
+        and "\n- verified reason 7: 7\n" in whole
         and "700 metres" in whole
         and "some" not in whole.lower()
     )
@@ -449,7 +449,7 @@ def test_what_was_changed_after_the_round(tmp_path: Path) -> None:
     )
     assert found.count(changed) == 1 and found.replace(changed, "") == first
     assert "50 metres" in first
-    assert "This child: class 1 (ranked by distance alone), 5,000 metres." in said(reg, 1, True)
+    assert "This child: ranked by distance alone, 5,000 metres." in said(reg, 1, True)
     do(tmp_path / "reg.db", [{**child(1, east=5), "cmd": "amend"}])
     assert said(reg, 1, True).endswith(
         "THERE IS NO REASON: the data that the register has now give no reason: those of this"
@@ -498,10 +498,10 @@ def test_a_plan_that_was_named_since(tmp_path: Path) -> None:
     # (by hand: OAK is at 0 and ELM at 900 metres, so child 1 has OAK, and child 3 has ELM before
     # child 2)
     for it in (
-        "The last child admitted: class 1 (ranked by distance alone), 50 metres.",
-        "This child: class 1 (ranked by distance alone), 100 metres.",
-        "The last child admitted: class 1 (ranked by distance alone), 750 metres.",
-        "This child: class 1 (ranked by distance alone), 800 metres.",
+        "The last child admitted: ranked by distance alone, 50 metres.",
+        "This child: ranked by distance alone, 100 metres.",
+        "The last child admitted: ranked by distance alone, 750 metres.",
+        "This child: ranked by distance alone, 800 metres.",
     ):
         assert it in first[1], first[1]
     do(tmp_path / "reg.db", [{"cmd": "name_plan", "child": it, "school": "ELM"} for it in (1, 2)])
@@ -510,8 +510,8 @@ def test_a_plan_that_was_named_since(tmp_path: Path) -> None:
     assert [said(reg, it, True, copy=before) for it in (1, 2, 3)] == first
     # (without the copy: of child 3 all is known, also how child 1 ranked, which has a plan now)
     assert said(reg, 3, True).endswith(
-        "The last child admitted: class 1 (ranked by distance alone), 50 metres.\n"
-        "This child: class 1 (ranked by distance alone), 150 metres.\n"
+        "The last child admitted: ranked by distance alone, 50 metres.\n"
+        "This child: ranked by distance alone, 150 metres.\n"
         "Both rank equally by the criteria, and the distance decided: the other child lives nearer"
         " to the school.\n"
     )
@@ -664,9 +664,9 @@ def test_a_fill_is_explained(tmp_path: Path) -> None:
         "",
         "OAK School (OAK), first preference: no place.",
         "4 children waited for the vacancy, this child among them.",
-        "The child that was offered the place: class 3 (meeting no criterion of the school), 200"
+        "The child that was offered the place: no criterion, by distance, 200"
         " metres, lot 7.",
-        "This child: class 3 (meeting no criterion of the school), 200 metres, lot 9.",
+        "This child: no criterion, by distance, 200 metres, lot 9.",
         "A vacancy is offered to the one that ranks first of those who wait: by the criteria, then"
         " by the distance, and between equal distances by the lot.",
     ]
@@ -674,8 +674,8 @@ def test_a_fill_is_explained(tmp_path: Path) -> None:
     assert said(reg, 3, draw=2).splitlines()[6:] == [
         "OAK School (OAK), first preference: no place.",
         "Some children waited for the vacancy, this child among them.",
-        "The child that was offered the place: meeting no criterion of the school.",
-        "This child: meeting no criterion of the school, 200 metres.",
+        "The child that was offered the place: no criterion, by distance.",
+        "This child: no criterion, by distance, 200 metres.",
         "A vacancy is offered to the one that ranks first of those who wait: by the criteria, then"
         " by the distance, and between equal distances by the lot.",
         "",
@@ -696,7 +696,7 @@ def test_a_fill_is_explained(tmp_path: Path) -> None:
         ],
     )
     found = said(reg, 3, draw=3)
-    assert "offered the place:" not in found and "This child: meeting no" in found
+    assert "offered the place:" not in found and "This child: no criterion" in found
     assert said(reg, 6).splitlines()[4:] == [
         "The application of 20 November 2024 came after the closing date, 31 October 2024, and"
         " took no part in the first round."

@@ -145,7 +145,7 @@ def intake(register: Register, code: str, words: Mapping[int, str]) -> list[Held
 def in_words(register: Register, code: str, words: Mapping[int, str]) -> list[str]:
     """The criteria of a school by their numbers, with who is looked after and who meets none."""
     school = register.schools[code]
-    return [criteria.in_words(school, at, words) for at in range(len(school.criteria) + 2)]
+    return [criteria.in_brief(school, at, words) for at in range(len(school.criteria) + 2)]
 
 
 def waiting(register: Register, code: str, words: Mapping[int, str]) -> list[Waiting]:

@@ -45,7 +45,7 @@ def reason_of(
     drawn = register.drawn(draw.number)
     last = drawn.cutoffs.get(code)
     school = register.schools[code]
-    words = criteria.in_words(school, last.number, flags) if last else ""
+    words = criteria.in_brief(school, last.number, flags) if last else ""
     metres = None if last is None or criteria.is_private(school, last.number) else last.metres
     if register.outcomes[draw.number][number] == code:
         return Reason(draw, words, metres, "")

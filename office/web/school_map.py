@@ -89,7 +89,7 @@ def filled(
         has = [it for state, it in rows if state == "has"]
         is_private = criteria.is_private(school, number)
         found.append(Filled(
-            criteria.in_words(school, number, flags), kind_of(school, number), len(has),
+            criteria.in_brief(school, number, flags), kind_of(school, number), len(has),
             len(rows) - len(has), None if is_private else max(has, default=None)))
     return found
 

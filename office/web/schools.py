@@ -201,8 +201,8 @@ def menu(words: Mapping[int, str]) -> list[tuple[str, str]]:
     for it in rules.CRITERIA:
         if it.text == FLAG and it.limit:
             numbers = range(it.limit.least, it.limit.most + 1)
-            found += [(f"{FLAG}{at}", f"flag {at}{': ' + words[at] if at in words else ''}")
-                      for at in numbers]
+            found += [(f"{FLAG}{at}", f"verified reason {at}"
+                       + (f": {words[at]}" if at in words else "")) for at in numbers]
         else:
             found.append((it.text, KINDS.get(it.text, it.text)))
     return found

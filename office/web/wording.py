@@ -100,7 +100,7 @@ class Order:
 
 def classes(school: criteria.School, words: Mapping[int, str]) -> list[str]:
     """The criteria of a school in their order."""
-    return [criteria.in_words(school, at, words) for at in range(1, len(school.criteria) + 1)]
+    return [criteria.in_brief(school, at, words) for at in range(1, len(school.criteria) + 1)]
 
 
 def state(found: Preference, held: Place | None) -> str:

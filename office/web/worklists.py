@@ -133,7 +133,7 @@ def rows_of(
     found: Rows = [[*header[:at + 1], CRITERION, *header[at + 1:]]]
     for row in rows:
         number = row[at]
-        words = criteria.in_words(register.schools[str(row[school])], number, flags) if (
+        words = criteria.in_brief(register.schools[str(row[school])], number, flags) if (
             isinstance(number, int)) else None
         found.append([*row[:at + 1], words, *row[at + 1:]])
     return found

@@ -67,7 +67,7 @@ def listed(register: Register, number: int) -> list[Listed]:
         if state == wording.STATES["left"]:
             state = records.ended_by(parts().history, number, code) or state
         found.append(Listed(at, code, school.name, state,
-                            criteria.in_words(school, it.number, words), it.metres,
+                            criteria.in_brief(school, it.number, words), it.metres,
                             it.state == WAITS, tables.page_of(it.position or 1)))
     return found
 
