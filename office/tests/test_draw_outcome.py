@@ -113,14 +113,24 @@ def test_the_flow_and_the_places_are_those_of_the_register(town: Machine) -> Non
             assert rows == {names[it]: flow[it] for it in flow} and sum(every) == len(has)
             ribbons = re.findall(r'class="ribbon (\w+)".*?<title>(\w+) to [^<]*: (\d+)</title>',
                                  shown.page.text)
+            figures = " ".join(re.sub("<[^>]*>", " ", shown.page.text.split(
+                '<dl class="figures">')[1].split("</dl>")[0]).split())
+            lower = "".join(f", {words} {many}" for words, many in zip(
+                ("second", "third", "lower"), every[1:4]) if many)
+            assert (f"First preference {every[0]} {100 * every[0] / len(has):.1f}%{lower},"
+                    f" none of theirs {every[4]}") in figures
+            assert [len(shown.numbers(f"what={it}")) for it in ("first", "lower", "none")] == [
+                every[0], sum(every[1:4]), every[4]]
             kinds = ("first", "second", "third", "lower", "none")
             assert sorted(ribbons) == sorted(
                 (kind, code, str(many)) for code, row in flow.items()
                 for kind, many in zip(kinds, row) if many)
-            places = {it[0].split()[-1]: it[1:7] for it in tables["by-school"][1:]}
+            places = {it[0].split()[-1]: it[1:8] for it in tables["by-school"][1:]}
+            late = [one["school"] for it in register["children"] if it["child"] in LATE
+                    for one in it["application"]["preferences"]]
             assert places == {it["school"]: [str(one) for one in (
                 it["pan"], sum(code == it["school"] for code in has.values()), it["plans"],
-                it["vacancies"], it["waiting"],
+                it["vacancies"], it["waiting"], late.count(it["school"]),
                 sum(flow.get(it["school"], [])))] for it in register["schools"]}
             by_lot = {it["child"] for it in draw["refusals"] if it["by"] == "lot"}
             assert by_lot and by_lot < (found := shown.numbers("what=lot"))
@@ -139,7 +149,10 @@ def test_children_to_look_at_are_found_by_group(town: Machine) -> None:
         assert shown.numbers("what=note") == {12}
         checked = " ".join(shown.page.by_id["checked"].split())
         assert "10 late Not in this round: they applied after the closing date" in checked
-        assert "1 by a plan" in checked and "119 children take part." in checked
+        assert "1 by a plan" in checked and (
+            "119 children take part. All children, with 10 late" in checked)
+        assert ("119 children take part, and 10 are late. Those offered a place come first, then no"
+                " place, then late ones; by number.") in shown.page.text
         assert 'href="?what=late#children"' in shown.page.text
         assert "Agrees The independent audit" in " ".join(shown.page.by_id["next"].split())
         # (a page has fifty rows; who may not read notes is not told who has one)

@@ -39,13 +39,18 @@ class OfChild:
     marks: tuple[str, ...] = ()
 
     @property
+    def rank(self) -> int | None:
+        """How many schools it listed before the one that it has; None if it listed that not."""
+        return self.listed.index(self.has) if self.has in self.listed else None
+
+    @property
     def nth(self) -> str:
         """As which preference it listed the school that it has, or ""."""
-        return texts.nth(self.listed.index(self.has) + 1) if self.has in self.listed else ""
+        return "" if self.rank is None else texts.nth(self.rank + 1)
 
 
 # the places of a school, as a rehearsal keeps them
-PLACES = ("pan", "plans", "vacancies", "waiting", "taken")
+PLACES = ("pan", "plans", "vacancies", "waiting", "taken", "late")
 
 
 @dataclasses.dataclass(frozen=True)
@@ -53,8 +58,9 @@ class OfSchool:
     """What the draws did at a school: how many new places, those of them for children who move from
     another school, how many kept theirs, and how many left for another; and its places after them:
     its admission number, how many are held by plans, how many are vacant, how many children wait
-    for one, and how many are held. (A rehearsal of an earlier release did not keep these.) And how
-    many put it first, and the last child that it takes in, in words.
+    for one, how many are held, and how many of those who wait applied late. (A rehearsal of an
+    earlier release did not keep these.) And how many put it first, and the last child that it takes
+    in, in words.
     """
 
     school: str
@@ -67,6 +73,7 @@ class OfSchool:
     vacancies: int | None = None
     waiting: int | None = None
     taken: int | None = None
+    late: int | None = None
     firsts: int | None = None
     last: str = ""
 

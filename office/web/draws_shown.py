@@ -31,7 +31,9 @@ GROUPS: dict[str, tuple[str, Group]] = {
     "note": ("With a note", lambda it: NOTE in it.marks),
     "ends": ("Accepted place ends", lambda it: ENDS in it.marks),
     "late": ("Late, not in this round", lambda it: it.what == LATE),
-    "offer": ("A new place", lambda it: it.what == OFFER),
+    "first": ("First preference", lambda it: it.rank == 0),
+    "lower": ("Lower preference", lambda it: it.rank is not None and it.rank > 0),
+    "offer": ("Offered a place", lambda it: it.what in (OFFER, MOVE)),
     "move": ("Moves", lambda it: it.what == MOVE),
     "kept": ("Keeps its place", lambda it: it.what == KEPT),
 }
@@ -48,6 +50,7 @@ SCHOOLS: dict[str, Column[OfSchool]] = {
     "plans": Column("EHC plans", "number", lambda it: it.plans),
     "vacancies": Column("Left free", "number", lambda it: it.vacancies),
     "waiting": Column("Wait", "number", lambda it: it.waiting),
+    "late": Column("of these, late", "number", lambda it: it.late),
     "gone": Column("Left for another", "number", lambda it: it.gone),
     "firsts": Column("First preferences", "number", lambda it: it.firsts),
     "last": Column("Last place", "", lambda it: it.last),
@@ -72,8 +75,10 @@ def figures(draw: Draw, whole: Whole) -> list[tuple[str, str, str, str, str]]:
               if not draw.terms.school else texts.count(counts[MOVE], "moves", "move")
               + " from another school", "", "good")]
     if whole.firsts:
-        found.append((share(met[0], every), "First preference",
-                      texts.count(met[0], "child", "children"), "", ""))
+        lower = [f"{words.lower()} {many:,}" for words, many in zip(RANKS[1:4], met[1:4]) if many]
+        found.append((f"{met[0]:,}", "First preference", ", ".join((
+            share(met[0], every), *lower, f"none of theirs {met[4]:,}")),
+            address(draw, what="first"), ""))
     if counts[KEPT]:
         found.append((f"{counts[KEPT]:,}", "Keep their place", texts.count(
             counts[MOVE], "moves", "move") + " to a school higher on their list",
@@ -129,8 +134,9 @@ def schools(draw: Draw, whole: Whole) -> tuple[tables.Table[OfSchool], dict[str,
     first = whole.schools[0] if whole.schools else None
     is_known = first is not None and first.pan is not None
     is_later = draw.terms.school is not None or draw.terms.first > 1
+    has_late = not is_later and any(it.late for it in whole.schools)
     hidden = [*(() if is_known else KNOWN_LATER), *(() if is_later else OF_LATER),
-              *(() if whole.firsts else ("firsts",)),
+              *(() if has_late else ("late",)), *(() if whole.firsts else ("firsts",)),
               *(() if any(it.last for it in whole.schools) else ("last",))]
     columns = {name: it for name, it in SCHOOLS.items() if name not in hidden}
     bars = {it.school: bar(it) for it in whole.schools if it.taken is not None}
@@ -186,12 +192,25 @@ def children(draw: Draw, whole: Whole, register: Register, known: Grouped) -> di
         "caption": f": {len(chosen):,} of {every:,}" if len(chosen) < every else "",
         "all": flask.url_for("draws.one", number=draw.number, _anchor="children"),
         "kept": [(it, text) for it, text in given.items() if it not in ("q", "page")],
-        "whole": address(draw, page="all"),
+        "whole": address(draw, page="all"), "who": "" if words or what else who(draw, whole),
         "address": tables.pages("draws.one", number=draw.number, q=words or None,
                                 what=what or None, _anchor="children"),
         "why": {(it.draw, it.child): draws_outcome.why_not(register, whole, it)
                 for it in page.rows},
     }
+
+
+def who(draw: Draw, whole: Whole) -> str:
+    """Who is in the list of all children; and its order, where nobody asked for another one."""
+    late = whole.counts[LATE]
+    said = f"{texts.count(whole.took_part, 'child takes part', 'children take part')}"
+    said += f", and {texts.count(late, 'is late', 'are late')}. " if late else ". "
+    if flask.request.args.get("order", "").startswith("children."):
+        return said.strip()
+    moves = ", then moves" if draw.terms.first > 1 else ""
+    kept = ", then who keeps a place" if draw.terms.first > 1 else ""
+    end = ", then late ones" if late else ""
+    return f"{said}Those offered a place come first{moves}, then no place{kept}{end}; by number."
 
 
 def filters(
@@ -212,8 +231,7 @@ def columns_of(draw: Draw) -> Mapping[str, Column[OfChild]]:
         "draw": Column("Draw", "number", lambda it: it.draw),
         "had": Column("Before", "", lambda it: it.had),
         "has": Column("Place", "", lambda it: it.has),
-        "nth": Column("Preference", "", lambda it: it.listed.index(it.has) + 1
-                      if it.has in it.listed else None),
+        "nth": Column("Preference", "", lambda it: it.rank),
         "marks": Column("To look at", "", lambda it: it.marks[0] if it.marks else None),
     }
     if draw.terms.fills == 1:

@@ -121,8 +121,9 @@ def checked(draw: Draw, found: Known, register: Register) -> Iterator[Verdict]:
 def taking_part(whole: Whole, register: Register) -> Iterator[Verdict]:
     """Who takes part in a round, and who does not."""
     said = "child takes part." if whole.took_part == 1 else "children take part."
-    yield Verdict(f"{whole.took_part:,}", INFO, said, "All children", "?what=#children")
     late, by_plan = whole.counts[LATE], plans(register)
+    words = f"All children, with {late:,} late" if late else "All children"
+    yield Verdict(f"{whole.took_part:,}", INFO, said, words, "?what=#children")
     if late:
         yield Verdict(f"{late:,} late", INFO, "Not in this round: they applied after the closing"
                       f" date, {days.in_words(register.days[0])}, and wait from then on.",

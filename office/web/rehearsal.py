@@ -1,6 +1,7 @@
 """A rehearsal: a draw is held on scratch copies, one after another where it is a row of fills, and
 each is audited by a second program. The same audits judge the register after the draw was held.
 """
+import collections
 import dataclasses
 import json
 import os
@@ -186,10 +187,16 @@ class Rehearsal:
 
     def schools(self) -> dict[str, list[int]]:
         """The places of each school after the draws: its admission number, how many are held by
-        plans, how many are vacant, how many children wait for one, and how many places are held.
+        plans, how many are vacant, how many children wait for one, how many places are held, and
+        how many of those who wait applied late.
         """
-        return {code: [it.pan, it.plans, it.vacancies, it.waiting, it.taken]
-                for code, it in self.registers[-1].schools.items()}
+        register = self.registers[-1]
+        late = collections.Counter(
+            code for child, it in register.applications.items()
+            if not register.is_in_time(it.day) and child not in register.places
+            for code in it.preferences)
+        return {code: [it.pan, it.plans, it.vacancies, it.waiting, it.taken, late[code]]
+                for code, it in register.schools.items()}
 
     def firsts(self) -> dict[str, list[int]]:
         """Of the children who put each school first: how many a round leaves with their first,
