@@ -105,6 +105,12 @@ def listed(items: Iterable[str]) -> str:
     return f"{', '.join(first)} and {last}" if first else last
 
 
+def one_of(items: Iterable[str]) -> str:
+    """Items of which one is meant, as a sentence has them: a, b or c."""
+    *first, last = list(items) or [""]
+    return f"{', '.join(first)} or {last}" if first else last
+
+
 def spans(numbers: Iterable[int]) -> str:
     """Numbers in rising order, with those that follow each other as 3 to 9."""
     parts: list[list[int]] = []

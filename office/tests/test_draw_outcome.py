@@ -167,7 +167,13 @@ def test_children_to_look_at_are_found_by_group(town: Machine) -> None:
         office.parts.draws.confirm(people.Person("jane", "officer"), number,
                                    version(office, number))
         office.add("hal", "head")
-        assert "It waits for a head of the office: hal." in shown.at("").by_id["next"]
+        page = " ".join(shown.at("").by_id["draw"].split())
+        assert re.search(r"You confirmed round 1 at [0-9:]{5}\. hal holds it next\.", page)
+        assert "It waits for a head of the office: hal." in page and "Waits for hal." in page
+        home = shown.jane.get("/").text
+        assert "Draw 1 waits for hal" in home and "Go on with draw 1" not in home
+        assert "Go on with draw 1" in office.browser("hal").get("/").text
+        assert "Go to it" not in page and re.search(r"Copy 1, made .* before it", page)
         office.parts.draws.send(HAL, number, version(office, number))
         assert said not in shown.jane.get("/children/1").text
 

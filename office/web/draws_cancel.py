@@ -9,8 +9,8 @@ from .draws_terms import OPENED, SENT, UNSEALED, UNSENT_SEALED, Draw
 ALL = ("give-up", "ask-give-up", "keep-on", "confirm-give-up", "give-up-alone", "ask-restore",
        "keep", "restore", "restore-alone")
 NOTHING = "Nothing of it was recorded. Afterwards everybody can record again."
-LOTS = ("The lots are not in the next one: the supervisor enters the same ones again, with what was"
-        " wrong in them corrected.")
+LOTS = ("These lots are not taken over. If the draw begins again, the supervisor enters the lots"
+        " again, the same ones, with mistakes corrected.")
 BACK = ("The register becomes what it was before. As nobody else could record anything since,"
         " nothing else is lost.")
 TWO = "One person asks for it, and another one confirms it."

@@ -1,9 +1,11 @@
 """Who has to do what now with a draw: the first thing on its page."""
 import dataclasses
 
+from office import texts
+
 from .draws_second import Second
 from .draws_terms import (
-    CLOSED, GIVEN_UP, LOTS, OPENED, REHEARSED, RESTORED, SEALED, SENDING, STEPS, Draw,
+    CLOSED, CONFIRMED, GIVEN_UP, LOTS, OPENED, REHEARSED, RESTORED, SEALED, SENDING, STEPS, Draw,
 )
 from .draws_words import parties
 
@@ -56,8 +58,8 @@ def decision(draw: Draw, known: Known) -> Decision:
     if draw.state == REHEARSED and not known.why_not:
         return Decision("Your decision", (
             f"You are the second person: {parties(draw)} cannot confirm it.",
-            f"After you confirm, a head of the office holds {known.name}. Until then nothing is"
-            " recorded."), known.action, known.button)
+            f"After you confirm, {texts.one_of(known.heads) or 'a head of the office'} holds"
+            f" {known.name}. Until then nothing is recorded."), known.action, known.button)
     step = next((it for it in STEPS if it.state == known.state), None)
     button = known.button or (step.title if step else "")
     said = [step.does] if step and draw.state != REHEARSED else []
@@ -70,13 +72,15 @@ def decision(draw: Draw, known: Known) -> Decision:
     if draw.state == REHEARSED and known.second:
         said += waits(tuple(known.second.may), "a second person")
     action = "" if known.why_not else known.action
+    if draw.state == CONFIRMED and known.why_not and known.heads:
+        return Decision(f"Waits for {texts.one_of(known.heads)}", tuple(said))
     return Decision(f"Next: {button[:1].lower()}{button[1:]}", tuple(said), action, known.button,
                     known.state == SENDING)
 
 
 def waits(names: tuple[str, ...], what: str) -> list[str]:
     """Whom it waits for."""
-    return [f"It waits for {what}: {' or '.join(names)}."] if names else [
+    return [f"It waits for {what}: {texts.one_of(names)}."] if names else [
         f"Nobody can be {what} now."]
 
 

@@ -5,12 +5,14 @@ import dataclasses
 from collections.abc import Mapping
 from typing import Any
 
+from office import texts
 from office.model import Register
 
 from . import (
     draws_again, draws_cancel, draws_changes, draws_second, draws_shown, draws_verdict,
     draws_words, explanations, flags, restores_terms, step_store,
 )
+from .desk import local
 from .draws import case_of, held_in, next_state
 from .draws_cancel import Way
 from .draws_changes import Change
@@ -20,13 +22,13 @@ from .draws_outcome import Whole, whole
 from .draws_second import Case, Second
 from .draws_shown import Grouped
 from .draws_terms import (
-    AUDITED, BEGUN, CLOSED, CONFIRMED, FOLLOWED, IN_ORDER, IN_WORDS, OPENED, REHEARSED, SEALED,
-    SENDING, SENT, STEPS, TAGS, UNSENT_SEALED, Draw,
+    AUDITED, BEGUN, CLOSED, CONFIRMED, COPIED, FOLLOWED, IN_ORDER, IN_WORDS, OPENED, REHEARSED,
+    SEALED, SENDING, SENT, STEPS, TAGS, UNSENT_SEALED, Draw,
 )
 from .guard import parts, person
 from .history import ANSWER, SENDS, SETTLED
 from .people import CONFIRM, DRAW, LOTS, NOTES, PERSON, Person
-from .wording import sentence
+from .wording import moment, sentence
 
 # the request by which a draw comes to a state, where that does not follow by itself; and the one by
 # which what follows is tried again
@@ -239,6 +241,25 @@ def state_in_words(found: Seen) -> str:
     if found.draw.state == SENDING and found.standing == found.draw.terms.fills:
         return "closed, and held; not audited yet"
     return IN_WORDS[found.draw.state]
+
+
+def confirmed_of(found: Seen) -> str:
+    """Who has confirmed a draw that waits to be held, when, and who holds it next; or ""."""
+    draw = found.draw
+    if draw.state != CONFIRMED or draw.give_up_by or found.work:
+        return ""
+    done = draw.came_to(CONFIRMED)
+    who = "You" if done.who == person().name else done.who
+    heads = texts.one_of(who_may(DRAW)) or "A head of the office"
+    return f"{who} confirmed {found.name} at {local(done.at)}. {heads} holds it next."
+
+
+def copied(draw: Draw) -> list[str]:
+    """The copies of the register that were made for a draw, with the moment of each."""
+    found = (("before it", draw.before, COPIED), ("after it", draw.after, AUDITED))
+    made = [(words, number, draw.came_to(state).at) for words, number, state in found if number]
+    return [f"Copy {number}, made {moment(at) if at else ''} {words}".replace("  ", " ")
+            for words, number, at in made]
 
 
 def tags_of(found: Seen) -> list[tuple[str, str]]:

@@ -46,13 +46,14 @@ class Task:
 @dataclasses.dataclass(frozen=True)
 class Known:
     """What the application knows beside the register, as far as this person may do something about
-    it: the draw in progress and its next step, in a sentence; how many letters of each draw are not
-    recorded as sent; how many answers wait in the person's pile, and rows of applications in the
-    table; what only a head has to do.
+    it: the draw in progress, its next step, in a sentence, and who does it, if only others can; how
+    many letters of each draw are not recorded as sent; how many answers wait in the person's pile,
+    and rows of applications in the table; what only a head has to do.
     """
 
     draw: Draw | None = None
     next_step: str = ""
+    waits_for: str = ""
     untold: Mapping[int, int] = dataclasses.field(default_factory=dict)
     answers: int = 0
     rows: int = 0
@@ -105,6 +106,10 @@ def of_draw(known: Known) -> Iterator[Task]:
     """The draw in progress."""
     if known.draw:
         said = f"{sentence(known.draw.in_words)} {known.next_step}"
+        if known.waits_for:
+            yield Task(f"{sentence(known.draw.terms.numbers).rstrip('.')} waits for"
+                       f" {known.waits_for}", said, "Nothing for you", LATER)
+            return
         yield Task(f"Go on with {known.draw.terms.numbers}", said, "In progress", WAITING,
                    "draws.one", {"number": str(known.draw.number)})
 

@@ -163,7 +163,8 @@ def draw_page(number: int, reason: str = "", status: int = 200) -> Answer:
         is_explained=page.is_explained(draw, register), is_tried=page.is_tried(draw, register),
         repeats=found_draw(draw.repeats) if draw.repeats else None,
         title_of=draws_words.title_of,
-        unsent=page.unsent_of(draw), again=page.again_of(draw),
+        unsent=page.unsent_of(draw), again=page.again_of(draw), copied=page.copied(draw),
+        confirmed=page.confirmed_of(found),
     ), status
 
 

@@ -6,10 +6,12 @@ from typing import Any
 import flask
 from register_files import Refused
 
+from office import texts
 from office.model import Register
 
 from .. import doubts, first_screens, frame, guard, home, pictures, worklists
-from ..draws_terms import Draw
+from ..draws_page import who_may
+from ..draws_terms import CONFIRMED, Draw
 from ..first_screens import First
 from ..guard import SIGNED_IN, needs, parts, person
 from ..home import Known, Task
@@ -47,9 +49,12 @@ def known(register: Register, draw: Draw | None) -> Known:
     """What the application knows that this person may do something about."""
     said = "A step of it runs now." if parts().following.under_way() else (
         frame.turn(draw) if draw else "")
+    # (once it is confirmed, only a head has something to do with it)
+    waits = draw is not None and draw.state == CONFIRMED and not person().may(DRAW)
+    heads = (texts.one_of(who_may(DRAW)) or "a head of the office") if waits else ""
     if not person().may(RECORD):
-        return Known(draw, said)
-    return Known(draw, said, letters.lists().untold(register),
+        return Known(draw, said, heads)
+    return Known(draw, said, heads, letters.lists().untold(register),
                  answers.all_piles().left_of(person().name), tools().staging.count(OPEN),
                  tools().staging.count(WITHDRAWN), of_head(register))
 
