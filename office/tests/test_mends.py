@@ -128,8 +128,9 @@ def test_37_errors_of_five_kinds_are_mended_in_twelve_presses(
     staging = office.app.extensions["staging"].staging
     given = {it: right[int(staging.row(int(it.removeprefix("name-"))).cells["child"])][1]
              for it in names}
-    assert len(given) == 2
+    assert len(given) == 2 and "ready" not in hands.page.by_id
     hands.press("Save what was changed", **given)
+    assert hands.page.by_id["ready"] == "All rows are ready"
     assert hands.count <= 12
     seen = screens.see("?show=ready")
     assert "kinds" not in seen.texts and "1,464 rows" in " ".join(seen.text.split())
@@ -282,6 +283,18 @@ def test_a_reason_or_a_sibling_is_left_out_of_one_row(office: Site, screens: Scr
     screens.send(2, {"meant": "siblings-2=OAK"})
     assert [(it["flags"], it["siblings"]) for it in stored(office).values()] == [
         ("3", ""), ("", "OAK")]
+
+
+def test_a_home_is_typed_where_there_is_no_gazetteer(office: Site, screens: Screens) -> None:
+    """Nothing is there to look it up by, and how many are left is said once."""
+    screens.add(("a.csv", lines(row(101, "Ada Abbot", east="", north=""), row(102, "Ben Brook"))))
+    seen = screens.see("points/")
+    assert seen.texts["counts"] == "1 home to locate, of 2 rows in the table."
+    assert "Save the point" in seen.buttons and "Look up" not in seen.buttons
+    assert "Property number" not in seen.text and "East, in metres" in seen.text
+    done = screens.press("Save the point", "points/", east="1000", north="2000")
+    assert done.texts["ready"] == "All rows are ready"
+    assert list(stored(office).values())[0]["east"] == "1000"
 
 
 def test_one_number_in_two_rows(office: Site, screens: Screens) -> None:

@@ -215,7 +215,8 @@ def test_a_point_that_is_emptied_is_looked_up_by_what_is_typed(office: Site, jan
     assert not to_see(jane)
     assert screens.save(staged(office)["Mo"].id, east="", north="").status_code == 303
     assert to_see(jane).keys() == {"Mo"}
-    do(jane, staged(office)["Mo"], "look", property="200000000001", postcode="")
+    page = do(jane, staged(office)["Mo"], "look", property="200000000001", postcode="")
+    assert page.by_id["ready"] == "All rows are ready" and "/applications/commit/" in page.text
     moved = ("431000", "211000",
              f"from property number 200000000001, gazetteer of {day(office)}")
     assert at(office, "Mo") == moved

@@ -17,7 +17,7 @@ from ..staging import Meanwhile
 from ..staging_page import PAGE
 from ..staging_points import Keys, Looked
 from ..staging_rows import OPEN, Staged
-from ..staging_tools import number_in, tools
+from ..staging_tools import number_in, table_now, tools
 
 screen = flask.Blueprint("points", __name__, url_prefix="/applications/points")
 Answer = str | Response | tuple[str, int]
@@ -66,8 +66,14 @@ def page(said: str = "", status: int = 200, typed: Mapping[str, str] | None = No
         summaries=found.gazetteer.summaries(),
         names=[("", "none"), *((it, texts.cut(it)) for it in names if it)],
         columns=columns, is_chosen=bool(found.columns()), fields=FIELDS,
-        missing=sum(not points.has_any(it.cells) for it in rows), far=points.DIFFER_METRES)
+        far=points.DIFFER_METRES, is_ready=bool(said) and not meant and is_ready())
     return body, status
+
+
+def is_ready() -> bool:
+    """Whether the table has rows, and nothing is wrong in any of them."""
+    table, _ = table_now()
+    return bool(table.rows) and not table.wrong()
 
 
 def line_of(row: Staged, columns: Mapping[str, str],
