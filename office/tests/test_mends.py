@@ -122,7 +122,9 @@ def test_37_errors_of_five_kinds_are_mended_in_twelve_presses(
     hands.press("Read all as day/month/year")
     hands.press("Replace ELK by ELM in all 9 rows")
     hands.press("Keep the first of each")
+    assert hands.page.by_id["answer"] == "Kept the first of each in 5 rows."
     hands.press("Leave the commas out of all")
+    assert hands.page.by_id["answer"] == "Left the commas out of 3 rows."
     names = [it for it in hands.page.form("Save what was changed").values
              if it.startswith("name-")]
     staging = office.app.extensions["staging"].staging
@@ -270,7 +272,8 @@ def test_a_flag_that_is_none_is_chosen_from_those_that_have_words(
     assert not [it for it in seen.buttons if it.startswith("Read ")]
     screens.send(2, {"meant": "flags-2=2"})
     assert [it["flags"] for it in stored(office).values()] == ["16;3", "2"]
-    screens.press("Replace in 1 row", "?", by="-")
+    done = screens.press("Replace in 1 row", "?", by="-")
+    assert done.texts["answer"] == "Left 16 out of 1 row."
     assert [it["flags"] for it in stored(office).values()] == ["3", "2"]
 
 

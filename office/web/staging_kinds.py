@@ -40,6 +40,9 @@ FOR_ALL = {
     "commas": "Leave the commas out of all", "fraction": "Round all to whole metres",
     "lines": "Write all on one line",
 }
+# what is said once a button has been pressed begins with another word than its own
+PAST = {"Keep": "Kept", "Close": "Closed", "Leave": "Left", "Round": "Rounded", "Write": "Wrote",
+        "Replace": "Replaced", "Give": "Gave"}
 NUMBERS_TWICE = {True: ("same child", "One child in two rows"),
                  False: ("same number", "Two children with one number")}
 
@@ -155,6 +158,12 @@ def fill(kind: Kind, table: Table, pairs: Mapping[int, Pair],
         kind.mends = list(numbered([row for row, _ in kind.found], taken, "each"))
 
 
+def done_of(words: str) -> str:
+    """What is said of what a button did. (How many rows it was is said after it.)"""
+    first, _, rest = words.partition(" ")
+    return f"{PAST.get(first, first)} {rest}".removesuffix(" of all").removesuffix(" in all")
+
+
 def merged(found: Iterable[tuple[Staged, Mapping[str, str]]]) -> tuple[Change, ...]:
     """The changes of rows of which some have several cells."""
     rows: dict[int, tuple[Staged, dict[str, str]]] = {}
@@ -172,7 +181,7 @@ def of_items(kind: Kind, what: str, many: str) -> Iterator[Mend]:
             (row, {found.column: next(it.text for it in found.likely if it.by == by)})
             for row, found in kind.found if any(it.by == by for it in found.likely))
         end = f" in all {many}" if len(changes) > 1 else ""
-        yield Mend(f"{what} {by}{end}", f"{what} {words}", changes)
+        yield Mend(f"{what} {by}{end}", done_of(f"{what} {words}"), changes)
 
 
 def replaced(kind: Kind, by: str) -> Mend:
@@ -181,7 +190,7 @@ def replaced(kind: Kind, by: str) -> Mend:
                             fields.replaced(row.cells[found.column], found.item, by)})
                      for row, found in kind.found)
     item = texts.cut(kind.item)
-    return Mend("", f"Replace {item} by {by}" if by else f"Leave {item} out", changes)
+    return Mend("", f"Replaced {item} by {by}" if by else f"Left {item} out", changes)
 
 
 def of_one_meaning(kind: Kind, words: str) -> Iterator[Mend]:
@@ -189,7 +198,7 @@ def of_one_meaning(kind: Kind, words: str) -> Iterator[Mend]:
     changes = merged((row, {found.column: found.likely[0].text}) for row, found in kind.found
                      if len(found.likely) == 1)
     if changes:
-        yield Mend(words, words, changes)
+        yield Mend(words, done_of(words), changes)
 
 
 def of_days(kind: Kind, table: Table) -> tuple[list[Mend], str]:
@@ -232,7 +241,7 @@ def of_twice(kind: Kind, pairs: Mapping[int, Pair], taken: Callable[[], set[int]
         earlier.append(row if both[0] < both[1] else other)
     if len({it.id for it in earlier}) == len(earlier):
         yield dataclasses.replace(aside(earlier), words="Keep the later form of each",
-                                  done="Keep the later form of each")
+                                  done="Kept the later form of each")
 
 
 def days_of(*rows: Staged) -> list[str]:
@@ -253,8 +262,8 @@ def numbered(rows: Sequence[Staged], taken: Callable[[], set[int]], whom: str) -
         span = f"{given[0]}" if len(given) == 1 else f"{given[0]} to {given[-1]}"
         who = whom if len(given) > 1 or whom != "each" else "it"
         words = f"Give {who} the next free number, {span}"
-        yield Mend(words, words, tuple(Change(row, {"child": str(number)})
-                                       for row, number in zip(rows, given)))
+        yield Mend(words, done_of(words), tuple(Change(row, {"child": str(number)})
+                                                for row, number in zip(rows, given)))
 
 
 def aside(rows: Sequence[Staged], what: str = "") -> Mend:

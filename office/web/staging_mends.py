@@ -44,8 +44,15 @@ class Change:
     @property
     def said(self) -> list[str]:
         """What changes in it, each in words."""
-        return [f'"{texts.cut(told(self.row.cells[it]))}" to "{texts.cut(told(text))}"'
+        return [said_of(texts.cut(told(self.row.cells[it])), texts.cut(told(text)))
                 for it, text in self.cells.items() if self.row.cells[it] != text]
+
+
+def said_of(had: str, has: str) -> str:
+    """What a cell had and has, in words."""
+    if not has:
+        return f'"{had}" left out'
+    return f'"{had}" to "{has}"' if had else f'"{has}" where nothing was'
 
 
 @dataclasses.dataclass(frozen=True)
@@ -72,7 +79,8 @@ def apply(staging: Staging, who: str, mend: Mend) -> int:
         for it in mend.changes:
             staging.seen(it.row.id, it.row.version, OPEN)
         said = list(dict.fromkeys(text for it in mend.changes for text in it.said))
-        many = f": {texts.count(len(mend.changes), 'row')}" if said else ""
+        of = "of" if mend.done.endswith(" out") else "in"
+        many = f" {of} {texts.count(len(mend.changes), 'row')}" if said else ""
         about = {"done": f"{mend.done}{many}", "rows": places_of(it.row for it in mend.changes)}
         if said:
             more = [f"{len(said) - MOST_TOLD} more"] if len(said) > MOST_TOLD else []

@@ -37,7 +37,8 @@ LEFT_OUT = "-"
 
 
 def page(text: str = "", is_bad: bool = False, saved: Sequence[int] = (),
-         refused: Mapping[int, Refusal] | None = None, show: str = "") -> Answer:
+         refused: Mapping[int, Refusal] | None = None, show: str = "",
+         is_added: bool = False) -> Answer:
     """The table. Rows that were saved, or could not be, are the first; so is one that the address
     names.
     """
@@ -58,6 +59,7 @@ def page(text: str = "", is_bad: bool = False, saved: Sequence[int] = (),
     wrong = table.wrong()
     body = flask.render_template(
         "applications.html", said=f"{said_of_saved(table, saved)} {text}".strip(), is_bad=is_bad,
+        is_added=is_added,
         reason=reason, page=shown, here=here, kinds=kinds[:MOST_KINDS], others=kinds[MOST_KINDS:],
         kind=kind, aside_kind=staging_kinds.whole_kind(kind, table) if kind else None,
         filters=filters(counts, asked.find), filter="" if kind else FILTERS[asked.show],
@@ -134,7 +136,7 @@ def show() -> Answer:
         many = texts.count(staging.stored(entry), "application")
         said = [f"Added to the register: {many}."] if entry else []
         left = [f"{texts.count(out, 'row')} that the register had are out of the table."]
-        return page(" ".join(said + left if out else said))
+        return page(" ".join(said + left if out else said), is_added=True)
     saved = numbers_in("row")
     if number := number_in(args, "aside"):
         return page(f"Set aside: {staging.row(number).where}. It can be put back from the rows that"
