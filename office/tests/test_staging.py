@@ -145,7 +145,7 @@ def test_each_fault_is_found_and_corrected_at_its_cell(office: Site, screens: Sc
     assert not screens.see().wrong()
     page = screens.see("commit/")
     assert page.buttons.count("Add 12 applications") == 1
-    assert "until the closing day families may change theirs" in " ".join(page.text.split())
+    assert "Until the closing day families may change theirs" in " ".join(page.text.split())
     assert screens.store().status_code == 303
     assert has(office.parts.desk.now()) == expected(GOOD)
     assert len(imports(office)) == 1 and states(office) == {COMMITTED: 12}
@@ -156,17 +156,17 @@ def test_each_fault_is_found_and_corrected_at_its_cell(office: Site, screens: Sc
 
 
 def test_the_counts_are_those_of_the_rows(office: Site, screens: Screens) -> None:
-    """By hand: 12 of which one is late; 7 want OAK first and 5 ELM; 2 are looked after."""
+    """By hand: 12 of which one is late; 7 want OAK first and 5 ELM; 2 are looked after. To check
+    are the late one, and two with flags of which this office has no words.
+    """
     screens.add(("a.csv", lines(GOOD)))
     seen = screens.see("commit/")
     text = " ".join(seen.texts["counts"].split())
-    assert text == "Applications 12 In time 11, up to 31 October 2024 Late 1 Looked after 2"
+    assert text == ("Applications 12 In time 11, up to 31 October 2024 Late 1 Looked after 2"
+                    " To check first 3 rows")
     assert "OAK Oak School 7" in " ".join(seen.text.split())
     assert "ELM Elm School 5" in " ".join(seen.text.split())
     assert seen.texts["verdict"] == "12 applications can be added: 11 in time and 1 late."
-    text = " ".join(seen.text.split())
-    # (and two rows have flags, of which this office has no words)
-    assert "to look at Day 1" in text and "to look at Verified reasons 3" in text
     assert office.parts.desk.now().children.keys() == {7}
 
 
@@ -577,7 +577,8 @@ def test_duplicates_are_side_by_side_and_merged(office: Site, screens: Screens) 
     screens.add(("a.csv", lines(rows)))
     seen = screens.see("duplicates")
     text = " ".join(seen.text.split())
-    assert "Two rows 1: the same number" in text and text.count("a similar name at the same home") == 2
+    assert "Two rows 1: the same number" in text
+    assert text.count("a similar name at the same home") == 2
     assert "child 7 of the register" in text and "Old Hand " in text
     at = [screens.see().row(f"row {it} of a.csv") for it in range(2, 7)]
     both = {"one": at[0], "one-version": 1, "other": at[1], "other-version": 1}
