@@ -173,9 +173,13 @@ def test_children_to_look_at_are_found_by_group(town: Machine) -> None:
         home = shown.jane.get("/").text
         assert "Draw 1 waits for hal" in home and "Go on with draw 1" not in home
         assert "Go on with draw 1" in office.browser("hal").get("/").text
+        assert "What was checked" in page and "119 children take part." in page
+        assert "No change since the applications were stored" in page
+        assert "<details open><summary>The audit in full" in shown.at("audit=1").text
         assert "Go to it" not in page and re.search(r"Copy 1, made .* before it", page)
         office.parts.draws.send(HAL, number, version(office, number))
         assert said not in shown.jane.get("/children/1").text
+        assert "119 children take part." in " ".join(shown.at("").by_id["checked"].split())
 
 
 def test_a_rehearsal_of_an_earlier_release_is_shown(town: Machine) -> None:

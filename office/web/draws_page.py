@@ -39,6 +39,8 @@ OF_SECOND = ("confirm", AGAIN)
 NAMING = (CONFIRMED, SENDING, AUDITED)
 # in these a draw is still to be confirmed
 TO_CONFIRM = IN_ORDER[:IN_ORDER.index(CONFIRMED)]
+# from the rehearsal on the checks of a draw are shown; the register is compared until it is held
+CHECKED, COMPARED = (REHEARSED, CONFIRMED, SENDING, AUDITED, OPENED), (REHEARSED, CONFIRMED)
 # who does a step that does not follow by itself
 DOES = {CLOSED: "by a head of the office", SEALED: "by the supervisor",
         CONFIRMED: "by a second person", SENDING: "by a head of the office"}
@@ -198,31 +200,36 @@ def shown_outcome(draw: Draw, register: Register, found: Whole) -> dict[str, Any
 
 
 def changes_of(draw: Draw, register: Register | None) -> list[Change] | None:
-    """What was changed since the applications were stored, for who reads it before the register is
-    closed, or before the draw is confirmed.
+    """What was changed between the storing of the applications and the close, for who reads it
+    before the register is closed, and from the rehearsal on.
     """
-    if register is None or draw.state not in (BEGUN, REHEARSED):
+    if register is None or draw.state not in (BEGUN, *CHECKED):
         return None
     entries = parts().history.entries
     last = next((it.number for it in reversed(entries) if it.what in (SENDS, ANSWER, SETTLED)), 0)
+    end = draw.came_to(CLOSED).at
     return parts().draws.made.of(
-        "changes", (draw.number, last), register,
-        lambda it: draws_changes.changes(parts().history, it, draw.terms))
+        "changes", (draw.number, last, end), register,
+        lambda it: [one for one in draws_changes.changes(parts().history, it, draw.terms)
+                    if not end or one.at <= end])
 
 
 def verdicts_of(
     draw: Draw, register: Register | None, found: Whole | None, changes: list[Change] | None,
 ) -> tuple[list[draws_verdict.Verdict], list[draws_verdict.Verdict]]:
-    """What is to be looked at before it is confirmed, and the other checks."""
-    if draw.state != REHEARSED or found is None or register is None:
+    """What is to be looked at before it is confirmed, and the other checks; once it is confirmed,
+    all of them are among those that were made.
+    """
+    if draw.state not in CHECKED or found is None or register is None:
         return [], []
     same = parts().draws.made.of(
         "same", (draw.number, draw.version), register, draws_verdict.unchanged, parts().copies,
-        draw)
+        draw) if draw.state in COMPARED else None
     known = draws_verdict.Known(
         found, draws_again.given_up(parts().draws, draw), changes or [], same)
-    return (draws_verdict.to_look_at(draw, known),
-            list(draws_verdict.checked(draw, known, register)))
+    first = draws_verdict.to_look_at(draw, known)
+    others = list(draws_verdict.checked(draw, known, register))
+    return (first, others) if draw.state == REHEARSED else ([], [*first, *others])
 
 
 # ------------------------------------------------------------------------------ what is beside it

@@ -34,13 +34,13 @@ class Verdict:
 class Known:
     """What is looked at of a draw beside itself: its outcome, the draws that were given up before
     it, the changes since the applications were stored, and whether the register is still as it was
-    when it was copied, or why that cannot be said.
+    when it was copied, or why that cannot be said; None once it is held.
     """
 
     outcome: Whole
     before: Sequence[Given]
     changes: Sequence[Change]
-    same: str
+    same: str | None
 
 
 def unchanged(register: Register, copies: Copies, draw: Draw) -> str:
@@ -64,7 +64,7 @@ def audit(draw: Draw) -> Verdict:
         return Verdict("Differs", BAD, "The independent audit does not agree.", "What it found",
                        "#differences")
     return Verdict("Agrees", GOOD, "The independent audit, a second program, works out the same"
-                   " outcome from the copy and the lots.", "The audit in full", "#audit")
+                   " outcome from the copy and the lots.", "The audit in full", "?audit=1#audit")
 
 
 def doubtful(draw: Draw, found: Known) -> Iterator[Verdict]:
@@ -105,7 +105,7 @@ def checked(draw: Draw, found: Known, register: Register) -> Iterator[Verdict]:
         yield from taking_part(whole, register)
     yield of_lots(draw, whole)
     yield of_day(draw, register)
-    if draw.before and not found.same:
+    if draw.before and found.same == "":
         copied = draw.came_to(COPIED)
         yield Verdict("Unchanged", GOOD, f"Copy {draw.before} was made on {moment(copied.at)}, and"
                       " the register is still the same. It can be restored.")
@@ -121,7 +121,8 @@ def checked(draw: Draw, found: Known, register: Register) -> Iterator[Verdict]:
 def taking_part(whole: Whole, register: Register) -> Iterator[Verdict]:
     """Who takes part in a round, and who does not."""
     said = "child takes part." if whole.took_part == 1 else "children take part."
-    late, by_plan = whole.counts[LATE], plans(register)
+    kept = [it.plans for it in whole.schools if it.plans is not None]
+    late, by_plan = whole.counts[LATE], sum(kept) if kept else plans(register)
     words = f"All children, with {late:,} late" if late else "All children"
     yield Verdict(f"{whole.took_part:,}", INFO, said, words, "?what=#children")
     if late:
