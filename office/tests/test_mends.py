@@ -249,12 +249,12 @@ def test_a_school_that_nobody_knows_is_chosen_or_left_out(office: Site, screens:
     seen = screens.see("")
     assert not [it for it in seen.buttons if it.startswith("Replace QXZ by")]
     screens.press("Replace in 3 rows", "?", 409)
-    screens.press("Replace in 3 rows", "?", by="YEW")
+    screens.press("Replace in 3 rows", "?", **{"by-school qxz": "YEW"})
     found = list(stored(office).values())
     assert [it["preferences"] for it in found] == ["OAK;YEW", "OAK;ELM", "YEW"]
     assert found[1]["siblings"] == "YEW"
     screens.press("Undo", f"?did={office.parts.history.entries[-1].number}")
-    screens.press("Replace in 3 rows", "?", by="-")
+    screens.press("Replace in 3 rows", "?", **{"by-school qxz": "-"})
     found = list(stored(office).values())
     assert [it["preferences"] for it in found] == ["OAK", "OAK;ELM", ""]
     assert "Preferences that are missing" in kinds(screens.see(""))
@@ -272,9 +272,22 @@ def test_a_flag_that_is_none_is_chosen_from_those_that_have_words(
     assert not [it for it in seen.buttons if it.startswith("Read ")]
     screens.send(2, {"meant": "flags-2=2"})
     assert [it["flags"] for it in stored(office).values()] == ["16;3", "2"]
-    done = screens.press("Replace in 1 row", "?", by="-")
+    done = screens.press("Replace in 1 row", "?", **{"by-flag 16": "-"})
     assert done.texts["answer"] == "Left 16 out of 1 row."
     assert [it["flags"] for it in stored(office).values()] == ["3", "2"]
+
+
+def test_what_is_chosen_in_another_menu_stays(office: Site, screens: Screens) -> None:
+    """Where one of two is replaced: the other is not, and its menu has what was chosen there."""
+    screens.add(("a.csv", lines(row(101, "Ada Abbot", preferences="QXZ"),
+                                row(102, "Ben Brook", preferences="QXZ"),
+                                row(103, "Cleo Carver", preferences="VVV"))))
+    found = press(screens.browser, PATH, Page(screens.browser.get(PATH).text), "Replace in 2 rows",
+                  **{"by-school qxz": "YEW", "by-school vvv": "OAK"})
+    page = Page(screens.browser.get(found.location).text)
+    assert [it["preferences"] for it in stored(office).values()] == ["YEW", "YEW", "VVV"]
+    assert page.by_id["answer"] == "Replaced QXZ by YEW in 2 rows."
+    assert page.form("Replace in 1 row").values["by-school vvv"] == ["OAK"]
 
 
 def test_a_reason_or_a_sibling_is_left_out_of_one_row(office: Site, screens: Screens) -> None:

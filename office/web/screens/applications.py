@@ -34,6 +34,8 @@ KEPT = ("show", "find", "kind", "page")
 MOST_KINDS = 12
 # chosen in the place of an item that is left out
 LEFT_OUT = "-"
+# the menus of the kinds have this before the kind
+BY = "by-"
 
 
 def page(text: str = "", is_bad: bool = False, saved: Sequence[int] = (),
@@ -59,7 +61,7 @@ def page(text: str = "", is_bad: bool = False, saved: Sequence[int] = (),
     wrong = table.wrong()
     body = flask.render_template(
         "applications.html", said=f"{said_of_saved(table, saved)} {text}".strip(), is_bad=is_bad,
-        is_added=is_added,
+        is_added=is_added, chosen=chosen_now(),
         reason=reason, page=shown, here=here, kinds=kinds[:MOST_KINDS], others=kinds[MOST_KINDS:],
         kind=kind, aside_kind=staging_kinds.whole_kind(kind, table) if kind else None,
         filters=filters(counts, asked.find), filter="" if kind else FILTERS[asked.show],
@@ -197,12 +199,19 @@ def mend() -> Answer:
         try:
             table, _ = table_now()
             kinds = staging_kinds.kinds(table, lambda: numbers_taken(table.register))
-            chosen = chosen_item(kinds) if "by" in form else staging_mends.chosen(
+            chosen = chosen_item(kinds) if "seen" in form else staging_mends.chosen(
                 staging_kinds.all_mends(table, kinds), form.get("mend", ""))
             did = staging_mends.apply(staging, person().name, chosen)
         except Refused as error:
             return page(f"Nothing was changed: {error}.", True)
-    return to_table(did=did, kind=None, page=None)
+    kept = {f"{BY}{key}": by for key, by in chosen_now().items()}
+    return to_table(did=did, kind=None, page=None, **kept)
+
+
+def chosen_now() -> dict[str, str]:
+    """What is chosen in the menus of the kinds, also of those that were not replaced yet."""
+    return {it.removeprefix(BY): by for it, by in flask.request.values.items()
+            if it.startswith(BY) and by}
 
 
 def chosen_item(kinds: Sequence[Kind]) -> staging_mends.Mend:
@@ -213,7 +222,7 @@ def chosen_item(kinds: Sequence[Kind]) -> staging_mends.Mend:
     kind = next((it for it in kinds if it.digest == form.get("seen", "")), None)
     if kind is None:
         raise Meanwhile("the table has changed since it was shown")
-    by = form["by"]
+    by = form.get(f"{BY}{kind.key}", "")
     if by != LEFT_OUT and by not in dict(kind.choices):
         raise Refused(f"choose what is meant by {texts.shown(kind.item)}")
     return staging_kinds.replaced(kind, "" if by == LEFT_OUT else by)
