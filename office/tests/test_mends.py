@@ -393,7 +393,7 @@ def test_a_corrected_file_takes_the_place_of_another(office: Site, screens: Scre
     assert found.status_code == 303 and stored(office) == before
     page = Page(screens.browser.get(found.location).text)
     assert page.tables["changed"][1:] == [
-        ["Ada Abbotrow 2 of a.csv", "101", "Day", "2024-02-30", "2024-10-03"]]
+        ["Ada Abbotrow 2 of a.csv", "101", "Applied", "2024-02-30", "2024-10-03"]]
     assert page.tables["added"][1:] == [["row 5 of a.csv (2)", "105", "Eve Ellis"]]
     assert page.tables["gone"][1:] == [["row 5 of a.csv", "104", "Dov Drake"]]
     done = screens.press("Replace the rows of a.csv", "file/1")
