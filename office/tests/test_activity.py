@@ -31,7 +31,8 @@ def office_fixture(tmp_path_factory: pytest.TempPathFactory) -> Iterator[Site]:
                 "cmd": "accept", "child": number, "school": school})
         bo.post("/flags/", {"flag-2": "<b>medical</b> need", "seen": "{}"})
         eve: dict[str, Any] = {**child(5, "Eve", 500), "siblings": ["A"]}
-        moved = {**eve, "cmd": "amend", "name": "Eve Eden", "flags": [2], "siblings": []}
+        moved: dict[str, Any] = {
+            **eve, "cmd": "amend", "name": "Eve Eden", "flags": [2], "siblings": []}
         for it in (eve, {**moved, "present": ""}):
             found.record("jane", it)
         yield found

@@ -249,12 +249,12 @@ def test_a_school_that_nobody_knows_is_chosen_or_left_out(office: Site, screens:
     seen = screens.see("")
     assert not [it for it in seen.buttons if it.startswith("Replace QXZ by")]
     screens.press("Replace in 3 rows", "?", 409)
-    screens.press("Replace in 3 rows", "?", **{"by-school qxz": "YEW"})
+    screens.press("Replace in 3 rows", "?", 303, **{"by-school qxz": "YEW"})
     found = list(stored(office).values())
     assert [it["preferences"] for it in found] == ["OAK;YEW", "OAK;ELM", "YEW"]
     assert found[1]["siblings"] == "YEW"
     screens.press("Undo", f"?did={office.parts.history.entries[-1].number}")
-    screens.press("Replace in 3 rows", "?", **{"by-school qxz": "-"})
+    screens.press("Replace in 3 rows", "?", 303, **{"by-school qxz": "-"})
     found = list(stored(office).values())
     assert [it["preferences"] for it in found] == ["OAK", "OAK;ELM", ""]
     assert "Preferences that are missing" in kinds(screens.see(""))
@@ -272,7 +272,7 @@ def test_a_flag_that_is_none_is_chosen_from_those_that_have_words(
     assert not [it for it in seen.buttons if it.startswith("Read ")]
     screens.send(2, {"meant": "flags-2=2"})
     assert [it["flags"] for it in stored(office).values()] == ["16;3", "2"]
-    done = screens.press("Replace in 1 row", "?", **{"by-flag 16": "-"})
+    done = screens.press("Replace in 1 row", "?", 303, **{"by-flag 16": "-"})
     assert done.texts["answer"] == "Left 16 out of 1 row."
     assert [it["flags"] for it in stored(office).values()] == ["3", "2"]
 

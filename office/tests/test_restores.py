@@ -153,7 +153,8 @@ def staged_by(office: Site, entry: int) -> None:
     """An application of the staging table that was stored by an entry of the history."""
     at = "2025-03-03T10:00:00+00:00"
     with office.parts.store.writing() as db:
-        db.execute("INSERT INTO staged_file VALUES (1, 'a.csv', '', 0, 0, '[]', 'jane', ?, NULL)", (at,))
+        db.execute("INSERT INTO staged_file VALUES"
+                   " (1, 'a.csv', '', 0, 0, '[]', 'jane', ?, NULL)", (at,))
         db.execute("INSERT INTO staged_row (file, number, cells, others, notes, state, who, added,"
                    " changed_by, changed, entry) VALUES (1, 1, '{}', '{}', '[]', 'committed',"
                    " 'jane', ?, 'jane', ?, ?)", (at, at, entry))

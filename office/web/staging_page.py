@@ -23,8 +23,8 @@ KINDS = {WRONG: "bad", CHECK: "warn", READY: "good"}
 TITLES = {
     "child": ("Number", 8), "name": ("Name", 22), "east": ("East", 8), "north": ("North", 8),
     "looked_after": ("Looked after", 5), "flags": ("Verified reasons", 6),
-    "siblings": ("Siblings’ schools", 10), "day": ("Applied", 11), "preferences": ("Preferences", 22),
-    "present": ("Present school", 8),
+    "siblings": ("Siblings’ schools", 10), "day": ("Applied", 11),
+    "preferences": ("Preferences", 22), "present": ("Present school", 8),
 }
 # the columns of the page after that of the name: those of the rows that each has, and the last one
 # all others
