@@ -137,7 +137,7 @@ def taking_part(whole: Whole, register: Register) -> Iterator[Verdict]:
 def of_lots(draw: Draw, whole: Whole) -> Verdict:
     """Who sealed the lots, and of how many children they decide."""
     done, many = draw.came_to(SEALED), sum(LOT in it.marks for it in whole.children)
-    said = f"{done.who} sealed the lots on {moment(done.at)}. "
+    said = f"{done.who} sealed the lots on {moment(done.at)}. " if done.at else ""
     if "by_lot" not in draw.rehearsal:
         return Verdict("Sealed", GOOD, said.strip())
     if not many:
