@@ -1,5 +1,5 @@
 """What a machine without the large libraries does: all modules load, and whoever asks for a PDF or
-a point by latitude and longitude is told which package is missing."""
+a point by latitude and longitude reads which package is missing."""
 import pathlib
 import subprocess
 import sys

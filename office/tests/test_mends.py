@@ -1,5 +1,5 @@
 """Errors of many rows, mended by kinds: by buttons that say how they read what is written, whose
-work is told and can be taken back; and a corrected file in the place of another.
+work is shown and can be undone; and a corrected file in the place of another.
 """
 import datetime
 import io

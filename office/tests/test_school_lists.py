@@ -148,7 +148,7 @@ def test_who_comes_next_is_shown_before_a_fill_begins(
     form = Page(hal.get(link.replace("&amp;", "&")).text).form("Begin draw 2").values
     assert (form["kind"], form["school"], form["fills"]) == (["fill"], ["OAK"], ["2"])
     assert office.parts.history.entries[-1] == before and office.parts.draws.present() is None
-    # (who may not begin one is told who does)
+    # (who may not begin one sees who does)
     text = rita.get("/schools/OAK/offer").text
     assert "A head of the office begins it." in text and "/draws/?" not in text
 

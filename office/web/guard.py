@@ -51,7 +51,7 @@ FOR_PROGRAMS = ("this is for other programs, which send a token: the head of the
                 " program on the screen People")
 # what a program may ask for beside it: that it is known, before the site reads what it sends
 OF_BOTH = "signing.signed_in"
-# what has more than one child, and is taken away, is on record: each by a person or a program once
+# what has more than one child, and is downloaded, is on record: each by a person or a program once
 # an hour; of the register's own answers also those that begin so
 EXPORTS = ("register.register", "register.draw", "register.pairs", "register.waiting", "lists.csv",
            "lists.workbook", "schools.workbook", "trials.workbook", "trials.pdf",
