@@ -291,11 +291,6 @@ def present(text: str, context: Context) -> Field:
                  tuple(schools_like(item, item, context.schools)))
 
 
-def has_two_readings(text: str) -> bool:
-    """Whether a text is a day by day/month/year, and another one by month/day/year."""
-    return len(days.readings(trimmed(text))) > 1
-
-
 def day(text: str, context: Context) -> Field:
     """The day of the application."""
     found = trimmed(text)
