@@ -6,7 +6,7 @@ from collections.abc import Callable
 from html import escape
 from pathlib import Path
 
-# beside README.md, CHANGELOG.md, CONTRIBUTING.md, COPYING and docs/*.md
+# beside README.md, CHANGELOG.md, CONTRIBUTING.md, COPYING and the pages of docs
 LISTS = ("bench/RESULTS.md", "crates.txt", "debian/ported.tsv", "tools/claims.txt",
          "tools/expected", "tools/mutants", "tools/notation_words.json", "tools/promises.md",
          "tools/proved_source.py", "tools/test", "tools/unit", "tools/verdict_words.json")

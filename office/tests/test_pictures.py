@@ -48,7 +48,7 @@ def test_a_waiting_list_shows_how_children_rank(now: dict[str, str]) -> None:
 
 def shown() -> list[tuple[str, pathlib.Path]]:
     """The pictures of all pages, each with the words beside it."""
-    pages = [ROOT / "README.md", *sorted((ROOT / "docs").glob("*.md"))]
+    pages = [ROOT / "README.md", *sorted((ROOT / "docs").rglob("*.md"))]
     return [(said, page.parent / target) for page in pages
             for said, target in IMAGE.findall(page.read_text("utf-8"))]
 
