@@ -143,7 +143,7 @@ install:
 	install -m 644 tools/register_files.py $(DESTDIR)$(PREFIX)/share/admissions/register_files.py
 	install -D -m 644 docs/admissions.1 $(DESTDIR)$(PREFIX)/share/man/man1/admissions.1
 	install -d $(DESTDIR)$(PREFIX)/share/doc/admissions
-	for page in HANDBOOK ERRORS DEPLOYMENT FORMATS GLOSSARY DATA-PROTECTION SECURITY; do install -m 644 docs/$$page.md $(DESTDIR)$(PREFIX)/share/doc/admissions || exit 1; done
+	for page in HANDBOOK DEPLOYMENT admin/DATA-PROTECTION admin/SECURITY reference/ERRORS reference/FORMATS reference/GLOSSARY; do install -D -m 644 docs/$$page.md $(DESTDIR)$(PREFIX)/share/doc/admissions/$$page.md || exit 1; done
 	install -d $(DESTDIR)$(PREFIX)/share/doc/admissions/pictures
 	install -m 644 docs/pictures/*.png $(DESTDIR)$(PREFIX)/share/doc/admissions/pictures
 	deploy/manuals $(DESTDIR)$(PREFIX)

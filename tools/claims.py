@@ -1,4 +1,4 @@
-"""The sentences of the promises of docs/GUARANTEES.md, each with the clauses that carry it
+"""The sentences of the promises of docs/trust/GUARANTEES.md, each with the clauses that carry it
 (tools/claims.txt)."""
 import re
 from pathlib import Path

@@ -22,7 +22,7 @@ BLOCK, HEADING = re.compile(r"(?ms)(^```.*?^```$)"), re.compile(r"(?m)^(#.*)$")
 
 def names() -> list[str]:
     """The files that are copied."""
-    pages = sorted(str(it) for it in Path("docs").glob("*.md"))
+    pages = sorted(str(it) for it in Path("docs").rglob("*.md"))
     return ["README.md", "CHANGELOG.md", "CONTRIBUTING.md", "COPYING", *pages, *LISTS]
 
 

@@ -1,7 +1,7 @@
 """The names of refusals, errors and statuses that the source states, and their anchors in ERRORS.
 
-Each is in one row of docs/ERRORS.md, beside its anchor; and each anchor of the page is of one of
-them. The application and the other pages link to them.
+Each is in one row of docs/reference/ERRORS.md, beside its anchor; and each anchor of the page is of
+one of them. The application and the other pages link to them.
 """
 import re
 from collections.abc import Iterator

@@ -1,5 +1,5 @@
 """The notation of clauses in words, for tools/evidence: the example that is read aloud and the
-table of docs/ARCHITECTURE.md, and what else the clauses that are shown have
+table of docs/dev/ARCHITECTURE.md, and what else the clauses that are shown have
 (tools/notation_words.json)."""
 import json
 import re
@@ -9,7 +9,7 @@ from typing import Any
 
 from page_text import Refused, plain, section, table
 
-PAGE, HEADING = Path("docs/ARCHITECTURE.md"), "The language in thirty lines"
+PAGE, HEADING = Path("docs/dev/ARCHITECTURE.md"), "The language in thirty lines"
 WORDS, KIT_WORDS = Path("tools/notation_words.json"), Path("tools/kit_words.json")
 SIGN = re.compile(r"[^\x00-\x7f\w\s]|[λℕℤ]|\b(?:if|then|else|do|let|elim|record|data|abbrev"
                   r"|unfoldable)\b|[-+*/%^<>=|&!\[\]]+")

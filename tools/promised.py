@@ -1,6 +1,6 @@
-"""What is promised, for tools/evidence: the promises of docs/GUARANTEES.md in plain words, the
-rules of the Code there and the rows of tools/promises.md, each sentence with its clauses; and each
-clause with what it assumes."""
+"""What is promised, for tools/evidence: the promises of docs/trust/GUARANTEES.md in plain words,
+the rules of the Code there and the rows of tools/promises.md, each sentence with its clauses; and
+each clause with what it assumes."""
 import re
 from collections.abc import Callable
 from pathlib import Path

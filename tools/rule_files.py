@@ -1,8 +1,8 @@
 """The files that follow from the rules of the source, and from the words for them.
 
-They are office/rules.json, and tables of docs/ERRORS.md.
+They are office/rules.json, and tables of docs/reference/ERRORS.md.
 office/words.json, which is written by hand, has words for each refusal, error and kind of field,
-and for no other. The names in docs/ERRORS.md have anchors (error_names.py).
+and for no other. The names in docs/reference/ERRORS.md have anchors (error_names.py).
 """
 import importlib
 import json
@@ -15,7 +15,8 @@ from typing import Any
 import error_names
 import source_rules
 
-RULES, WORDS, PAGE = Path("office/rules.json"), Path("office/words.json"), Path("docs/ERRORS.md")
+RULES, WORDS = Path("office/rules.json"), Path("office/words.json")
+PAGE = Path("docs/reference/ERRORS.md")
 # the groups of words, and how the table of each begins
 TITLES = {
     "refusals": "| Refusal | Meaning | What to do |",

@@ -131,7 +131,7 @@ def helps_fixture(tmp_path_factory: pytest.TempPathFactory) -> dict[str, str]:
 
 def test_each_command_has_the_options_that_the_page_names(helps: dict[str, str]) -> None:
     """Beside the program's own, of which FORMATS has the subcommands."""
-    formats = (ROOT / "docs/FORMATS.md").read_text(encoding="utf-8")
+    formats = (ROOT / "docs/reference/FORMATS.md").read_text(encoding="utf-8")
     seen = set()
     for part in (it for line in spans() for it in re.split(r"[|;]|&&", line)):
         words = part.replace("/usr/lib/admissions/", "admissions-").split()

@@ -145,7 +145,7 @@ def test_each_sentence_leads_to_its_clauses_where_they_are(pack: Pack) -> None:
     copy, found = pack
     assert found["changes_that_are_not_committed"] == []
     assert found["commit"] == run(copy, "git", "rev-parse", "HEAD").stdout.strip()
-    names = page_text.parts(copy / "docs/GUARANTEES.md", "What is promised")
+    names = page_text.parts(copy / "docs/trust/GUARANTEES.md", "What is promised")
     assert [it["claim"] for it in found["claims"]] == [name for name, _ in names]
     pages = {it.name: it.read_text() for it in copy.glob("out/evidence/*.html")}
     clauses = {it["id"]: it for it in found["clauses"]}
@@ -592,7 +592,7 @@ def test_what_a_page_names_is_in_the_folder_or_in_the_repository(pack: Pack) -> 
             for name in WORD_OF_A_PATH.findall(words):
                 is_there = "NAME" in name or list(copy.glob(name)) or name in ("tools/cases",)
                 assert is_there, f"{page.name}: {name}"
-            for name in re.findall(r"\b(?:docs/)?[A-Z][A-Z_-]+\.md\b", words):
+            for name in re.findall(r"\b(?:docs/(?:[a-z]+/)?)?[A-Z][A-Z_-]+\.md\b", words):
                 # (a page of the repository is a link)
                 assert not (copy / name).exists(), f"{page.name}: {name}"
                 assert (guides / "rattle" / name).exists() or (
@@ -949,7 +949,7 @@ def test_a_statement_is_split_outside_of_brackets(text: str, parts: list[str]) -
 
 def test_of_each_rule_of_the_code_it_is_said_what_is_not_proved(promises: typing.Any) -> None:
     rules = promises().code()
-    page = (ROOT / "docs/GUARANTEES.md").read_text()
+    page = (ROOT / "docs/trust/GUARANTEES.md").read_text()
     rows = re.findall(r"(?m)^\| .*", page.partition("| The Code |")[2].partition("\n\n")[0])
     assert len(rules) == len(rows) == 12
     assert all(it["proved"] and it["only_tested"] and it["neither"] and it["commands"]
@@ -1016,11 +1016,12 @@ SIZES = "`cases/sizes`, `cases/children`"
      "the test `cases/lengths`, which is not there"),
     ("tools/promises.md", "| each case in which it succeeds; `desk_runs` |", "| each case |",
      "this row names no test: a call that always reports Memory"),
-    ("docs/GUARANTEES.md", "| ranked again |", "| ordered again |",
+    ("docs/trust/GUARANTEES.md", "| ranked again |", "| ordered again |",
      "this rule has no 'ordered again'"),
-    ("docs/GUARANTEES.md", "`office/tests/test_lists.py` |", "the tests |", "no test is named"),
-    ("docs/GUARANTEES.md", "### All or nothing\n", "", "confirmed: these are not the first"),
-    ("docs/GUARANTEES.md", "by the same lots, by declining its place first.",
+    ("docs/trust/GUARANTEES.md", "`office/tests/test_lists.py` |", "the tests |",
+     "no test is named"),
+    ("docs/trust/GUARANTEES.md", "### All or nothing\n", "", "confirmed: these are not the first"),
+    ("docs/trust/GUARANTEES.md", "by the same lots, by declining its place first.",
      "by the same lots, by declining its place first. Nor later.", "words of its 2 sentences"),
 ])
 def test_what_is_missing_is_an_error(
@@ -1028,7 +1029,7 @@ def test_what_is_missing_is_an_error(
     tmp_path: pathlib.Path, monkeypatch: pytest.MonkeyPatch,
 ) -> None:
     """Over the repository with one page changed."""
-    folders = (ROOT / "docs", ROOT / "tools")
+    folders = (ROOT / "docs", ROOT / "docs/trust", ROOT / "tools")
     for folder in (ROOT, *folders):
         (tmp_path / folder.relative_to(ROOT)).mkdir(exist_ok=True)
         for it in folder.iterdir():
@@ -1054,7 +1055,7 @@ def test_what_is_missing_is_an_error(
 def test_a_page_that_does_not_fit_leaves_what_was_there(copy: pathlib.Path) -> None:
     (copy / "out/evidence").mkdir(parents=True)
     (copy / "out/evidence/index.html").write_text("as it was")
-    change(copy, "docs/GUARANTEES.md", "### All or nothing\n", "")
+    change(copy, "docs/trust/GUARANTEES.md", "### All or nothing\n", "")
     done = run(copy, "tools/evidence")
     assert done.returncode == 1 and done.stdout == ""
     assert "A crash loses nothing that was confirmed: these are not" in done.stderr

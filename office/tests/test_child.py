@@ -488,7 +488,7 @@ def test_both_forms_say_who_is_looked_after(office: Site) -> None:
     are those of GLOSSARY.
     """
     jane = office.browser("jane")
-    glossary = (ROOT / "docs" / "GLOSSARY.md").read_text("utf-8")
+    glossary = (ROOT / "docs/reference/GLOSSARY.md").read_text("utf-8")
     for path in ("/applications/add/", "/children/1/correct"):
         found = jane.get(path).text
         assert ">Looked after</label>" in found, path

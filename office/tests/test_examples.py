@@ -1,6 +1,6 @@
-"""The examples of docs/GUARANTEES.md, which show what is not promised of rounds and fills, and the
-season of docs/FORMATS.md, which has each command and each request: they are played by the program,
-and must end as the pages say.
+"""The examples of docs/trust/GUARANTEES.md, which show what is not promised of rounds and fills,
+and the season of docs/reference/FORMATS.md, which has each command and each request: they are
+played by the program, and must end as the pages say.
 
 In the examples of GUARANTEES all children live at one place, so that lots alone decide how a school
 ranks them: the lot of a child is its position in the ranking. Who holds a place was offered it in a
@@ -21,7 +21,7 @@ from served import served
 
 from office.rules import RULES
 
-PAGE = (ROOT / "docs" / "GUARANTEES.md").read_text("utf-8")
+PAGE = (ROOT / "docs/trust/GUARANTEES.md").read_text("utf-8")
 NUMBERS = {"Ann": 1, "Bo": 2, "Cy": 3, "Di": 4}
 CLOSING, LATE = "2024-10-31", "2024-11-04"
 DAYS = ("2025-03-03", "2025-04-07", "2025-05-12", "2025-06-09")
@@ -179,7 +179,7 @@ def test_each_column_of_the_page_is_played() -> None:
 
 # the season of FORMATS: what is typed or sent is at the left margin, what is printed is indented
 
-FORMATS = (ROOT / "docs" / "FORMATS.md").read_text("utf-8")
+FORMATS = (ROOT / "docs/reference/FORMATS.md").read_text("utf-8")
 BLOCK = re.compile(r"(?ms)^```text\n(.*?)^```$")
 STATUS = re.compile(r"\? ([0-9])")
 

@@ -89,8 +89,8 @@ def test_the_help_has_no_picture_that_the_site_would_not_serve(page: Text) -> No
 def test_other_parts_of_the_handbook_are_not_in_the_help() -> None:
     book = ("# A\n\nno [a](B.md)\n\n## The application\n\n[yes](#in-it) and [here](C.md#d)\n\n"
             "![A](b.png)\n\n"
-            "### In it\n\n[why](ERRORS.md#refusals)\n\n## The register as a file\n\nno\n\n"
-            "## Other\n\nno\n")
+            "### In it\n\n[why](reference/ERRORS.md#refusals)\n\n"
+            "## The register as a file\n\nno\n\n## Other\n\nno\n")
     assert help_screen.part_of(book) == (
         "## The application\n\n[yes](#in-it) and here\n\n"
         "### In it\n\n[why](#what-the-register-refuses)\n\n")

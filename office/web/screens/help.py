@@ -23,7 +23,7 @@ TABLE, HEADING = re.compile("<table>"), re.compile("<h[23][^>]*>(.*?)</h[23]>")
 PICTURE = re.compile(r"^!\[.*\]\(.*\)$\n*", re.MULTILINE)
 # a link to another page, which the application does not serve; the refusals are below
 OTHER_PAGE = re.compile(r"\[([^]]*)\]\((?!#)[^)]*\)")
-ERRORS, BELOW = "(ERRORS.md#refusals)", "(#what-the-register-refuses)"
+ERRORS, BELOW = re.compile(r"\([^()]*ERRORS\.md#refusals\)"), "(#what-the-register-refuses)"
 REFUSALS = "## What the register refuses\n\n| Refusal | Meaning | What to do |\n|---|---|---|\n"
 
 
@@ -32,7 +32,7 @@ def part_of(handbook: str) -> str:
     pages.
     """
     part = handbook[handbook.index("\n## ") + 1:].partition(ENDS)[0] + "\n"
-    return OTHER_PAGE.sub(r"\1", PICTURE.sub("", part).replace(ERRORS, BELOW))
+    return OTHER_PAGE.sub(r"\1", ERRORS.sub(BELOW, PICTURE.sub("", part)))
 
 
 def refusals() -> str:
