@@ -39,6 +39,21 @@ def test_a_sheet_has_at_most_eight_million_bytes(
         assert ("at most 8 MB" in text) is not is_taken, (path, size)
 
 
+@pytest.mark.parametrize("path, field, more, text", [
+    ("/answers/several", "sheet", {}, "child,answer\n1,accept Zo\xeb\n"),
+    ("/schools/new/sheet", "sheet", {}, "code,name\nELM,St Ren\xe9\n"),
+    ("/letters/addresses/", "file", {"way": "whole"}, "child,street\n1,1 Caf\xe9 Row\n"),
+])
+def test_a_sheet_in_another_encoding_than_utf_8_is_refused(
+    jane: Browser, path: str, field: str, more: dict[str, str], text: str
+) -> None:
+    """Its letters would be guessed, and the guess would be printed and stored."""
+    for encoding, is_taken in (("cp1252", False), ("mac-roman", False), ("utf-8", True)):
+        given: dict[str, Any] = {field: (io.BytesIO(text.encode(encoding)), "a.csv"), **more}
+        said = "not in UTF-8: save it as .xlsx or as CSV UTF-8"
+        assert (said in Page(jane.post(path, given).text).text) is not is_taken, (path, encoding)
+
+
 def test_a_file_of_a_child_has_at_most_five_million_bytes(jane: Browser) -> None:
     """One byte more is refused."""
     for size, status in ((5_000_001, 422), (5_000_000, 303)):

@@ -99,6 +99,9 @@ def rows_of(given: FileStorage | None) -> list[Row]:
         most = f"a file has at most {inputs.MOST_BYTES // inputs.MB} MB here"
         raise Refused(f"{NAME} is too large: {most}")
     found = sheet_apart.read(NAME, data, None, ADVICE)
+    if found.is_decoded:
+        # (which letters it has would be a guess, and nobody is asked whether it is right)
+        raise Refused(f"{NAME} is not in UTF-8: save it as .xlsx or as CSV UTF-8")
     wrong = [f"row {row}: {said}" for row, _, said, is_error in found.problems if is_error]
     if wrong:
         raise Refused(f"{NAME} has cells that cannot be read: {'; '.join(wrong[:MOST_SHOWN])}")
