@@ -219,9 +219,10 @@ def test_nobody_is_sent_a_letter_twice_by_a_slip(office: Site) -> None:
     """Who has it is not ticked, with who sent it; and what was made twice is not recorded twice."""
     jane, hal = office.browser("jane"), office.browser("hal")
     forms = [asked(it, "offers", "1", child=["1", "2"]) for it in (jane, hal)]
-    one, other = made(jane, forms[0]), made(hal, {**forms[1], "day_of_letters": "4 March 2025"})
+    one, other = made(jane, forms[0]), made(hal, {
+        **forms[1], "child": ["1", "2", "3"], "day_of_letters": "4 March 2025"})
     page = hal.get("/letters/whom?whom=offers&value=1").text
-    assert page.count("made by") == 2
+    assert page.count("made by") == 3
     assert recorded(jane, one)[0] == 303
     again = asked(hal, "offers", "1")
     assert again["child"] == ["3", "4", "5"]
@@ -232,11 +233,16 @@ def test_nobody_is_sent_a_letter_twice_by_a_slip(office: Site) -> None:
     status, page = recorded(hal, other, **day)
     assert status == 409 and "2 children have this letter already. Nothing was recorded" in page
     assert count(office, "letter_set WHERE sent IS NOT NULL") == 1
+    shown = hidden(hal.get(other), "agreed")
+    assert recorded(jane, made(jane, {**forms[0], "key": "third", "child": ["3"]}))[0] == 303
+    # (of child 3 it was not said that it has the letter)
+    status, page = recorded(hal, other, agreed=shown, **day)
+    assert status == 409 and "3 children have this letter already. Nothing was recorded" in page
     late = hal.post(f"{one}/record", {"count": "2", **SENT_ON})
     assert late.status_code == 400
     assert "These letters were recorded already, as sent on 3 March 2025 by jane." in late.text
-    assert recorded(hal, other, agreed="yes", **day)[0] == 303
-    assert office.parts.history.entries[-1].about["again"] == [1, 2]
+    assert recorded(hal, other, agreed=hidden(hal.get(other), "agreed"), **day)[0] == 303
+    assert office.parts.history.entries[-1].about["again"] == [1, 2, 3]
 
 
 def test_a_letter_about_something_else_is_no_second_one(tmp_path: pathlib.Path) -> None:
@@ -269,15 +275,15 @@ def test_neither_drafts_nor_fewer_letters_are_recorded_as_sent(tmp_path: pathlib
             db.executemany("INSERT INTO letter (set_id, place, child, about, words, html)"
                            " VALUES (1, ?, ?, 'draw 1 none', '', x'')", [(0, 1), (1, 2)])
         with pytest.raises(Refused, match="these letters are drafts"):
-            sets.record(jane, 1, day, 2, False)
+            sets.record(jane, 1, day, 2, "")
         sets.change(1, "is_draft=0")
         with pytest.raises(Refused, match="the set has changed since it was shown"):
-            sets.record(jane, 1, day, 1, False)
+            sets.record(jane, 1, day, 1, "")
         with pytest.raises(Refused, match="nobody has downloaded these letters"):
-            sets.record(jane, 1, day, 2, False)
+            sets.record(jane, 1, day, 2, "")
         assert not sets.get(1).sent
         sets.change(1, "taken=?", "2025-03-17T10:00:00.000+00:00")
-        sets.record(jane, 1, day, 2, False)
+        sets.record(jane, 1, day, 2, "")
         assert sets.get(1).sent == "2025-03-17"
 
 

@@ -3,6 +3,7 @@ restart, kept as a file until they are taken or a day has passed, and recorded a
 """
 import dataclasses
 import datetime
+import hashlib
 import json
 import logging
 import os
@@ -266,10 +267,10 @@ class Sets:
             template.text, found.asked.sender)
 
     def record(
-        self, who: Person, number: int, day: datetime.date, count: int, is_agreed: bool,
+        self, who: Person, number: int, day: datetime.date, count: int, agreed: str,
     ) -> None:
-        """Records the letters of a set as sent on a day. Drafts are not; nor, unless somebody says
-        so, those that a child has already.
+        """Records the letters of a set as sent on a day. Drafts are not; nor those that a child has
+        already, unless somebody says so who was shown these.
         """
         with self.lock, self.store.lock:
             found = self.get(number)
@@ -289,7 +290,7 @@ class Sets:
             if not found.taken:
                 raise Refused("nobody has downloaded these letters yet: download them, and record"
                               " them once they are in the post")
-            if (doubled := self.again(number)) and not is_agreed:
+            if (doubled := self.again(number)) and agreed != digest(doubled):
                 have = texts.count(len(doubled), "child has", "children have")
                 raise Twice(f"{have} this letter already. Nothing was recorded")
             children = [it["child"] for it in self.store.rows(
@@ -556,6 +557,11 @@ class Sets:
         source = self.templates.source(self.templates.get(asked.template, asked.version))
         letters_apart.again(source, [found.html], Form(), path)
         return found.child
+
+
+def digest(doubled: list[tuple[int, str]]) -> str:
+    """Who has a letter already, in short: who says that it was sent once more has read this."""
+    return hashlib.sha256(json.dumps(doubled).encode()).hexdigest()
 
 
 def has_moved(register: Register, before: Register | None, child: int) -> bool:

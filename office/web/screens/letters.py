@@ -278,9 +278,10 @@ def recording(
     if not may_record(found):
         return {}
     about = collections.Counter(it["words"].partition(":")[0] for it in letters_of(found.number))
+    doubled = sets().again(found.number)
     return {"day": day or min(found.asked.date, today()).isoformat(), "wrong": wrong,
             "sure_of": sure_of, "about": sorted(about.items()),
-            "doubled": sets().again(found.number)}
+            "doubled": doubled, "agreed": letters_sets.digest(doubled)}
 
 
 @screen.get("/sets/<int:number>/file")
@@ -338,8 +339,7 @@ def record(number: int) -> Answer:
         return set_page(number, f"Nothing was recorded yet: {wording.weekday(day)}, is more than a"
                         " week before today.", 409, "", typed, sure_of=day.isoformat())
     try:
-        sets().record(person(), number, day, numbers.read(count),
-                      form.get("agreed") == "yes")
+        sets().record(person(), number, day, numbers.read(count), form.get("agreed", ""))
     except Twice as error:
         return set_page(number, sentence(str(error)), 409, "", typed,
                         sure_of=form.get("sure_of", ""))
