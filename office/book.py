@@ -12,7 +12,7 @@ from typing import Any
 
 from register_files import Refused
 
-from . import days, texts
+from . import days, libraries, texts
 
 # what a cell has, as it is given; a text of the form YYYY-MM-DD is a day
 Value = str | int | float | datetime.date | None
@@ -40,8 +40,9 @@ class Page:
 def library() -> ModuleType:
     """The package that writes workbooks."""
     try:
+        found = libraries.excel()
         importlib.import_module("openpyxl.worksheet.datavalidation")
-        return importlib.import_module("openpyxl")
+        return found
     except ImportError as error:
         how = "apt-get install python3-openpyxl, or use CSV"
         said = f"an Excel file is written by python3-openpyxl, which is not here: {how}"

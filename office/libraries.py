@@ -1,6 +1,10 @@
 """The libraries beside Python's own modules: the Debian package of each, and what is said where one
 is missing. Those that make PDF, and place latitudes and longitudes, bring many packages:
 the package admissions-office depends on them, and they are imported only where they are used."""
+import importlib
+import sys
+from types import ModuleType
+from typing import Any
 
 PACKAGES = {
     "argon2": "python3-argon2",
@@ -26,6 +30,16 @@ LARGE = {
     "weasyprint": "a PDF needs",
 }
 OFFICE = "admissions-office"
+
+
+def excel() -> ModuleType:
+    """The library of Excel files, without numpy, of which it would take the types of numbers alone.
+    (Where numpy is there, its import may start a thread for each processor, each of which reserves
+    more memory than a process that reads a file may have.)
+    """
+    modules: Any = sys.modules
+    modules.setdefault("numpy", None)
+    return importlib.import_module("openpyxl")
 
 
 def missing(module: str | None) -> str:

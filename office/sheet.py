@@ -14,7 +14,7 @@ from xml.parsers import expat
 
 from register_files import Refused
 
-from . import file_kinds, inputs
+from . import file_kinds, inputs, libraries
 
 SEPARATORS = {",": "commas", ";": "semicolons", "\t": "tabs"}
 SPACE = "http://schemas.openxmlformats.org/spreadsheetml/2006/main"
@@ -173,7 +173,7 @@ def text_of(value: object) -> str:
 def workbook(name: str, data: bytes, wanted: str | None, advice: str) -> Sheet:
     """The sheet of an Excel file: the only one that has anything, or the one that was named."""
     try:
-        import openpyxl
+        openpyxl = libraries.excel()
     except ImportError as error:
         how = "apt-get install python3-openpyxl, or save it as CSV UTF-8"
         said = f"an Excel file is read by python3-openpyxl, which is not here: {how}"

@@ -27,6 +27,13 @@ for package in (office, machine):
             importlib.import_module(it.name)
             print(it.name)
 """
+EXCEL = """
+import sys
+sys.path[:0] = sys.argv[1:]
+from office import book, sheet
+data = book.data([book.Page("children", "a list", [["child"], [17]])], "a title")
+print(*(it.cells for it in sheet.of_bytes("a.xlsx", data, None, "").rows))
+"""
 
 
 def test_each_module_loads_without_them() -> None:
@@ -36,6 +43,15 @@ def test_each_module_loads_without_them() -> None:
                           text=True, check=False)
     assert done.returncode == 0, done.stderr
     assert {"office.worklists", "office.web.app", "machine.setup"} <= set(done.stdout.split())
+
+
+def test_excel_files_need_no_numpy(tmp_path: pathlib.Path) -> None:
+    """Its import may take more memory than a process that reads a file has."""
+    (tmp_path / "numpy.py").write_text("raise MemoryError")
+    places = [str(tmp_path), str(ROOT), str(ROOT / "tools")]
+    done = subprocess.run([sys.executable, "-B", "-c", EXCEL, *places], capture_output=True,
+                          text=True, check=False)
+    assert (done.returncode, done.stdout) == (0, "['child'] ['17']\n"), done.stderr
 
 
 @pytest.mark.parametrize("module, said", [
