@@ -74,8 +74,9 @@ def tables(document: dict[str, Any]) -> dict[str, list[str]]:
     del sys.path[0]
     made = {
         TITLES[group]: [
-            f"| {anchor(group, name)}{name} | {' | '.join(rules.in_words(group, name))} |"
-            for name in document[group]]
+            f"| {anchor(group, name)}{name} ({number}) |"
+            f" {' | '.join(rules.in_words(group, name))} |"
+            for name, number in document[group].items()]
         for group in ("refusals", "faults")
     }
     made[TITLES["row_faults"]] = [

@@ -294,10 +294,3 @@ def test_the_season_of_the_page_has_each_command_error_and_request() -> None:
     assert len(forms) == 11
     for form in forms:
         assert any(re.fullmatch(form, it.first) for it in SENT), form
-
-
-def test_the_refusals_of_the_page_have_their_numbers() -> None:
-    text = FORMATS.split("\nRefusals by number: ")[1].partition("\n\n")[0]
-    found = re.findall(r"([0-9]+)\s\[(\w+)\]\(ERRORS\.md#(\w+)\)", text)
-    assert found == [(str(number), name, name.lower())
-                     for name, number in RULES["refusals"].items()]
