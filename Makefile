@@ -132,8 +132,10 @@ install:
 	install -D -m 755 office/command $(DESTDIR)$(PREFIX)/bin/admissions-audit
 	install -d $(DESTDIR)$(PREFIX)/share/admissions/office
 	install -m 644 office/*.py office/*.json $(DESTDIR)$(PREFIX)/share/admissions/office
-	# (a part of it is the help of the application)
-	install -m 644 docs/HANDBOOK.md $(DESTDIR)$(PREFIX)/share/admissions/office
+	# (the help of the application, beside it as it is here)
+	install -D -m 644 docs/office/HANDBOOK.md $(DESTDIR)$(PREFIX)/share/admissions/docs/office/HANDBOOK.md
+	install -d $(DESTDIR)$(PREFIX)/share/admissions/docs/pictures
+	install -m 644 docs/pictures/*.png $(DESTDIR)$(PREFIX)/share/admissions/docs/pictures
 	install -d $(DESTDIR)$(PREFIX)/share/admissions/office/templates
 	install -m 644 office/templates/* $(DESTDIR)$(PREFIX)/share/admissions/office/templates
 	install -d $(DESTDIR)$(PREFIX)/share/admissions/office/web/screens $(DESTDIR)$(PREFIX)/share/admissions/office/web/templates
@@ -143,7 +145,7 @@ install:
 	install -m 644 tools/register_files.py $(DESTDIR)$(PREFIX)/share/admissions/register_files.py
 	install -D -m 644 docs/admissions.1 $(DESTDIR)$(PREFIX)/share/man/man1/admissions.1
 	install -d $(DESTDIR)$(PREFIX)/share/doc/admissions
-	for page in HANDBOOK DEPLOYMENT admin/DATA-PROTECTION admin/SECURITY reference/ERRORS reference/FORMATS reference/GLOSSARY; do install -D -m 644 docs/$$page.md $(DESTDIR)$(PREFIX)/share/doc/admissions/$$page.md || exit 1; done
+	for page in office/START office/HANDBOOK DEPLOYMENT admin/DATA-PROTECTION admin/SECURITY reference/ERRORS reference/FORMATS reference/GLOSSARY; do install -D -m 644 docs/$$page.md $(DESTDIR)$(PREFIX)/share/doc/admissions/$$page.md || exit 1; done
 	install -d $(DESTDIR)$(PREFIX)/share/doc/admissions/pictures
 	install -m 644 docs/pictures/*.png $(DESTDIR)$(PREFIX)/share/doc/admissions/pictures
 	deploy/manuals $(DESTDIR)$(PREFIX)

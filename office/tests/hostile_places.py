@@ -272,8 +272,8 @@ def crawl(sender: Sender, starts: list[str], most: int = 400) -> Iterator[tuple[
         yield path, Page(answer.text)
         for it in Markup(answer.text).links:
             found = urllib.parse.urljoin(path, it.partition("#")[0])
-            # (a table in another order is the same page)
-            is_new = found not in seen and "order=" not in found
+            # (a table in another order is the same page, and the help has no text of anybody)
+            is_new = found not in seen and "order=" not in found and "/help/" not in found
             if found.startswith("/") and is_new and len(seen) < most:
                 seen.add(found)
                 todo.append(found)

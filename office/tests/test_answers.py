@@ -514,7 +514,8 @@ def test_what_puts_a_wrong_decline_right_is_said_before_and_after(office: Site) 
     press(jane, f"{PAGE}record", Page(question.text), next(
         it for it in Page(question.text).buttons() if it.startswith("Record 1 answer")))
     assert said in " ".join(shown(jane).by_id["wrong-decline"].split())
-    assert 'id="an-accept-or-a-decline-was-wrong"' in jane.get("/help").text
+    assert "/help/a-wrong-accept-or-decline" in shown(jane).stops
+    assert "A wrong decline" in jane.get("/help/a-wrong-accept-or-decline").text
 
 
 @pytest.mark.parametrize("text", SHEETS)

@@ -1,51 +1,24 @@
-"""The help of the application: what it has, and what an officer would not understand."""
-import html.parser
+"""The help of the application: that each screen leads to its topic, that topics are whole, and that
+they are found by their words.
+"""
 import pathlib
 import re
 from collections.abc import Iterator
 
 import pytest
-from applications import Site, office_over, town
+from applications import Browser, Site, office_over, town
+from conftest import ROOT
+from pages import plain
 
 from office import rules
-from office.web import frame, wording
+from office.web import topics, wording
 from office.web.people import Person
-from office.web.screens import help as help_screen
 
-
-class Text(html.parser.HTMLParser):
-    """The headings of a page, its links, the names of its elements, and its text."""
-
-    def __init__(self, page: str) -> None:
-        super().__init__()
-        self.headings: list[str] = []
-        self.links: list[str] = []
-        self.names: set[str] = set()
-        self.targets: set[str] = set()
-        self.text, self.inside = "", ""
-        self.feed(page)
-
-    def handle_starttag(self, tag: str, attrs: list[tuple[str, str | None]]) -> None:
-        """Keeps where it leads, and what it is called."""
-        given = dict(attrs)
-        self.names.add(tag)
-        self.inside = tag
-        if given.get("href"):
-            self.links.append(given["href"] or "")
-        if given.get("id"):
-            self.targets.add(given["id"] or "")
-        if tag in ("h2", "h3"):
-            self.headings.append("")
-
-    def handle_endtag(self, tag: str) -> None:
-        """Ends a heading."""
-        self.inside = ""
-
-    def handle_data(self, data: str) -> None:
-        """Keeps a text."""
-        self.text += data
-        if self.inside in ("h2", "h3"):
-            self.headings[-1] += data
+# views that are no page of the application: their answers are read by programs, or are a page of
+# their own without the frame
+NO_SCREENS = ("file", "icon", "health", "register", "help", "static")
+LINK, IMAGE = re.compile(r"(?<!!)\[[^]]*\]\(([^)]*)\)"), re.compile(r"!\[[^]]*\]\(([^)]*)\)")
+ADDRESS, SOURCE = re.compile(r'href="(/help[^"]*)"'), re.compile(r'<img [^>]*src="([^"]*)"')
 
 
 @pytest.fixture(name="office")
@@ -55,54 +28,100 @@ def office_fixture(tmp_path: pathlib.Path) -> Iterator[Site]:
         yield found
 
 
-@pytest.fixture(name="page")
-def page_fixture(office: Site) -> Text:
-    """The help, as an officer gets it."""
-    answer = office.browser("officer").get("/help")
-    assert answer.status_code == 200
-    return Text(answer.get_data(as_text=True).partition("<main>")[2])
+@pytest.fixture(name="jane")
+def jane_fixture(office: Site) -> Browser:
+    """An officer's browser."""
+    return office.browser("jane")
 
 
-def test_the_help_has_a_line_for_each_screen_of_the_menu(page: Text) -> None:
-    table = page.text.partition("What you do there")[2]
-    for it in (it for screens in frame.GROUPS.values() for it in screens):
-        assert re.search(rf"^{it.title}$", table, re.MULTILINE), it.title
+def help_of(text: str) -> str:
+    """Where the head of a page leads for help."""
+    found: list[str] = ADDRESS.findall(text.partition("</header>")[0])
+    return found[0]
 
 
-def test_each_link_of_the_help_leads_somewhere(page: Text, office: Site) -> None:
-    browser = office.browser("officer")
-    for it in page.links:
-        found = it[1:] in page.targets if it[0] == "#" else browser.get(it).status_code == 200
-        assert found, it
-    assert len(page.links) >= len(page.headings) > 1
+def test_each_screen_has_a_topic(office: Site) -> None:
+    """And each topic that a screen is given is one of the handbook."""
+    urls = office.app.url_map
+    views = {it.endpoint for it in urls.iter_rules() if not it.endpoint.startswith(NO_SCREENS)}
+    assert len(views) > 100
+    assert {it for it in views if not topics.of_screen(it, "")} == set()
+    named = {it.partition("/")[0] for it in topics.OF_SCREENS}
+    assert named <= views | {it.partition(".")[0] for it in views}
+    assert set(topics.OF_SCREENS.values()) <= set(topics.topics())
 
 
-def test_the_help_names_no_command_no_path_and_no_user_of_the_machine(page: Text) -> None:
-    found = re.findall(r"admissions-\w+|/var/|/etc/|\broot\b|\bsudo\b|\.db\b|systemctl", page.text)
-    assert not found
+@pytest.mark.parametrize("path, name", [
+    ("/", "home"), ("/applications/", "collect-applications"),
+    ("/applications/add/", "add-a-child"),
+    ("/children/1", "a-childs-screen"), ("/children/1/plan", "ehc-plans"),
+    ("/lists/unplaced", "children-without-a-place"), ("/lists/children", "lists"),
+    ("/schools/A/waiting", "waiting-lists"), ("/draws/", "hold-a-round"),
+    ("/answers/", "answers"), ("/password", "sign-in")])
+def test_a_screen_leads_to_its_topic(jane: Browser, path: str, name: str) -> None:
+    page = jane.get(path)
+    assert help_of(page.text) == f"/help/{name}", page.status_code
+    topic = jane.get(f"/help/{name}")
+    assert topics.topics()[name].title in plain(topic.text.partition("<main>")[2])
 
 
-def test_the_help_has_no_picture_that_the_site_would_not_serve(page: Text) -> None:
-    assert "img" not in page.names and "table" in page.names
+def test_a_page_without_a_topic_leads_to_all_of_them(jane: Browser) -> None:
+    assert help_of(jane.get("/no/such/page").text) == "/help/"
+    assert jane.get("/help/no-such-topic").status_code == 404
 
 
-def test_other_parts_of_the_handbook_are_not_in_the_help() -> None:
-    book = ("# A\n\nno [a](B.md)\n\n## The application\n\n[yes](#in-it) and [here](C.md#d)\n\n"
-            "![A](b.png)\n\n"
-            "### In it\n\n[why](reference/ERRORS.md#refusals)\n\n"
-            "## The register as a file\n\nno\n\n## Other\n\nno\n")
-    assert help_screen.part_of(book) == (
-        "## The application\n\n[yes](#in-it) and here\n\n"
-        "### In it\n\n[why](#what-the-register-refuses)\n\n")
+def test_each_topic_is_in_the_contents_of_the_handbook_and_of_the_help(jane: Browser) -> None:
+    book = topics.HANDBOOK.read_text("utf-8")
+    listed = LINK.findall(book.partition("## Contents")[2].partition("\n## ")[0])
+    assert [f"#{it}" for it in topics.topics()] == listed[:-1]
+    shown = ADDRESS.findall(jane.get("/help/").text.partition("<main>")[2])
+    assert [f"/help/{it}" for it in topics.topics()] == shown[:-1] and shown[-1] == "/help/refusals"
 
 
-def test_each_refusal_is_explained_where_its_name_leads(page: Text) -> None:
+def test_each_link_and_picture_of_a_topic_is_there(jane: Browser) -> None:
+    """A link to another topic leads to it, and no other page of the repository is linked."""
+    linked: set[str] = set()
+    for it in topics.topics().values():
+        text = jane.get(f"/help/{it.name}").text.partition("<main>")[2]
+        for path in (*ADDRESS.findall(text), *SOURCE.findall(text)):
+            assert jane.get(path).status_code == 200, (it.name, path)
+        assert len(SOURCE.findall(text)) == len(IMAGE.findall(it.text))
+        assert all(one[1:] in topics.topics() for one in LINK.findall(it.text) if one[0] == "#")
+        assert ".md" not in text and "](" not in text, it.name
+        linked |= set(SOURCE.findall(text))
+    assert linked == {f"/help/pictures/{it.name}" for it in (ROOT / "docs/pictures").glob("*.png")}
+
+
+def test_no_topic_names_a_command_a_path_or_a_user_of_the_machine() -> None:
+    for it in topics.topics().values():
+        found = re.findall(r"admissions-\w+|/var/|/etc/|\broot\b|\bsudo\b|systemctl", it.text)
+        assert not found, it.name
+
+
+@pytest.mark.parametrize("words, name", [
+    ("wrong decline", "a-wrong-accept-or-decline"), ("LOTS seed", "lots"), ("twins", ""),
+    ("uprn", "homes-to-locate"), ("somebody ill", ""), ("no such word", None)])
+def test_topics_are_found_by_their_words(jane: Browser, words: str, name: str | None) -> None:
+    """All of them, in any case; a topic with them in its title is the first."""
+    text = jane.get(f"/help/?q={words.replace(' ', '+')}").text
+    found = ADDRESS.findall(text.partition('id="found"')[2].partition("</section>")[0])
+    if name is None:
+        assert not found and "Nothing was found" in text
+        return
+    assert found and found[0] == f"/help/{name or found[0].removeprefix('/help/')}"
+    for it in found:
+        topic = topics.topics()[it.removeprefix("/help/")]
+        assert all(word.lower() in f"{topic.title} {topic.text}".lower() for word in words.split())
+
+
+def test_each_refusal_is_explained_where_its_name_leads(jane: Browser) -> None:
+    text = jane.get("/help/refusals").text
     assert rules.RULES["refusals"]
     for name in rules.RULES["refusals"]:
         assert wording.by_refusals(f"It is not done ({name}).") == [
             ("It is not done (", False), (name, True), (").", False)]
-        assert name.lower() in page.targets
-        assert f"{name}\n{rules.in_words('refusals', name)[0]}" in page.text
+        row = text.partition(f'id="{name.lower()}"')[2].partition("</tr>")[0]
+        assert rules.in_words("refusals", name)[0] in plain(f"<{row}")
 
 
 def test_what_is_no_refusal_leads_nowhere() -> None:
@@ -115,4 +134,4 @@ def test_a_refused_command_leads_from_its_child_to_the_help(office: Site) -> Non
         Person("bo", "officer"), {"cmd": "accept", "child": 1, "school": "A"})
     assert "(NotOffered)" in sent.said
     child = office.browser("officer").get("/children/1").get_data(as_text=True)
-    assert '(<a href="/help#notoffered">NotOffered</a>)' in child
+    assert '(<a href="/help/refusals#notoffered">NotOffered</a>)' in child

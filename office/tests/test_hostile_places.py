@@ -373,7 +373,7 @@ def test_after_all_of_it_each_page_has_only_texts(world: World) -> None:
 
 # what the head of a school can ask for, and what a reader can send
 OF_SCHOOL = ("/", "/schools/OAK", "/schools/OAK/waiting", "/schools/OAK/intake",
-             "/schools/OAK/workbook", "/help", "/password", "/signed-in")
+             "/schools/OAK/workbook", "/password", "/signed-in")
 OF_READER = ("lists.save", "lists.remove", "lists.ticked")
 ODD = {"code": ["OAK"], "name": ["children"], "owner": ["jane"], "key": ["key"]}
 
@@ -384,12 +384,12 @@ def test_no_role_reaches_a_place_that_is_not_its_own(world: World, role: str) ->
     browser = world.office.browser(f"odd-{role.lower()}", role)
     for method in ("GET", "POST"):
         for view, paths in addresses(world.office, ODD, method).items():
-            if view.startswith(("signing.", "health.")) or view in ("file", "icon") or (
+            if view.startswith(("signing.", "health.", "help.")) or view in ("file", "icon") or (
                     role == "reader" and (method == "GET" or view in OF_READER)):
                 continue
             for path in paths:
                 is_own = method == "GET" and (
-                    path in OF_SCHOOL if role == "school-OAK" else path in ("/", "/help") or (
+                    path in OF_SCHOOL if role == "school-OAK" else path == "/" or (
                         role == "administrator" and view.startswith("people.")))
                 is_own = is_own or (role, view) == ("administrator", "people.change")
                 found = browser.get(path) if method == "GET" else browser.post(path)

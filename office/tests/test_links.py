@@ -71,9 +71,10 @@ def crawled(browser: Browser) -> dict[str, tuple[int, str]]:
         for it in links:
             to = urllib.parse.urlsplit(urllib.parse.urljoin(base, it))
             assert f"{to.scheme}://{to.netloc}" == ORIGIN, it
-            # (the layout of a PDF takes some seconds, and other tests look at it; and a list in
-            # another order is the same list)
-            if not to.path.endswith("/pdf") and "order=" not in to.query:
+            # (the layout of a PDF takes some seconds, and other tests look at it and at the help;
+            # and a list in another order is the same list)
+            is_left = to.path.endswith("/pdf") or to.path.startswith("/help/")
+            if not is_left and "order=" not in to.query:
                 open_.append(to.path + (f"?{to.query}" if to.query else ""))
     return found
 
@@ -110,7 +111,7 @@ def test_each_role_finds_what_is_its_own(office: Site) -> None:
     for path in ("/activity/", "/applications/"):
         assert path not in reader and path in officer, path
     assert "/children/3/notes" in officer and "/people/" in head and "/people/" not in officer
-    assert school == {"/", "/password", "/help", "/schools/A", *(
+    assert school == {"/", "/password", "/schools/A", *(
         f"/schools/A/{it}" for it in ("waiting", "intake", "workbook"))}
 
 

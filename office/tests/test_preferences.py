@@ -157,8 +157,8 @@ def test_after_a_round_lists_can_be_left_and_no_restore_is_named(after: Site) ->
     jane = after.browser("jane")
     page = Page(jane.get("/children/3/application").text)
     assert "/children/3/leave?school=A" in page.stops
-    assert "/help#a-second-number-for-a-child" in page.stops
-    assert 'id="a-second-number-for-a-child"' in jane.get("/help").text
+    assert "/help/a-second-number" in page.stops
+    assert "No school is added to a stored list" in jane.get("/help/a-second-number").text
     assert "the place that it has then ends" in page.text and "/copies/" not in page.text.partition(
         'id="ways"')[2].partition("</ul>")[0]
 

@@ -63,7 +63,8 @@ VALUES = {"number": 1, "name": "accept", "code": "A", "kind": "csv", "draw": 1, 
 NAMES = {"draws.step": "close", "draws.second": "confirm", "lists.one": "waiting",
          "lists.workbook": "waiting", "letters.from_list": "waiting", "notices.choose": "remind",
          "notices.ask": "remind", "notices.confirm": "remind", "notices.tick": "remind",
-         "lists.csv": "waiting", "lists.save": "waiting"}
+         "lists.csv": "waiting", "lists.save": "waiting", "help.topic": "lots",
+         "help.picture": "lots.png"}
 
 
 @pytest.fixture(name="office")

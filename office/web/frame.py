@@ -7,7 +7,7 @@ from typing import Any
 
 import flask
 
-from . import guard, wording
+from . import guard, topics, wording
 from .draws_terms import CONFIRMED, LOTS, REHEARSED, Draw
 from .parts import Parts
 from .people import CONFIRM, LISTS, NOTES, PEOPLE, READ, RECORD, Person
@@ -176,12 +176,19 @@ def foot(parts: Parts) -> str:
     return f"{made}Signed in: {signed_in}"
 
 
+def help_href() -> str:
+    """The topic of the help that is about the page."""
+    name = (flask.request.view_args or {}).get("name", "")
+    found = topics.of_screen(flask.request.endpoint or "", str(name))
+    return flask.url_for("help.topic", name=found) if found else flask.url_for("help.show")
+
+
 def shared() -> dict[str, Any]:
     """What the frame has."""
     found: Person | None = flask.g.get("person")
     parts, may_read = guard.parts(), found is not None and found.may(READ)
     return {
-        "menu": menu(found) if found else Menu([]),
+        "menu": menu(found) if found else Menu([]), "help_href": help_href(),
         # (who sees no child is not told of draws either)
         "may_read": may_read, "now": now(parts) if may_read else None,
         "foot": foot(parts) if may_read else "",

@@ -1,72 +1,78 @@
-"""Help: the part of the handbook that is about the application and its screens, and what each
-refusal of the register means.
+"""Help: a topic for each screen and task, a search over them, and what each refusal of the register
+means.
 """
-import functools
-import pathlib
 import re
 
 import flask
 import markdown
 import markupsafe
+from werkzeug.wrappers import Response
 
 from office import rules
 
+from .. import topics
 from ..guard import SIGNED_IN, needs
+from ..topics import Topic
 
 screen = flask.Blueprint("help", __name__)
-# where the handbook is: as it is installed, or in the repository
-HERE = pathlib.Path(__file__).resolve()
-PLACES = (HERE.parents[2] / "HANDBOOK.md", HERE.parents[3] / "docs" / "HANDBOOK.md")
-# its part about the application ends before this heading
-ENDS = "\n## The register as a file\n"
-TABLE, HEADING = re.compile("<table>"), re.compile("<h[23][^>]*>(.*?)</h[23]>")
-PICTURE = re.compile(r"^!\[.*\]\(.*\)$\n*", re.MULTILINE)
-# a link to another page, which the application does not serve; the refusals are below
-OTHER_PAGE = re.compile(r"\[([^]]*)\]\((?!#)[^)]*\)")
-ERRORS, BELOW = re.compile(r"\([^()]*ERRORS\.md#refusals\)"), "(#what-the-register-refuses)"
-REFUSALS = "## What the register refuses\n\n| Refusal | Meaning | What to do |\n|---|---|---|\n"
+# links of the handbook: to a topic, to the refusals, and to pages that the application does not
+# serve; and its pictures
+LINK = re.compile(r"(?<!!)\[([^]]*)\]\(([^)]*)\)")
+REFUSALS, PICTURE = "ERRORS.md#refusals", "(../pictures/"
+TABLE = '<div class="region" role="region" aria-label="{0}" tabindex="0"><table>' \
+        '<caption class="unseen">{0}</caption>'
 
 
-def part_of(handbook: str) -> str:
-    """The sections of the handbook that are shown, without its pictures, and without links to other
-    pages.
-    """
-    part = handbook[handbook.index("\n## ") + 1:].partition(ENDS)[0] + "\n"
-    return OTHER_PAGE.sub(r"\1", ERRORS.sub(BELOW, PICTURE.sub("", part)))
+def linked(found: re.Match[str]) -> str:
+    """A link as the application has it."""
+    words, target = found[1], found[2]
+    if target.startswith("#") and target[1:] in topics.topics():
+        return f"[{words}]({flask.url_for('help.topic', name=target[1:])})"
+    if target.endswith(REFUSALS):
+        return f"[{words}]({flask.url_for('help.refusals')})"
+    return words
 
 
-def refusals() -> str:
-    """The refusals with what they mean and what to do, each with an anchor."""
-    return REFUSALS + "".join(
-        f'| <span id="{name.lower()}">{name}</span> |'
-        f' {" | ".join(rules.in_words("refusals", name))} |\n' for name in rules.RULES["refusals"])
-
-
-def captioned(before: str) -> str:
-    """The begin of a table, which is called as the last heading before it, and scrolls alone."""
-    title = HEADING.findall(before)[-1]
-    name = re.sub("<[^>]*>", "", title)
-    return (f'<div class="region" role="region" aria-label="{name}" tabindex="0"><table>'
-            f'<caption>{title}</caption>')
-
-
-@functools.cache
-def page() -> tuple[markupsafe.Markup, markupsafe.Markup]:
-    """The list of the headings, and the text."""
-    place = next(it for it in PLACES if it.exists())
-    reader = markdown.Markdown(extensions=["tables", "toc"], extension_configs={
-        "toc": {"toc_depth": "2-3"}})
-    text = reader.convert(f"{part_of(place.read_text(encoding='utf-8'))}\n{refusals()}")
-    text = TABLE.sub(lambda it: captioned(text[:it.start()]), text).replace(
+def page_of(topic: Topic) -> markupsafe.Markup:
+    """The text of a topic as a page has it."""
+    pictures = flask.url_for("help.picture", name="").rstrip("/")
+    text = LINK.sub(linked, topic.text).replace(PICTURE, f"({pictures}/")
+    made = markdown.markdown(text, extensions=["tables"])
+    title = str(markupsafe.escape(topic.title))
+    made = made.replace("<table>", TABLE.format(title)).replace(
         "</table>", "</table></div>").replace("<th>", '<th scope="col">')
     # (it comes from the product itself, and from nobody who uses it)
-    contents: str = getattr(reader, "toc")
-    return markupsafe.Markup(contents), markupsafe.Markup(text)
+    return markupsafe.Markup(made)
 
 
-@screen.get("/help")
+@screen.get("/help/")
 @needs(SIGNED_IN)
 def show() -> str:
-    """The help."""
-    headings, text = page()
-    return flask.render_template("help.html", headings=headings, text=text)
+    """All topics by their groups, or those that have some words."""
+    text = flask.request.args.get("q", "").strip()
+    return flask.render_template(
+        "help.html", text=text, found=topics.having(text), groups=topics.groups())
+
+
+@screen.get("/help/<name>")
+@needs(SIGNED_IN)
+def topic(name: str) -> str:
+    """A topic."""
+    found = topics.topics().get(name) or flask.abort(404)
+    return flask.render_template(
+        "help_topic.html", topic=found, text=page_of(found), near=topics.groups()[found.group])
+
+
+@screen.get("/help/refusals")
+@needs(SIGNED_IN)
+def refusals() -> str:
+    """What each refusal means, and what to do."""
+    rows = [(name, *rules.in_words("refusals", name)) for name in rules.RULES["refusals"]]
+    return flask.render_template("help_refusals.html", rows=rows)
+
+
+@screen.get("/help/pictures/<name>")
+@needs(SIGNED_IN)
+def picture(name: str) -> Response:
+    """A picture of a topic."""
+    return flask.send_from_directory(topics.PICTURES, name)
