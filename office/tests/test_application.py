@@ -876,6 +876,33 @@ def test_guesses_from_many_addresses_wait_too(
     assert said[101].startswith("Too many attempts failed.")
 
 
+def test_failures_of_others_make_none_of_a_name_forgotten(
+    office: Site, monkeypatch: pytest.MonkeyPatch
+) -> None:
+    """Not those of ten thousand networks with names that nobody has; and what is kept of these is
+    bounded. A name that nobody has is as one that exists.
+    """
+    found = office.parts.people
+    office.add("jane", "officer")
+    monkeypatch.setattr(found, "is_right", lambda *_: False)
+    found.attempts.clock = lambda: 100.0
+
+    def said(name: str, address: str, browser: str = "") -> str:
+        with pytest.raises(Refused) as error:
+            found.sign_in(name, "wrong", address, browser)
+        return str(error.value)
+
+    for at in range(100):
+        assert {said(it, f"192.0.2.{at}") for it in ("jane", "nobody")} == {people.WRONG}
+    for at in range(5):
+        assert said("jane", "192.0.2.200", "a browser") == people.WRONG
+    for at in range(12_000):
+        said(f"nobody{at}", f"2001:db8:1:{at:x}::1")
+    for name, browser in (("jane", ""), ("nobody", ""), ("jane", "a browser")):
+        assert said(name, "198.51.100.1", browser).startswith("Too many attempts failed.")
+    assert len(found.attempts.failed) <= 10_000 + 4096 + 2
+
+
 def test_nobody_keeps_an_office_out(office: Site) -> None:
     """Behind one address somebody fails all the time. Who has signed in there before does so again,
     and waits for failures of their own alone.

@@ -13,6 +13,13 @@ FREE_ATTEMPTS, LONGEST_WAIT = 5, 300
 FORGOTTEN_AFTER = 3600
 # for a name from all addresses many are free, and they are forgotten after a day
 EVERYWHERE, FREE_EVERYWHERE, FORGOTTEN_EVERYWHERE = "everywhere ", 100, 24 * 3600
+# what failed for a name is kept, however much else fails: who has many addresses would have it
+# dropped by names that nobody has. So that it is bounded these share some counts, as the browsers
+# of a person do
+OF_CHANGES, OF_BROWSER = "changes ", "browser "
+KEPT, NOBODIES, BROWSERS = (OF_CHANGES, OF_BROWSER, EVERYWHERE), 4096, 64
+# all else is of an address, of which so many are kept: who has more has free attempts at each
+MOST_OF_ADDRESSES = 10_000
 
 
 def network(address: str) -> str:
@@ -104,13 +111,28 @@ class Attempts:
                 count, until = self.failed.pop(key, (0, 0.0))
                 count = 1 if self.clock() - until > forgotten_after(key) else count + 1
                 self.failed[key] = count, self.clock() + wait_after(key, count)
-            for key in list(self.failed)[:-10_000]:
+            others = [it for it in self.failed if not it.startswith(KEPT)]
+            for key in others[:-MOST_OF_ADDRESSES]:
                 del self.failed[key]
 
     def succeed(self, key: str) -> None:
         """Forgets those of a name from an address."""
         with self.lock:
             self.failed.pop(key, None)
+
+
+def keys_of(name: str, is_known: bool, address: str) -> tuple[str, str, str]:
+    """The keys of a sign-in: of a name from an address, of the address, and of the name from
+    everywhere.
+    """
+    place = network(address)
+    everywhere = f"of {name}" if is_known else f"at {hash(name) % NOBODIES}"
+    return f"name {name} {place}", f"address {place}", EVERYWHERE + everywhere
+
+
+def key_of_browser(name: str, browser: str) -> str:
+    """The key of a browser in which a name has signed in before."""
+    return f"{OF_BROWSER}{hash(browser) % BROWSERS} {name}"
 
 
 def free(key: str) -> int:

@@ -15,7 +15,7 @@ from register_files import Refused
 from office import rules, texts
 from office.turns import Busy
 
-from .attempts import EVERYWHERE, Attempts, network
+from .attempts import OF_CHANGES, Attempts, key_of_browser, keys_of
 from .history import now
 from .store import Store
 
@@ -234,7 +234,7 @@ class People:
         # (who may try it is signed in: the wait keeps nobody else out)
         with self.one_of_few(True):
             if not self.attempts.is_right(
-                    lambda: self.is_right(hashed, old), f"{person.name} changes"):
+                    lambda: self.is_right(hashed, old), OF_CHANGES + person.name):
                 raise Refused("the present password is wrong")
         see_password(person.name, new)
         if new == old:
@@ -267,10 +267,11 @@ class People:
             is_right = self.is_right(hashed, password[:MOST_PASSWORD])
             return row is not None and is_right and not row["is_locked"]
 
-        name, place = name[:64], network(address)
-        keys = (f"{name} {place}", place, EVERYWHERE + name)
+        name = name[:64]
+        keys = (key_of_browser(name, browser),) if browser else (
+            keys_of(name, row is not None, address))
         with self.one_of_few(bool(browser)):
-            if not self.attempts.is_right(check, *((f"{name} by {browser}",) if browser else keys)):
+            if not self.attempts.is_right(check, *keys):
                 raise Refused(WRONG)
         return self.begin(name, False, row["hash"] if row else "")
 
