@@ -132,10 +132,11 @@ def hold(lived: Room) -> None:
 
 
 def fills_go_on(lived: Room) -> None:
-    """What follows goes on when the page is opened."""
+    """The page has the button of what was cut off, and no other one."""
     hal = lived.person("hal").get("/draws/2")
-    if has(hal, "Hold "):
-        hal.press("Hold ")
+    for it in ("Hold ", "Go on", "Audit ", "Resume "):
+        if has(hal, it):
+            hal.press(it)
 
 
 SENDERS = {

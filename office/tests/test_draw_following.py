@@ -144,8 +144,8 @@ ENTRIES = ("copied the register", "audited", "opened the register")
 def test_a_crash_after_the_draw(
     small: Machine, monkeypatch: pytest.MonkeyPatch, what: str, is_after: bool
 ) -> None:
-    """Before or after an entry of the history: who only reads has nothing done, and the officer who
-    looks next goes on until the register is open. The draw is held once.
+    """Before or after an entry of the history: nobody who looks has anything done, and the button
+    of an officer goes on until the register is open. The draw is held once.
     """
     with small.office() as office:
         number = begun(office)
@@ -167,13 +167,16 @@ def test_a_crash_after_the_draw(
                 hal.step(number, "send")
     with small.office() as office:
         first_day(office)
-        for path in ("/", "/draws/", f"/draws/{number}"):
-            found = office.browser("rita", "reader").get(path)
-            assert found.status_code == 200
-        assert "Nothing runs now: this step was cut off." in found.text
-        assert office.parts.draws.get(number).state in ("sending", "audited")
-        assert office.parts.desk.closed()
-        page = office.browser("jane", "officer").get("/").text
+        cut_off, jane = office.parts.draws.get(number), Person(office, "jane", "officer")
+        for who in (office.browser("rita", "reader"), jane.browser):
+            for path in ("/", "/draws/", f"/draws/{number}"):
+                found = who.get(path)
+                assert found.status_code == 200
+            assert "Nothing runs now: this step was cut off." in found.text
+        assert office.parts.draws.get(number) == cut_off
+        assert cut_off.state in ("sending", "audited") and office.parts.desk.closed()
+        assert jane.step(number, "go-on").status_code == 303
+        page = jane.browser.get("/").text
         assert "is in progress" not in page and "Closed for" not in page
         draw = office.parts.draws.get(number)
         assert draw.state == "opened" and draw.done[-1].who == "jane"
@@ -210,14 +213,16 @@ def test_what_differs_stays_closed(small: Machine, monkeypatch: pytest.MonkeyPat
         assert not any(it.what == "opened the register" for it in office.parts.history.entries)
 
 
-def test_a_look_goes_on_once(small: Machine, monkeypatch: pytest.MonkeyPatch) -> None:
-    """Not while somebody else is at it, and an error that nobody knows is met once: the page is
-    there, and has the button.
+def test_an_error_that_nobody_knows_is_said(
+    small: Machine, monkeypatch: pytest.MonkeyPatch
+) -> None:
+    """It is met once for each press of the button, and by no look: the page is there, and has the
+    button.
     """
     with small.office() as office:
         number = begun(office)
         brought(office, number, "audited")
-        jane = office.browser("jane", "officer")
+        jane = Person(office, "jane", "officer")
         calls: list[int] = []
 
         def fails(*_: object) -> None:
@@ -226,26 +231,13 @@ def test_a_look_goes_on_once(small: Machine, monkeypatch: pytest.MonkeyPatch) ->
 
         with monkeypatch.context() as patch:
             patch.setattr(Draws, "open", fails)
-            is_held, may_end = threading.Event(), threading.Event()
-
-            def holds() -> None:
-                with office.parts.draws.lock:
-                    is_held.set()
-                    may_end.wait(60)
-
-            other = threading.Thread(target=holds)
-            other.start()
-            assert is_held.wait(60)
-            assert jane.get(f"/draws/{number}").status_code == 200 and calls == []
-            may_end.set()
-            other.join()
+            assert jane.step(number, "go-on").status_code == 500
             for _ in range(2):
-                page = jane.get(f"/draws/{number}")
+                page = jane.browser.get(f"/draws/{number}")
                 assert page.status_code == 200 and ">Resume recording</button>" in page.text
                 assert "What follows by itself was not done: An error in the appl" in page.text
             assert calls == [1]
-        seen = {"seen": str(version(office, number))}
-        assert jane.post(f"/draws/{number}/second/go-on", seen).status_code == 303
+        assert jane.step(number, "go-on").status_code == 303
         assert office.parts.draws.get(number).state == "opened"
 
 

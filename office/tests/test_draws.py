@@ -728,9 +728,9 @@ def test_a_crash_between_fills(
         with pytest.raises(Refused, match="not all is held yet"):
             office.parts.draws.audit(HAL, number, version(office, number))
         assert office.parts.draws.get(number).state == "sending"
-        # (who may confirm a draw has it go on by looking)
-        page = Person(office, "jane", "officer").browser.get(f"/draws/{number}").text
-        assert "everybody can record again." in page
+        jane = Person(office, "jane", "officer")
+        assert jane.step(number, "go-on").status_code == 303
+        assert "everybody can record again." in jane.browser.get(f"/draws/{number}").text
         assert office.parts.draws.get(number).state == "opened"
         assert [it.number for it in office.parts.desk.now().draws] == [1, 2, 3, 4]
         sends = [it for it in office.parts.history.entries if it.what == "sends"]

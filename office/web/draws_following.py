@@ -16,7 +16,7 @@ from .desk import local
 from .draws import Draws, held_in, see_goes_on
 from .draws_terms import AUDITED, CLOSED, COPIED, FOLLOWED, SEALED, SENDING, Draw
 from .history import now
-from .people import CONFIRM, Person
+from .people import Person
 
 LOG = logging.getLogger(__name__)
 # a request waits so long for the end of what it has begun, and then says that it runs
@@ -46,8 +46,6 @@ class Following:
         self.wait = WAIT_SECONDS
         self.beginning = threading.Lock()
         self.last: Work | None = None
-        # the draws, each in a version, at which this application has gone on for somebody who looks
-        self.tried: set[tuple[int, int]] = set()
 
     def under_way(self) -> Work | None:
         """What runs now, if anything does."""
@@ -111,21 +109,6 @@ class Following:
             see_goes_on(draw)
             self.step(who, draw)
             self.after(who, number)
-
-    def look(self, who: Person, draw: Draw) -> None:
-        """Goes on for somebody who looks at a draw, where the application ended in between: once,
-        and not while somebody else does it. Who only reads brings nothing about.
-        """
-        seen = draw.number, draw.version
-        if not (draw.follows and who.may(CONFIRM)) or seen in self.tried or self.under_way():
-            return
-        # (who has the lock does a step now)
-        if self.draws.lock.acquire(blocking=False):
-            self.draws.lock.release()
-            self.tried.add(seen)
-            # (what hinders it is kept, and the page says it)
-            with contextlib.suppress(Exception):
-                self.begin(who, draw.number)
 
     def step(self, who: Person, draw: Draw) -> None:
         """Does the next step, and keeps why it cannot be done."""

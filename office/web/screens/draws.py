@@ -191,8 +191,7 @@ def checks_of(draw: Draw, register: Register | None) -> list[Check]:
 @screen.get("/<int:number>")
 @needs(READ)
 def one(number: int) -> Answer:
-    """A draw, which goes on where the application had ended in between."""
-    parts().following.look(person(), found_draw(number))
+    """A draw."""
     return draw_page(number)
 
 

@@ -182,9 +182,6 @@ def show() -> str:
     except Refused as error:
         reason = sentence(str(error))
     draw: Draw | None = parts().draws.present()
-    if draw:
-        parts().following.look(person(), draw)
-        draw = parts().draws.present()
     return flask.render_template(
         "season.html", register=found, reason=reason, day=weekday(today()), columns=COLUMNS,
         **(page(found, draw) if found else {"acts": []}))
