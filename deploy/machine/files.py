@@ -191,22 +191,33 @@ def content_as(name: str, path: pathlib.Path) -> bytes:
         return content(path)
 
 
+def opened_file(path: pathlib.Path) -> int:
+    """A descriptor of a file of somebody else, which is no link."""
+    handle = os.open(path, AS_IT_IS)
+    if not stat.S_ISREG(os.fstat(handle).st_mode):
+        os.close(handle)
+        raise Refused(f"{path} is no file")
+    return handle
+
+
 def content(path: pathlib.Path) -> bytes:
     """What a file of somebody else has, which is no link and not too long."""
-    with closing(os.open(path, AS_IT_IS)) as handle:
-        found = os.fstat(handle)
-        if not stat.S_ISREG(found.st_mode):
-            raise Refused(f"{path} is no file")
-        with open(handle, "rb", closefd=False) as file:
-            return bounded(path, file.read, found.st_size)
+    with closing(opened_file(path)) as handle, open(handle, "rb", closefd=False) as file:
+        return bounded(path, file.read, os.fstat(handle).st_size)
 
 
 def bounded(path: pathlib.Path, read: typing.Callable[[int], bytes], size: int = 0) -> bytes:
     """What is read of a file, or a refusal of one that is too long."""
-    data = read(MOST_HISTORY + 1) if size <= MOST_HISTORY else b""
-    if max(size, len(data)) > MOST_HISTORY:
-        raise Refused(f"{path} has over {MOST_HISTORY // 1_000_000} MB, and is not read")
+    see_length(path, size)
+    data = read(MOST_HISTORY + 1)
+    see_length(path, len(data))
     return data
+
+
+def see_length(path: pathlib.Path, size: int) -> None:
+    """Refuses a file that is too long."""
+    if size > MOST_HISTORY:
+        raise Refused(f"{path} has over {MOST_HISTORY // 1_000_000} MB, and is not read")
 
 
 def write_as(name: str, path: pathlib.Path, data: bytes) -> None:

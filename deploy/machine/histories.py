@@ -3,6 +3,7 @@ written, from a copy, and of one that was changed as far as it holds."""
 import dataclasses
 import datetime
 import gzip
+import io
 import json
 import pathlib
 import typing
@@ -161,8 +162,9 @@ def of_register(register: Register) -> Record:
 def of_copy(path: pathlib.Path) -> Record:
     """A history in a file, compressed or not. Of a damaged one there is what can be read."""
     with open(path, "rb") as file:
-        is_compressed = file.read(len(GZIP)) == GZIP
-    data, problem = unpacked(path) if is_compressed else (path.read_bytes(), "")
+        data, problem = files.bounded(path, file.read), ""
+    if data.startswith(GZIP):
+        data, problem = unpacked(path, data)
     found = Record(str(path), data)
     if data and not found.entries:
         problem = problem or f"{path} has no entry of a history"
@@ -170,13 +172,15 @@ def of_copy(path: pathlib.Path) -> Record:
     return found
 
 
-def unpacked(path: pathlib.Path) -> tuple[bytes, str]:
+def unpacked(path: pathlib.Path, data: bytes) -> tuple[bytes, str]:
     """What can be read of a compressed file, and why not all of it, or ""."""
-    pieces = []
-    with gzip.open(path) as packed:
+    pieces, size = [], 0
+    with gzip.open(io.BytesIO(data)) as packed:
         try:
             while piece := packed.read1(CHUNK):
                 pieces.append(piece)
+                size += len(piece)
+                files.see_length(path, size)
         except UNREADABLE as error:
             return b"".join(pieces), f"{path} can be read in part: {error}"
     return b"".join(pieces), ""

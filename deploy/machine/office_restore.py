@@ -76,10 +76,12 @@ def restored(register: Register, number: int) -> Result:
 
 def is_equal(copy: pathlib.Path, file: pathlib.Path) -> bool:
     """Whether a register is a copy, byte for byte, without a log."""
-    if not file.exists() or register_files.has_content(f"{file}-wal"):
-        return False
-    with open(copy, "rb") as held:
-        return register_files.is_equal(held.fileno(), str(file))
+    # (as the user whose files these are, who may put something else there)
+    with files.as_desk():
+        if not file.exists() or register_files.has_content(f"{file}-wal"):
+            return False
+        with files.closing(files.opened_file(copy)) as held:
+            return register_files.is_equal(held, str(file))
 
 
 def what_is_there(register: Register, copy: pathlib.Path) -> str:

@@ -22,6 +22,8 @@ from .registers import SETTINGS, Register, named
 # what is fetched: copies with what is beside each, and the history
 WANTED = (*copies.PATTERNS, *(f"{it}{sealed.END}" for it in copies.PATTERNS),
           f"/{history_copies.FOLDER}/", f"/{history_copies.FOLDER}/*")
+# a program that runs what it is given, in place of a host
+ENV = "env"
 # in the settings of a register while it is taken over
 BEGUN = "standby"
 # how many copies are named where the one that was asked for is not there
@@ -78,21 +80,28 @@ def fetch(name: str, place: str, wanted: str = "") -> pathlib.Path:
         raise Refused(f"name the second place, here or in {SETTINGS / 'second-copy'}", 2)
     see_place(name, place)
     files.folder(register.copies, 0o710, USER, OFFICE)
-    options: list[object] = [
-        "--recursive", "--times", "--omit-dir-times", "--chmod=D700,F600", "--rsh", second_copy.SSH]
-    if second_copy.is_local(place):
-        # (a disk of another machine may know its users by other numbers)
-        options.append(f"--chown={USER}:{USER}")
+    options: list[object] = ["--recursive", "--times", "--omit-dir-times", "--chmod=D700,F600"]
     for it in WANTED:
         options += ["--include", it]
-    call(tool("rsync", "rsync"), *options, "--exclude", "*", f"{place}/{name}/",
-         f"{register.copies}/", as_user=None if second_copy.is_local(place) else USER)
+    # (a disk of another machine may know its users by other numbers: root reads it, and only the
+    # other end, which is begun as one of another machine would be, is of the user of the copies)
+    is_local = second_copy.is_local(place)
+    call(tool("rsync", "rsync"), *options, "--exclude", "*",
+         "--rsh", other_end() if is_local else second_copy.SSH, f"{place}/{name}/",
+         f"{f'{ENV}:' if is_local else ''}{register.copies}/", as_user=None if is_local else USER)
     decrypt_all(register)
     made = register.nightly_copies()
     if not made:
         raise Refused(f"{place}/{name} has no copy of a register")
     print(f"fetched {len(made)} copies from {place}/{name}, the last of them {made[-1].name}")
     return chosen(made, wanted) if wanted else last_on_the_way(made)
+
+
+def other_end() -> str:
+    """How rsync begins its other end on this machine, which writes as the user of the copies: so no
+    link that this user puts there leads root anywhere. What follows is the name of a host."""
+    as_user = f"setpriv --reuid={USER} --regid={USER} --clear-groups "
+    return f"{as_user if os.geteuid() == 0 else ''}{ENV}"
 
 
 def chosen(made: list[pathlib.Path], wanted: str) -> pathlib.Path:

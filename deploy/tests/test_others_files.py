@@ -14,8 +14,8 @@ import typing
 
 import pytest
 from machine import (
-    copies, desk, files, history_copies, metrics, office_delete, office_store, registers,
-    settings_copy, status,
+    copies, desk, files, histories, history_copies, metrics, office_delete, office_restore,
+    office_store, registers, settings_copy, status,
 )
 from machine.findings import Level
 from office_files import add_people, record
@@ -60,6 +60,20 @@ def test_a_report_that_is_no_file_of_its_user_is_not_read(
         status.report_of(office, name)
 
 
+@pytest.mark.parametrize("kind", ["link", "pipe"])
+def test_a_copy_that_is_no_file_by_now_is_not_compared_with_the_register(
+    kind: str, office: registers.Register
+) -> None:
+    """As where it was swapped after the request was read."""
+    path = office.copies / "office-000001-2025-03-03T120000.db"
+    if kind == "pipe":
+        os.mkfifo(path)
+    else:
+        path.symlink_to(office.file)
+    with pytest.raises((Refused, OSError), match=path.name):
+        office_restore.is_equal(path, office.file)
+
+
 def test_a_copy_of_the_history_that_is_no_file_is_named_and_holds_nothing_up(
     office: registers.Register
 ) -> None:
@@ -83,6 +97,16 @@ def test_a_copy_of_the_history_that_unpacks_to_too_much_is_refused(
     with pytest.raises(Refused, match="has over 1 MB"):
         history_copies.whole(bomb)
     assert history_copies.last_whole(folder) == b""
+
+
+def test_a_history_that_somebody_names_and_unpacks_to_too_much_is_refused(
+    tmp_path: pathlib.Path, monkeypatch: pytest.MonkeyPatch
+) -> None:
+    monkeypatch.setattr(files, "MOST_HISTORY", MB)
+    for name, data in (("a.gz", gzip.compress(bytes(50 * MB))), ("a.jsonl", bytes(MB + 1))):
+        (tmp_path / name).write_bytes(data)
+        with pytest.raises(Refused, match=f"{name} has over 1 MB, and is not read"):
+            histories.of_copy(tmp_path / name)
 
 
 def test_a_history_that_is_too_long_is_refused_before_it_is_read(

@@ -6,10 +6,13 @@ import getpass
 import gzip
 import os
 import pathlib
+import pwd
+import shutil
 import subprocess
+import tempfile
 
 import pytest
-from machine import copies, registers, sent, setup, standby, status
+from machine import copies, files, registers, sent, setup, standby, status
 from office.web.history import ANSWER, RESTORED, SENDS, History
 from register_files import Refused
 
@@ -48,6 +51,26 @@ def test_what_is_fetched(
         "history": 0o700, "history/history-1-a.gz": 0o600}
     assert f"fetched 3 copies from {place}/{NAME}, the last of them {COPIES[2]}" in (
         capsys.readouterr().out)
+
+
+def test_what_is_fetched_from_a_disk_is_written_by_the_user_of_the_copies(
+    place: pathlib.Path, machine: pathlib.Path, monkeypatch: pytest.MonkeyPatch
+) -> None:
+    """And so by no way that leads where only root may write. Root reads what is there."""
+    with tempfile.TemporaryDirectory() as room:
+        # (another user reaches it, where root runs the tests)
+        os.chmod(room, 0o755)
+        user = pwd.getpwnam("daemon" if os.geteuid() == 0 else getpass.getuser())
+        monkeypatch.setattr(standby, "USER", user.pw_name)
+        monkeypatch.setattr(registers, "COPIES", pathlib.Path(room))
+        monkeypatch.setattr(files, "numbers", lambda *_: (user.pw_uid, user.pw_gid))
+        copy = standby.fetch(NAME, str(place))
+        assert {it.stat().st_uid for it in copy.parent.rglob("*")} == {user.pw_uid}
+        shutil.rmtree(copy.parent / "history")
+        (copy.parent / "history").mkdir(mode=0o500)
+        with pytest.raises(Refused, match="history.* Permission denied"):
+            standby.fetch(NAME, str(place))
+        assert not list((copy.parent / "history").iterdir())
 
 
 def test_what_is_encrypted_is_opened_with_the_identity_of_this_machine(
