@@ -167,6 +167,49 @@ def test_a_sweep_leaves_the_folder_of_a_set_that_begins_meanwhile(office: Office
     assert begun and office.sets.room(begun[0]).is_dir()
 
 
+DAY, UTC = datetime.timedelta(days=1), datetime.timezone.utc
+
+
+@pytest.mark.parametrize("wrong", [-9000 * DAY, -2 * DAY, 3 * DAY, 4000 * DAY], ids=str)
+def test_a_clock_that_is_put_right_moves_no_end_of_a_set(
+    office: Office, wrong: datetime.timedelta
+) -> None:
+    """As after a start without a battery: what was made and taken under a wrong clock is kept as
+    long as all else, and no longer.
+    """
+    steady = [1000.0]
+    office.sets.steady = lambda: steady[0]
+    moment = datetime.datetime.now(UTC)
+
+    def made(taken: bool) -> int:
+        number = office.add(letters_sets.RUNS, at=(moment + wrong).isoformat())
+        office.sets.room(number).mkdir()
+        (office.sets.room(number) / "letters.pdf").write_bytes(b"%PDF")
+        office.sets.keep(office.sets.get(number), [(0, number, "about", "words", "text")])
+        with mock.patch.object(letters_sets, "now", lambda: (moment + wrong).isoformat()):
+            with mock.patch.object(office.sets, "snapshot"), mock.patch.object(
+                    office.sets, "write"):
+                office.make(number)
+            if taken:
+                office.sets.take(JANE, number)
+        return number
+
+    kept, taken = made(False), made(True)
+
+    def there(after: float) -> set[int]:
+        """Those whose file is there so many hours later, by the clock that was put right."""
+        steady[0] = 1000.0 + 3600 * after
+        office.sets.sweep_at(moment + datetime.timedelta(hours=after))
+        found = office.store.rows("SELECT DISTINCT set_id FROM letter ORDER BY set_id")
+        assert [it["set_id"] for it in found] == [kept, taken]
+        return {it for it in (kept, taken) if office.sets.room(it).exists()}
+
+    assert there(0.9) == {kept, taken}
+    # (another process knows what was put right)
+    office.sets.stamped.clear()
+    assert there(1.1) == {kept} and there(23.9) == {kept} and there(24.1) == set()
+
+
 def test_who_has_a_letter_is_known_without_the_children_of_each_set(office: Office) -> None:
     """With ten sets of 2,000 letters, each of which names all its children, a page takes no more
     than their results.

@@ -12,8 +12,9 @@ import secrets
 import shutil
 import sqlite3
 import threading
+import time
 import zlib
-from collections.abc import Iterator
+from collections.abc import Callable, Iterator
 from typing import Any
 
 from register_files import Refused
@@ -41,6 +42,8 @@ BATCH = 50
 # said that they were sent
 KEPT, KEPT_TAKEN = datetime.timedelta(days=1), datetime.timedelta(hours=1)
 KEPT_UNSENT = datetime.timedelta(days=60)
+# by so much two clocks tell the same
+CLOCKS_DIFFER = datetime.timedelta(minutes=1)
 # of all files, and what is left free on the disk
 MOST_BYTES, LEAST_FREE = 1_000 * inputs.MB, 300 * inputs.MB
 FILES = {PDF: "letters.pdf", MERGE: "letters.xlsx"}
@@ -140,6 +143,9 @@ class Sets:
         self.lock = threading.RLock()
         self.thread: threading.Thread | None = None
         self.running: dict[int, Running] = {}
+        # by a clock that nobody sets: when this application has stored a moment of a set
+        self.steady: Callable[[], float] = lambda: time.clock_gettime(time.CLOCK_BOOTTIME)
+        self.stamped: dict[tuple[int, str], float] = {}
 
     # what there is
 
@@ -171,6 +177,11 @@ class Sets:
         """Stores what came of a set."""
         with self.store.writing() as db:
             db.execute(f"UPDATE letter_set SET {query} WHERE id=?", (*values, number))
+
+    def stamp(self, number: int, column: str) -> str:
+        """The moment of now, which is stored in a column of a set."""
+        self.stamped[number, column] = self.steady()
+        return now()
 
     def room(self, number: int) -> pathlib.Path:
         """The folder of a set."""
@@ -248,7 +259,7 @@ class Sets:
         path = self.file(found)
         self.history.add(who.name, "took letters", {"for": found.asked.words, "set": number})
         if not found.taken:
-            self.change(number, "taken=?", now())
+            self.change(number, "taken=?", self.stamp(number, "taken"))
         return path
 
     def again(self, number: int) -> list[tuple[int, str]]:
@@ -360,7 +371,8 @@ class Sets:
         with self.lock:
             is_ended = self.get(number).state == ENDED
             if not is_ended:
-                self.change(number, "state=?, said=?, ended=?", state, said, now())
+                self.change(number, "state=?, said=?, ended=?", state, said,
+                            self.stamp(number, "ended"))
             if is_ended or state == FAILED:
                 self.clear(number)
 
@@ -498,12 +510,28 @@ class Sets:
 
     def sweep(self) -> None:
         """Removes the files that nobody will take any more."""
+        self.sweep_at(datetime.datetime.now(datetime.timezone.utc))
+
+    def sweep_at(self, moment: datetime.datetime) -> None:
+        """The same, as of a moment."""
         # (no set begins meanwhile, whose folder would belong to none of those that are known)
         with self.lock:
-            self.swept(datetime.datetime.now(datetime.timezone.utc))
+            self.put_right(moment)
+            self.swept(moment)
+
+    def put_right(self, moment: datetime.datetime) -> None:
+        """Stores the moments of sets as they are by the clock of now, where it was set since: what
+        was made under a wrong clock would go at once, or stay for years.
+        """
+        for (number, column), began in list(self.stamped.items()):
+            is_so = moment - datetime.timedelta(seconds=self.steady() - began)
+            row = self.store.row(f"SELECT {column} AS at FROM letter_set WHERE id=?", number)
+            at = datetime.datetime.fromisoformat(row["at"]) if row and row["at"] else is_so
+            if abs(at - is_so) > CLOCKS_DIFFER:
+                self.change(number, f"{column}=?", is_so.isoformat(timespec="milliseconds"))
 
     def swept(self, moment: datetime.datetime) -> None:
-        """The same, as of a moment."""
+        """The same, once the moments of sets are right."""
         for row in self.store.rows("SELECT * FROM letter_set WHERE state IN (?, ?, ?)", MADE,
                                    FAILED, ENDED):
             if is_over(row, moment):
@@ -518,7 +546,8 @@ class Sets:
                 it.unlink(missing_ok=True)
         with self.store.writing() as db:
             db.execute("DELETE FROM letter WHERE set_id IN (SELECT id FROM letter_set WHERE"
-                       " sent IS NULL AND at<?)", ((moment - KEPT_UNSENT).isoformat(),))
+                       " sent IS NULL AND coalesce(ended, at)<?)",
+                       ((moment - KEPT_UNSENT).isoformat(),))
 
     # what a child was sent
 
