@@ -209,6 +209,18 @@ def test_several_files_and_their_names(office: Site, screens: Screens) -> None:
         ("a.csv", 2), ("b\\u202e.csv", 2), ("a.csv (2)", 2)]
 
 
+def test_many_files_at_once_are_refused(office: Site, screens: Screens) -> None:
+    """Each is read in a process of its own, so that a form of a thousand would hold a thread for
+    hours.
+    """
+    found = screens.add(*[(f"{it}.csv", b"x") for it in range(51)])
+    said = "Nothing was added: choose at most 50 files at once, and not 51."
+    assert found.status_code == 409 and Seen(found.text).texts["answer"].strip() == said
+    assert states(office) == {}
+    found = screens.add(*[(f"{it}.csv", b"") for it in range(50)])
+    assert "49.csv is empty" in Seen(found.text).texts["answer"]
+
+
 WRONG_KINDS = [
     ("empty.csv", b"", "empty.csv is empty"), ("blank.csv", b"\n\n", "expected a header"),
     ("a.pdf", b"%PDF-1.4", "a PDF"), ("a.png", b"\x89PNG\r\n\x1a\n", "a picture"),

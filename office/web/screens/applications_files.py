@@ -18,6 +18,8 @@ screen = flask.Blueprint("applications_files", __name__, url_prefix="/applicatio
 Answer = str | Response | tuple[str, int]
 # so many cells that change are shown
 MOST_SHOWN = 300
+# each file of a form is read in a process of its own, for some seconds
+MOST_FILES = 50
 
 
 def given(it: object) -> tuple[str, bytes, Read]:
@@ -36,7 +38,11 @@ def add() -> Answer:
     added: list[int] = []
     refused: list[str] = []
     who, is_uk = person().name, "uk" in flask.request.form
-    for it in flask.request.files.getlist("files"):
+    files = flask.request.files.getlist("files")
+    if len(files) > MOST_FILES:
+        return applications.page(f"Nothing was added: choose at most {MOST_FILES} files at once,"
+                                 f" and not {len(files)}.", True)
+    for it in files:
         try:
             name, data, read = given(it)
             added.append(tools().staging.add_file(who, name, data, is_uk, read))
