@@ -1,6 +1,6 @@
 """The files that follow from the rules of the source, and from the words for them.
 
-They are office/rules.json, and tables of docs/reference/ERRORS.md.
+They are office/rules.json, and tables of docs/reference/ERRORS.md and FORMATS.md.
 office/words.json, which is written by hand, has words for each refusal, error and kind of field,
 and for no other. The names in docs/reference/ERRORS.md have anchors (error_names.py).
 """
@@ -16,13 +16,21 @@ import error_names
 import source_rules
 
 RULES, WORDS = Path("office/rules.json"), Path("office/words.json")
-PAGE = Path("docs/reference/ERRORS.md")
+PAGE, FORMATS = Path("docs/reference/ERRORS.md"), Path("docs/reference/FORMATS.md")
 # the groups of words, and how the table of each begins
 TITLES = {
     "refusals": "| Refusal | Meaning | What to do |",
     "faults": "| Error of a line | Meaning | What to do |",
     "row_faults": "| Error of a row | Meaning | What to do |",
     "kinds": "| Field | Must be |",
+}
+COMMANDS = "| `cmd` | Fields, in the order in which they are checked |"
+LIMITS = "| Limit | Least | Most |"
+# how FORMATS calls the kinds of fields
+KINDS = {
+    "child": "child number", "code_or_none": "present school", "truth": "truth value",
+    "list of flag": "flags", "list of code": "codes", "list of criterion": "array of criteria",
+    "list of number": "array of numbers",
 }
 
 
@@ -80,9 +88,9 @@ def tables(document: dict[str, Any]) -> dict[str, list[str]]:
         for group in ("refusals", "faults")
     }
     made[TITLES["row_faults"]] = [
-        f"| {anchor('row_faults', name)}`fault: row N: {name}` |"
+        f"| {anchor('row_faults', name)}`fault: row N: {name}` ({number}) |"
         f" {' | '.join(rules.in_words('row_faults', name))} |"
-        for name in document["row_faults"]
+        for name, number in document["row_faults"].items()
     ]
     made[TITLES["kinds"]] = [
         f"| {', '.join(f'`{it}`' for it in names)} | {rules.kind_in_words(kind)} |"
@@ -91,15 +99,39 @@ def tables(document: dict[str, Any]) -> dict[str, list[str]]:
     return made
 
 
-def with_tables(text: str, made: dict[str, list[str]]) -> str:
-    """The text of the page with these tables in place of its own."""
+def field_in_words(field: dict[str, Any]) -> str:
+    """A field of a command with its kind, and its value where it is missing."""
+    kind = KINDS.get(field["kind"], field["kind"])
+    omitted = str(field.get("omitted", "")).lower() or "none"
+    missing = f" (may be missing: {omitted})" if field["optional"] else ""
+    return f"`{field['field']}` {kind}{missing}"
+
+
+def format_tables(document: dict[str, Any]) -> dict[str, list[str]]:
+    """The rows of each table of FORMATS, by how it begins."""
+    commands: dict[str, list[str]] = {}
+    for name, fields in document["commands"].items():
+        commands.setdefault(", ".join(map(field_in_words, fields)), []).append(f"`{name}`")
+    limits = []
+    for name, it in document["limits"].items():
+        least, most = (f"{one:,}" if isinstance(one, int) and name != "year" else one or ""
+                       for one in (it.get("least"), it.get("most")))
+        of = f" of {it['characters']}" if "characters" in it else ""
+        limits.append(f"| `{name}` | {least} | {most}{of} |")
+    return {COMMANDS: [f"| {', '.join(names)} | {said} |" for said, names in commands.items()],
+            LIMITS: limits}
+
+
+def with_tables(page: Path, made: dict[str, list[str]]) -> str:
+    """The text of a page with these tables in place of its own."""
+    text = text_in(page)
     for title, rows in made.items():
         dashes = re.sub("[^|]+", "---", title)
         new = "\n".join([title, dashes, *rows]) + "\n"
         text, count = re.subn(
             rf"^{re.escape(title)}\n(?:\|.*\n)*", lambda _: new, text, flags=re.MULTILINE)
         if count != 1:
-            raise source_rules.FormError(f"{PAGE} has {count} tables that begin with {title}")
+            raise source_rules.FormError(f"{page} has {count} tables that begin with {title}")
     return text
 
 
@@ -119,9 +151,11 @@ def failures(texts: dict[tuple[str, str, str], str]) -> Iterator[str]:
         wrong = list(wrong_words(document, json.loads(words)))
         yield from wrong or [""]
         if is_same and not wrong:
-            text = text_in(PAGE)
-            has_tables = with_tables(text, tables(document)) == text
+            text, formats = text_in(PAGE), text_in(FORMATS)
+            has_tables = with_tables(PAGE, tables(document)) == text
             yield "" if has_tables else f"{PAGE} has other tables than these words: {advice}"
+            has_tables = with_tables(FORMATS, format_tables(document)) == formats
+            yield "" if has_tables else f"{FORMATS} has other tables than the rules: {advice}"
             names = error_names.names(source_rules.Rules(texts), document)
             yield from [f"{PAGE} {it}" for it in error_names.wrong(text, names)] or [""]
     except (source_rules.FormError, ValueError) as error:
@@ -134,4 +168,5 @@ def update(texts: dict[tuple[str, str, str], str]) -> None:
     RULES.write_text(source_rules.text_of(document), encoding="utf-8")
     if wrong := list(wrong_words(document, json.loads(words))):
         raise source_rules.FormError("\n".join(wrong))
-    PAGE.write_text(with_tables(text_in(PAGE), tables(document)), encoding="utf-8")
+    PAGE.write_text(with_tables(PAGE, tables(document)), encoding="utf-8")
+    FORMATS.write_text(with_tables(FORMATS, format_tables(document)), encoding="utf-8")
