@@ -10,6 +10,7 @@ from . import town
 from .allocation import Child
 from .hands import Hands
 from .office import HAL, Office
+from .report import Stopped
 
 # so many rows are corrected before they are saved
 AT_ONCE = 2
@@ -42,12 +43,18 @@ def from_workbook(office: Office) -> None:
 
 def row_of(hands: Hands, child: Child) -> WebElement:
     """The row of a child: of two with its number, the one with its home."""
-    rows: list[WebElement] = hands.driver.execute_script(
+    found: list[WebElement] = hands.driver.execute_script(
         "const number = (row) => row.querySelector(`input[name^='child-']`)?.value"
         " ?? row.cells[1].innerText.trim();"
-        "return [...document.querySelectorAll('tr.mend')].filter("
-        "(row) => number(row) === arguments[0])", str(child.number))
-    return next(it for it in rows if len(rows) == 1 or str(child.east) in it.text)
+        "const has = (row, text) => row.innerText.includes(text)"
+        " || [...row.querySelectorAll('input')].some((it) => it.value === text);"
+        "const rows = [...document.querySelectorAll('tr.mend')].filter("
+        "(row) => number(row) === arguments[0]);"
+        "return rows.length > 1 ? rows.filter((row) => has(row, arguments[1])) : rows",
+        str(child.number), str(child.east))
+    if len(found) != 1:
+        raise Stopped(f"{len(found)} rows of child {child.number}: {hands.main[:600]}")
+    return found[0]
 
 
 def cell(row: WebElement, column: str) -> WebElement:
@@ -77,12 +84,12 @@ def corrected(office: Office) -> None:
     hal.see(f"Saved: {AT_ONCE} rows; nothing is wrong in them.")
     hal.see(f"With errors {left}")
     for child, fault in wrong[AT_ONCE:]:
+        if fault.column == "preferences":
+            slip(hal, child)
         typed(hal, child, fault.column, town.texts_of(child)[fault.column])
         left -= 1
         hal.see("nothing is wrong in it.", f"child {child.number}, {fault.column}")
         hal.see(f"With errors {left}")
-        if fault.column == "preferences" and left == len(town.FAULTS) - 2:
-            slip(hal, child)
     twice = row_of(hal, town.doubled(given))
     hal.press("Set aside", twice)
     hal.see("With errors 0")
@@ -113,16 +120,12 @@ def typed(hal: Hands, child: Child, column: str, text: str) -> None:
 
 
 def slip(hal: Hands, child: Child) -> None:
-    """A cell that was right becomes a field by its row's link, gets a wrong text, and is corrected:
-    it has the focus meanwhile.
-    """
-    hal.press("Edit", row_of(hal, child))
+    """A cell gets another wrong text first: it has the focus until it is right."""
     typed(hal, child, "preferences", "A;A")
     hal.see("1 error left")
     here = cell(row_of(hal, child), "preferences")
     hal.report.see(here == hal.driver.switch_to.active_element,
                    "the cell that is still wrong does not have the focus after the save")
-    typed(hal, child, "preferences", town.texts_of(child)["preferences"])
 
 
 def stored(office: Office) -> None:
@@ -139,9 +142,8 @@ def stored(office: Office) -> None:
     report.same(facts.get("Late"), str(late), "late ones to be stored")
     report.same(facts.get("Looked after"), str(sum(it.looked_after for it in given)),
                 "looked after of those to be stored")
-    hal.see(f"Shall {len(given)} applications of {len(given)} children be added to the register,"
-            f" {in_time} in time"
-            f" and {late} late?")
+    hal.see(f"Shall {len(given)} applications be added to the register, {in_time} in time and"
+            f" {late} late?")
     hal.press(f"Add {len(given)} applications")
     hal.see(f"Added to the register: {len(given)} applications")
     kept = {it["child"]: it for it in office.read("/register")["children"]}
@@ -180,7 +182,7 @@ def plans(office: Office) -> None:
     hal.press("Record EHC plans")
     hal.tab_to("A column of numbers or names, or rows as 23 Bo Bell ELM decline")
     hal.type("\n".join(f"plan,{it.number},{school},{it.name}" for it, school in named))
-    hal.press("Add to the batch")
+    hal.press_by_keys("Add to the batch")
     hal.press("Record 2 answers")
     hal.see("2 of them are final:")
     for it, school in named:

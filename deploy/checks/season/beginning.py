@@ -68,7 +68,7 @@ def flags(office: Office) -> None:
     jane = office.jane
     jane.go("Schools", "Verified reasons")
     for number, words in town.FLAG_WORDS.items():
-        jane.fill(f"Words of flag {number}", words)
+        jane.fill(f"Words of reason {number}", words)
     jane.enter()
     jane.see("The words are stored.")
     rows = {row[0]: row[2] for row in jane.rows("table")}

@@ -8,6 +8,7 @@ import hashlib
 import random
 from collections.abc import Sequence
 
+from selenium.webdriver.common.by import By
 from selenium.webdriver.common.keys import Keys
 
 from . import town
@@ -270,7 +271,7 @@ def rehearsed(office: Office, draw: Draw, lots: Lots) -> None:
     else:
         outcome = season.round({pair: it[0] for pair, it in lots.items()}, draw.day)
         got = [(draw.first, child, school) for child, school in outcome.items()]
-    shown = sorted(it for row in jane.captioned("By child") if (it := came(draw, row)))
+    shown = sorted(it for row in all_children(jane) if (it := came(draw, row)))
     wanted = sorted((number, child, before.get(child, "none"), school or "none")
                     for number, child, school in got)
     report.same(shown, wanted, f"the outcome of the rehearsal of {draw.numbers}")
@@ -279,6 +280,13 @@ def rehearsed(office: Office, draw: Draw, lots: Lots) -> None:
                       f"hal is not told whose turn it is: {hal.text('.closed')}")
     hal.press(f"To {draw.numbered}")
     hal.press(f"Confirm {draw.name}")
+
+
+def all_children(who: Hands) -> list[list[str]]:
+    """The rows of the children of a draw, of all its pages."""
+    if found := who.driver.find_elements(By.LINK_TEXT, "All rows on one page, to print"):
+        who.driver.get(found[0].get_attribute("href") or "")
+    return who.captioned("By child")
 
 
 def came(draw: Draw, row: list[str]) -> tuple[int, int, str, str] | None:

@@ -38,7 +38,7 @@ def figures(office: Office) -> None:
     hal.open("/")
     hal.press("Published figures")
     hal.pick("Round", "round 1", "round 1")
-    hal.press("Make the figures, and show them")
+    hal.press_by_keys("Make the figures, and show them")
     hal.see(f"of {len(got)} children who took part")
     met = collections.Counter(
         f"{NTH[before.season.lists[child].index(code)]} preference" if code else "no place"
@@ -119,7 +119,7 @@ def question(office: Office) -> None:
     got = other.round(before.lots, before.day)[child]
     for at, _ in enumerate(season.lists[child][1:], 1):
         rita.pick(f"{NTH[at].capitalize()} preference", "no school", "no s")
-    rita.press("What would it have got by this list?")
+    rita.press_by_keys("What would it have got by this list?")
     rita.look("What another list would have given")
     meant = f"a place at {NAMES[got]} ({got}), its first preference" if got else "no place"
     rita.see(f"By the list {first}: {meant}.")
@@ -143,7 +143,7 @@ def archived(office: Office) -> None:
                         "Waiting lists": said}, "what is still open")
     jane.tab_to("I have read what is still open, and it may stay so")
     jane.key(Keys.SPACE)
-    jane.press("Make the last copy and the archive")
+    jane.press_by_keys("Make the last copy and the archive")
     jane.look("End of the season, with an archive")
     jane.tab_to("Where it will be kept")
     jane.type(KEPT)

@@ -28,6 +28,8 @@ WIDTH, HEIGHT, TWICE, SMALL = 1280, 900, 640, 320
 MOST_STOPS = 60
 # no screen needs so many steps by Tab to one of its fields
 MOST_TABS = 400
+# what the console says of a page that asks once more before it does what was asked
+ASKED = "Failed to load resource: the server responded with a status of 409"
 PLAIN = """
 const plain = (text) => (text ?? "").replace(/\\s+/g, " ").trim();
 const named = (ids) => ids.split(" ").map((it) => document.getElementById(it)?.textContent);
@@ -107,6 +109,14 @@ class Hands:
             PLAIN + "return [...document.querySelectorAll('.summary > div')].map((it) =>"
             "[plain(it.children[0].textContent), plain(it.children[1].textContent)]);")
         return dict(found)
+
+    def history(self) -> list[tuple[str, str, str]]:
+        """What was done, the last first: what, what is said of it, and when and by whom."""
+        found = self.driver.execute_script(
+            PLAIN + "return [...document.querySelectorAll('.history > li')].map((it) => {"
+            "const said = [...it.children].map((one) => plain(one.textContent));"
+            "return [said[0], said.slice(1, -1).join(' '), said.at(-1)]; });")
+        return [(what, more, by) for what, more, by in found]
 
     def has(self, text: str) -> bool:
         """Whether there is something to press with a text."""
@@ -258,8 +268,10 @@ class Hands:
         """Looks at the screen: the console, and once of each screen its width and its picture. A
         name is given to a screen that has much to show, or no heading.
         """
+        asked = f"{self.driver.current_url} - {ASKED}"
         for it in self.driver.get_log("browser"):
             is_bad = it["level"] == "SEVERE" or it.get("source") == "security"
+            is_bad = is_bad and not it["message"].startswith(asked)
             if is_bad or "Autofocus" in it["message"]:
                 self.report.see(False, f"the console of {self.who} at '{self.title}':"
                                 f" {it['message']}")

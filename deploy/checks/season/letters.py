@@ -70,7 +70,7 @@ def letterhead(office: Office) -> None:
     jane.press("Type the office’s name and address")
     for label, text in OFFICE.items():
         jane.fill(label, text)
-    jane.press("Save for all letters")
+    jane.press_by_keys("Save for all letters")
     jane.look("The office on its letters, saved")
 
 
@@ -125,7 +125,7 @@ def taken_and_sent(office: Office, day: datetime.date, wanted: Mapping[int, Iter
     sent = f"sent on {in_words(on)}, by {hal.who}"
     report.same(hal.facts().get("State"), sent, "the state of the letters")
     first = min(wanted)
-    hal.open(f"/children/{first}", "A child with letters")
+    hal.open(f"/children/{first}?part=letters", "A child with letters")
     rows = [row for row in hal.captioned("") if len(row) == 5 and about in row[1]]
     report.same([(row[0], row[3]) for row in rows], [(in_words(on), hal.who)],
                 f"the letter about the {about} on the screen of child {first}")
@@ -150,7 +150,10 @@ def due(office: Office, kind: str, day: datetime.date, children: Iterable[int],
     for it in out:
         hal.tab_to(f"Child {it}")
         hal.key(Keys.SPACE)
-    hal.press("Check what is ticked")
+    if out:
+        hal.press_by_keys("Check what is ticked")
+    else:
+        hal.press("Check what is ticked")
     for it in wanted:
         code = season.places[it]
         hal.see(f"child {it}, {season.children[it].name}: {code} {NAMES[code]}")

@@ -120,8 +120,9 @@ def other_screens(office: Office) -> None:
     office.people[SUP].open("/")
 
 
-# the steps, each with the clicks that its screens ask for. (A tick that what looks wrong is right
-# is beside these: it is asked for on another day than that of the draw.)
+# the steps, each with the clicks that its screens ask for. Who has typed in a form goes on by the
+# keyboard there. (A tick that what looks wrong is right is beside these: it is asked for on another
+# day than that of the draw.)
 STEPS: tuple[tuple[Callable[[Office], None], int], ...] = (
     (beginning.first_sign_in, 0),
     # the file on the first screen, the schools in it, and the question
@@ -133,16 +134,16 @@ STEPS: tuple[tuple[Callable[[Office], None], int], ...] = (
     (ready, 0),
     # the file, on the first screen
     (applications.from_workbook, 1),
-    # the link of a row, and the row that is set aside
-    (applications.corrected, 2),
+    # the row that is set aside
+    (applications.corrected, 1),
     (applications.stored, 2),
-    # the screen, the batch, the question, and its answer
-    (applications.plans, 4),
+    # the screen, the question, and its answer
+    (applications.plans, 3),
     # for the head of the office the screen, the close and the draw; for the officer the draw and
     # the confirmation; for the supervisor the lots, the seal, and the sheet and its file
     (first_round, 9),
-    # the screen, and what is saved
-    (letterhead, 2),
+    # the screen
+    (letterhead, 1),
     # the screen, the file, and the record
     (offers, 3),
     # the screen: all else is done by the keyboard
@@ -150,17 +151,18 @@ STEPS: tuple[tuple[Callable[[Office], None], int], ...] = (
     # what is due, what is recorded, the record; the letters' file, and their record
     (reminders, 5),
     (fills, 7),
-    # the same, and the ticks
-    (withdrawals, 6),
+    # the same without what is recorded, which the keyboard shows, and the ticks
+    (withdrawals, 5),
     # the wrong draw (7) and two answers with their question (3); the page that undoes it, the
     # close, the question, and for the officer the restore and its confirmation (5); the draw again
     # (6 and the seal of all lots); and the answer to its offer (2)
     (second_round, 23),
-    # the screen, what is made, and the file
-    (ending.figures, 3),
-    (ending.question, 4),
+    # the screen, and the file
+    (ending.figures, 2),
+    # the reason, its PDF, and the screen of other lists
+    (ending.question, 3),
     (other_screens, 0),
-    # the screen, and the copy with the archive
-    (ending.archived, 2),
+    # the screen
+    (ending.archived, 1),
     (ending.deleted, 1),
 )

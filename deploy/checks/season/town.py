@@ -50,7 +50,7 @@ FAULTS = (
     Fault("preferences", "FERN;A;FERN", "FERN is listed twice."),
     Fault("east", "1,250", "Write 1250, without commas."),
     Fault("looked_after", "perhaps", "Write yes or no."),
-    Fault("flags", "16", "Reasons are numbers from 0 to 15."),
+    Fault("flags", "16", "Reason 16 is none of 1, 2."),
     Fault("siblings", "OAK", "There is no school OAK."),
     Fault("north", "=2400+50", "is a formula that was never calculated."),
 )

@@ -81,7 +81,7 @@ def restored(office: Office, draw: Draw, before: Season, answered_by: tuple[int,
     """
     report, jane, hal = office.report, office.jane, office.people[HAL]
     report.step(f"{draw.words}: the copy from before it is restored")
-    number = jane.facts()["Copies"].split()[0]
+    number = jane.facts()["Copy"].removeprefix("Copy ").partition(",")[0]
     jane.press("This round was wrong: undo it")
     jane.press(f"Pause recording for everyone, to restore copy {number}")
     report.same(jane.title, f"Restore of copy {number}", "the heading of the restore")
@@ -129,9 +129,9 @@ def sees_author(office: Office, child: int) -> None:
     """The history of a child names who sent its answer again, and who has recorded it first."""
     hal = office.people[HAL]
     hal.open(f"/children/{child}", "A child after a restore")
-    rows = [row for row in hal.rows("#history") if row[2].startswith("accepted the place")]
+    rows = [it for it in hal.history() if it[0].startswith("Accepted the place")]
     # (between them may be that it was sent while there was no offer)
-    office.report.see(len(rows) > 1 and f"recorded first by {hal.who} on" in rows[0][2]
-                      and rows[0][3].startswith("done") and rows[-1][1] == hal.who
-                      and "undone when copy" in rows[-1][3],
+    office.report.see(len(rows) > 1 and f"recorded first by {hal.who} on" in rows[0][1]
+                      and "undone when copy" not in rows[0][1] and rows[-1][2].endswith(hal.who)
+                      and "undone when copy" in rows[-1][1],
                       f"who recorded the answer of child {child}: {rows}")
