@@ -33,7 +33,7 @@ PEOPLE = {
     "reads": Account("reader", is_program=True), "lists": Account("school-A", is_program=True),
 }
 # Has the site of a register, the machine's own part, or a main file of nginx made by the installed
-# admissions-setup: its folder, then what is called and its arguments
+# admissions-admin setup: its folder, then what is called and its arguments
 MAKE_SITE = """
 import pathlib, sys
 sys.path.insert(0, sys.argv[1])
@@ -396,7 +396,7 @@ class World:
         raise RuntimeError(log.read_text())
 
     def site_text(self) -> str:
-        """The site as admissions-setup makes it."""
+        """The site as admissions-admin setup makes it."""
         return replaced(self.installation.site(self.name, self.host), (
             (f"/etc/admissions/{self.name}", f"{self.settings}"),
             (f"/run/admissions-office/{self.name}.sock", f"{self.room}/run/office.sock"),

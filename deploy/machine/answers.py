@@ -1,15 +1,18 @@
-"""What admissions-setup is given: each option or answer is taken in one form, and what cannot be
+"""What admissions-admin is given: each option or answer is taken in one form, and what cannot be
 taken is named as it was typed."""
+import argparse
+import contextlib
 import datetime
 import os
 import re
+import socket
 import sys
 import typing
 
 from register_files import Refused
 
 from . import sites
-from .registers import PHASES
+from .registers import PHASES, Register, all_registers, known
 
 MOST_HOLIDAYS = 40
 DAY = re.compile(r"\d{4}-\d\d-\d\d", re.ASCII)
@@ -28,6 +31,11 @@ def year(text: str) -> int:
     if not re.fullmatch(r"\d{4}", text, re.ASCII) or not 2000 <= int(text) <= 2100:
         raise Refused(f"{text!r} is no year of entry: it is from 2000 to 2100", 2)
     return int(text)
+
+
+def is_day(text: str) -> bool:
+    """Whether a word is meant for a day, and not for the name of a register."""
+    return text == NONE or text[:1].isdigit() and not text[-1:].isalpha()
 
 
 def holidays(texts: list[str]) -> list[str]:
@@ -116,3 +124,63 @@ def confirm(what: str, is_confirmed: bool) -> None:
     print(f"{what}. Type yes to do it: ", end="", flush=True)
     if sys.stdin.readline().strip() != "yes":
         raise Refused("nothing was changed")
+
+
+def see_season(name: str, year_of: int, days: list[str], is_confirmed: bool) -> None:
+    """Shows what may be wrong of the year and the holidays of a register, and has it confirmed."""
+    if doubts := doubts_of(name, year_of, days):
+        if is_confirmed:
+            print("\n".join(f"WARNING: {it}" for it in doubts), flush=True)
+        confirm("; ".join(doubts), is_confirmed)
+
+
+def add_yes(reader: argparse.ArgumentParser) -> None:
+    """Adds the option that confirms without a question."""
+    reader.add_argument("--yes", action="store_true", help="do not ask whether this is right")
+
+
+def add_register(reader: argparse.ArgumentParser) -> None:
+    """Adds the name of the register."""
+    reader.add_argument("name", nargs="?", metavar="NAME",
+                        help="the name of the register; the only one of this machine by default")
+
+
+def register_of(given: argparse.Namespace) -> Register:
+    """The register that is given."""
+    return register_named(given.name)
+
+
+def register_named(name: str | None) -> Register:
+    """The register of a name, or the only one of this machine."""
+    if name is not None:
+        return known(name)
+    found = all_registers()
+    if len(found) != 1:
+        there = ", ".join(it.name for it in found) or "none"
+        raise Refused(f"which register? NAME is missing; registers of this machine: {there}", 2)
+    return found[0]
+
+
+def confirm_name(register: Register, what: str, is_confirmed: bool) -> None:
+    """Goes on with what is final only where the name of the register is typed, or by --yes. Two
+    machines may have a register of the same name: what differs is the machine, and mostly the
+    site."""
+    if is_confirmed:
+        return
+    if not sys.stdin.isatty():
+        raise Refused("nothing was done: without a terminal --yes confirms", 2)
+    print(f"This is the machine {socket.gethostname()}, where {register.name} has"
+          f" {f'the site {register.host}' if register.host else 'no site'}.")
+    print(f"Type the name of the register to {what}: ", end="", flush=True)
+    if sys.stdin.readline().strip() != register.name:
+        raise Refused("nothing was done: another name was typed")
+
+
+def teller() -> str:
+    """By which name the history and the journal have whoever types a command."""
+    who = os.environ.get("SUDO_USER", "")
+    if not who:
+        with contextlib.suppress(OSError):
+            who = os.getlogin()
+    has_name = who and who != "root" and who.isprintable()
+    return f"administrator of the machine{f' ({who})' if has_name else ''}"

@@ -33,24 +33,32 @@ def make(register: Register, host: str) -> typing.Iterator[str]:
     """Makes what is missing of a key, a request for a certificate, and a certificate that the key
     itself signs. Returns a line for each."""
     key, certificate, request = paths(register)
-    name = ("-subj", f"/CN={host}", "-addext", f"subjectAltName=DNS:{host}")
     if not key.exists():
-        files.write(
-            key,
-            openssl("genpkey", "-algorithm", "EC", "-pkeyopt", "ec_paramgen_curve:P-256").stdout,
-            0o600,
-        )
+        files.write(key, new_key(), 0o600)
         yield f"made the key {key}"
     if not request.exists():
-        files.write(request, openssl("req", "-new", "-key", key, *name).stdout, 0o644)
+        files.write(request, requested(key, host), 0o644)
         yield f"made the request {request}: let a CA sign it"
     if not certificate.exists():
-        files.write(
-            certificate,
-            openssl("req", "-x509", "-key", key, "-days", str(DAYS_OF_TRIAL), *name).stdout,
-            0o644,
-        )
+        trial = requested(key, host, "-x509", "-days", str(DAYS_OF_TRIAL))
+        files.write(certificate, trial, 0o644)
         yield f"made the certificate {certificate}, for a trial of {DAYS_OF_TRIAL} days"
+
+
+def new_key() -> str:
+    """The text of a new key."""
+    return openssl("genpkey", "-algorithm", "EC", "-pkeyopt", "ec_paramgen_curve:P-256").stdout
+
+
+def requested(key: pathlib.Path, host: str, *more: str) -> str:
+    """A request for a certificate of a site by a key; or, with more words, the certificate."""
+    name = ("-subj", f"/CN={host}", "-addext", f"subjectAltName=DNS:{host}")
+    return openssl("req", "-new", *more, "-key", key, *name).stdout
+
+
+def later(path: pathlib.Path) -> pathlib.Path:
+    """The place of a key, or of its request, that is used once a CA has signed it."""
+    return path.with_name(f"{path.name}.new")
 
 
 def warning(register: Register) -> str | None:
@@ -66,7 +74,7 @@ def warning(register: Register) -> str | None:
 
 def command(register: Register) -> str:
     """What takes a certificate that a CA has signed for the key that is there."""
-    return f"admissions-setup {register.name} --certificate FILE --key {paths(register)[0]}"
+    return f"admissions-admin certificate {register.name} FILE"
 
 
 def is_self_signed(certificate: pathlib.Path) -> bool:
@@ -79,9 +87,7 @@ def is_self_signed(certificate: pathlib.Path) -> bool:
 def key_problem(register: Register) -> str | None:
     """Why nginx cannot serve the site, where the certificate is not of the key."""
     key, certificate, _ = paths(register)
-    if public_key("x509", "-pubkey", "-noout", "-in", certificate) == public_key(
-        "pkey", "-pubout", "-in", key
-    ):
+    if is_pair(certificate, key):
         return None
     return f"{certificate} is not of the key {key}, so nginx cannot serve the site"
 
@@ -116,8 +122,7 @@ def see(register: Register, host: str) -> str | None:
     """Refuses a certificate that nginx cannot serve, whatever put it there. Returns a warning of
     one that browsers will not trust."""
     if problem := key_problem(register):
-        raise Refused(f"{problem}. Put the right one there, or give both by --certificate and"
-                      " --key")
+        raise Refused(f"{problem}. Give both: {command(register)} --key FILE")
     problem = name_problem(paths(register)[1], host)
     return f"WARNING: {problem}" if problem else warning(register)
 
@@ -133,11 +138,15 @@ def pem(path: str) -> str:
 def pair(certificate: str, key: str) -> tuple[str, str]:
     """The texts of a certificate and its key."""
     texts = pem(certificate), pem(key)
-    if public_key("x509", "-pubkey", "-noout", "-in", certificate) != public_key(
-        "pkey", "-pubout", "-in", key
-    ):
+    if not is_pair(certificate, key):
         raise Refused(f"{certificate} is not of the key {key}")
     return texts
+
+
+def is_pair(certificate: pathlib.Path | str, key: pathlib.Path | str) -> bool:
+    """Whether a certificate is of a key."""
+    of_certificate = public_key("x509", "-pubkey", "-noout", "-in", certificate)
+    return of_certificate == public_key("pkey", "-pubout", "-in", key)
 
 
 def see_name(certificate: str, host: str) -> None:

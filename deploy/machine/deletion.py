@@ -3,7 +3,7 @@ application cannot write; and the record of a deletion beside it.
 
 The application asks for a day by a number, and cannot be trusted: it may be told what to ask by
 whoever has broken into it. So a day is kept only if it is ahead by a notice, which
-admissions-status reports meanwhile, and after the last day of the register's lists.
+`admissions-admin status` reports meanwhile, and after the last day of the register's lists.
 """
 import datetime
 import json

@@ -11,7 +11,7 @@ them, /etc/admissions/second-copy-identity by default; without one the drill
 says that the second copy was not tried. The last one that was is kept in
 drill-opened.report. The archive of its settings is read,
 and who may sign in is counted. What was restored is removed at the end. The
-result is in /var/backups/admissions/NAME/drill.report, which admissions-status
+result is in /var/backups/admissions/NAME/drill.report, which the status
 reads. A drill that fails leaves the report of the one before it, and its unit
 fails.
 

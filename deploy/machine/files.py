@@ -16,7 +16,7 @@ from register_files import OWNER_ALONE, Refused
 
 from .programs import USER
 
-LOCK = pathlib.Path("/run/admissions-setup.lock")
+LOCK = pathlib.Path("/run/admissions-admin.lock")
 # how a file of somebody else is opened: waiting for nobody, and through no link
 READ = os.O_RDONLY | os.O_NONBLOCK | os.O_CLOEXEC
 AS_IT_IS = READ | os.O_NOFOLLOW
@@ -36,7 +36,7 @@ def lock() -> typing.Iterator[None]:
         try:
             fcntl.flock(file, fcntl.LOCK_EX | fcntl.LOCK_NB)
         except BlockingIOError:
-            print("waiting for another admissions-setup to end", file=sys.stderr, flush=True)
+            print("waiting for another admissions-admin to end", file=sys.stderr, flush=True)
             fcntl.flock(file, fcntl.LOCK_EX)
         yield
 

@@ -102,7 +102,7 @@ def lacking(register: Register) -> list[str]:
     names = ", ".join(unlike(register))
     return [f"the history was erased, cut or changed: it does not begin with {names} in"
             f" {register.copies / FOLDER}. Find out who did that, keep the copies, and then type:"
-            f" admissions-setup {register.name} --acknowledge"] if names else []
+            f" admissions-admin history {register.name} --acknowledge"] if names else []
 
 
 def acknowledged(register: Register) -> dict[str, str]:

@@ -38,7 +38,8 @@ def main(given: argparse.Namespace) -> int:
 def config_of(register: Register) -> parts.Config:
     """Where the application of a register finds what it needs."""
     if register.host is None:
-        raise Refused(f"{register.name} has no site yet: type admissions-setup {register.name}")
+        how = f"admissions-admin setup {register.name}"
+        raise Refused(f"{register.name} has no site yet: type {how}")
     name = SETTINGS / "authority"
     return parts.Config(
         register.name,

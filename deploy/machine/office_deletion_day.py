@@ -7,7 +7,7 @@ The request is the day as a number, as 20260131, in the file
 `requests/deletion-day` in the application's folder. The day must be 14 days
 ahead at least, and after the last day of the lists of the register. It is kept
 in /etc/admissions/NAME/deletion-day, which root alone can write; a later
-request replaces it. admissions-status reports it. The answer is in
+request replaces it. `admissions-admin status` reports it. The answer is in
 `requests/deletion-day.done`: the day, or an error. Nothing is deleted.
 
 example:

@@ -2,17 +2,17 @@
 each change is left there for the history of the application, which takes it at its next request."""
 import contextlib
 import datetime
-import os
 import typing
 
 from office.web import people, store
 from register_files import Refused
 
-from . import files, office_store
+from . import answers, files, office_store
 from .programs import OFFICE
 from .registers import Register
 
 NAME, ROLES, SCHOOL, is_role = people.NAME, people.ROLES, people.SCHOOL, people.is_role
+PERSON = people.PERSON
 User = office_store.Person
 ROLES_TEXT = f"{', '.join(ROLES)}, or {SCHOOL}CODE"
 
@@ -35,17 +35,11 @@ def users_of(register: Register) -> dict[str, User]:
     return {it.name: it for it in office_store.people_of(register)}
 
 
-def teller() -> str:
-    """By which name the history has whoever types the command."""
-    who = os.environ.get("SUDO_USER", "")
-    return f"administrator of the machine{f' ({who})' if who.isprintable() and who else ''}"
-
-
 def tell(kept: store.Store, what: str, about: dict[str, str]) -> None:
     """Leaves a change for the history, with its time: the history has it with the next request of
     somebody who is signed in, which may be much later."""
     now = datetime.datetime.now(datetime.timezone.utc).isoformat(timespec="seconds")
-    kept.tell(teller(), what, {**about, "done_at": now})
+    kept.tell(answers.teller(), what, {**about, "done_at": now})
 
 
 def add(register: Register, name: str, role: str) -> str:
@@ -68,6 +62,18 @@ def reset(register: Register, name: str) -> str:
     with opened(register) as (found, kept), kept.writing():
         tell(kept, "drew a new password", {"person": name})
         return found.reset(name)
+
+
+def reset_all(register: Register, out: typing.TextIO) -> int:
+    """Draws another password or token for each, and writes them into a file before they count: all
+    or none. Returns how many."""
+    with opened(register) as (found, kept), kept.writing():
+        everybody = office_store.people_of(register)
+        for it in everybody:
+            tell(kept, "drew a new password", {"person": it.name})
+            print(f"{it.name} {found.reset(it.name)}", file=out)
+        out.flush()
+    return len(everybody)
 
 
 def remove(register: Register, user: User) -> None:

@@ -15,7 +15,7 @@ def register_line(register: Register) -> str:
     closed then: what was sent since is sent again first."""
     made = register.nightly_copies()
     if not made:
-        return f"admissions-setup {register.name} --standby"
+        return f"admissions-admin takeover {register.name}"
     name = register.name
     units = " ".join(f"admissions-{it}" for it in (
         f"backup@{name}.timer", f"office@{name}.socket", f"office@{name}.service"))
@@ -32,7 +32,7 @@ def people_line(register: Register) -> str:
     name, path = register.name, office_store.path_of(register)
     made = [it for it in register.nightly_copies() if copies.settings_of(it).exists()]
     given = f"--copy {made[-1]}" if made else "--user NAME --role head"
-    take = f"admissions-setup {name} {given}"
+    take = f"admissions-admin setup {name} {given}"
     if not path.exists():
         return take
     aside = register.office / "aside"
@@ -65,7 +65,7 @@ def site_line(register: Register, error: Exception) -> str:
     if isinstance(error, TimeoutError):
         return office_line(register)
     if isinstance(error, ssl.SSLError):
-        return "admissions-setup --sites"
+        return "admissions-admin sites"
     control = tool("systemctl", "systemd")
     is_on = call(control, "is-active", "nginx", may_fail=True).stdout.strip() == "active"
     return "nginx -t" if is_on else "systemctl start nginx"

@@ -14,7 +14,7 @@ with the first ones byte by byte, the copy is opened by the program, and rsync
 compares the history by checksums. What is there of an earlier register of this
 NAME, with a greater number or another history, is named: a takeover would go
 on from it. The result is in
-/var/backups/admissions/NAME/second-copy.report, which admissions-status reads.
+/var/backups/admissions/NAME/second-copy.report, which the status reads.
 Where no place is named nothing is done.
 
 With a public key of age in /etc/admissions/second-copy-recipient all of it is

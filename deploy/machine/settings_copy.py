@@ -11,10 +11,10 @@ Nothing else is copied, and so no key. An archive that is there stays as it is,
 as the copy does. The history, who did what, is in the folder `history` beside
 the copies, compressed. What was copied is only ever made longer: a history
 that was cut or begins otherwise is copied beside it, and named until somebody
-acknowledges it (admissions-setup NAME --acknowledge). One in which a line was
-changed is copied too, and named with the line. What cannot be read is named,
-and all else is copied. All copies are of the user admissions alone. The result
-is in settings-copy.report beside them, which admissions-status reads.
+acknowledges it (admissions-admin history NAME --acknowledge). One in which a
+line was changed is copied too, and named with the line. What cannot be read is
+named, and all else is copied. All copies are of the user admissions alone. The
+result is in settings-copy.report beside them, which the status reads.
 
 example:
   settings-copy secondary-2025

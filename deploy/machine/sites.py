@@ -36,8 +36,8 @@ VARIABLES = {"part", "host", "suffix", "settings", "socket"}
 LABEL = "[a-z0-9]([a-z0-9-]{0,61}[a-z0-9])?"
 HOST = re.compile(rf"(?=.{{1,253}}\Z){LABEL}(\.{LABEL})+")
 MADE = (
-    "# Made by admissions-setup from sites-available/admissions:"
-    " change that, and type admissions-setup --sites\n"
+    "# Made by admissions-admin from sites-available/admissions:"
+    " change that, and type admissions-admin sites\n"
 )
 
 
@@ -100,7 +100,7 @@ def by_model(model: str, machine: Machine, **values: str) -> str:
                 f"{MODEL} is not a template of this version: it does not use"
                 f" {', '.join(sorted(unused))}. No site was changed. Put what you changed into a"
                 f" copy of {share() / 'admissions.conf'}, move that to {MODEL}, and type"
-                " admissions-setup --sites"
+                " admissions-admin sites"
             )
         return by_template(model, machine, **values)
     except jinja2.TemplateSyntaxError as error:
@@ -170,7 +170,7 @@ def main_text(text: str) -> str:
     found = re.search(r"(?m)^(\s*worker_connections\s+)([0-9]+);(?=[ \t]*(?:#|$))", text)
     if not found or int(found[2]) >= CONNECTIONS:
         return text
-    line = f"{found[1]}{CONNECTIONS}; # {found[2]} before admissions-setup"
+    line = f"{found[1]}{CONNECTIONS}; # {found[2]} before admissions-admin"
     return f"{text[:found.start()]}{line}{text[found.end():]}"
 
 

@@ -1,8 +1,13 @@
 """What the tests of deploy/ share: the modules of deploy/machine, and a machine of folders in place
 of this one. They need no root, no nginx and no systemd."""
+import argparse
+import datetime
+import importlib
+import io
 import json
 import os
 import pathlib
+import pkgutil
 import sys
 import typing
 
@@ -12,16 +17,28 @@ sys.dont_write_bytecode = True
 ROOT = pathlib.Path(__file__).resolve().parents[2]
 sys.path[:0] = [str(ROOT), str(ROOT / "deploy"), str(ROOT / "tools")]
 
-from machine import (  # noqa: E402
-    deletion, files, registers, sealed, second_copy, settings_copy, setup, sites, standby, status,
-)
+import machine as package  # noqa: E402
+from machine import admin, files, people, registers, second_copy  # noqa: E402
 
-# the modules that name a folder of the machine by a constant of registers
-WITH_FOLDERS = (
-    deletion, registers, sealed, second_copy, settings_copy, setup, sites, standby, status,
-)
+# the modules, of which some name a folder of the machine by a constant of registers
+MODULES = [importlib.import_module(it.name)
+           for it in pkgutil.walk_packages(package.__path__, "machine.")]
 FOLDERS = {"REGISTERS": "lib", "COPIES": "backups", "SETTINGS": "etc",
            "OFFICES": "office"}
+
+
+class Terminal(io.StringIO):
+    """What is typed on a terminal."""
+
+    def isatty(self) -> bool:
+        return True
+
+
+def typed(verb: str, *words: str) -> int:
+    """What a verb of admissions-admin ends with, where these words are behind it."""
+    reader, module = argparse.ArgumentParser(), admin.module_of(verb)
+    module.arguments(reader)
+    return module.main(reader.parse_args(words))
 
 
 @pytest.fixture(autouse=True)
@@ -40,7 +57,7 @@ def machine_fixture(tmp_path: pathlib.Path, monkeypatch: pytest.MonkeyPatch) -> 
     monkeypatch.setattr(second_copy, "MACHINE", tmp_path / "machine-id")
     for constant, name in FOLDERS.items():
         (tmp_path / name).mkdir()
-        for module in WITH_FOLDERS:
+        for module in MODULES:
             if hasattr(module, constant):
                 monkeypatch.setattr(module, constant, tmp_path / name)
     return tmp_path
@@ -96,3 +113,24 @@ def write_as_me_fixture(monkeypatch: pytest.MonkeyPatch) -> None:
         os.getgid(),
     )
     monkeypatch.setattr("machine.files.numbers", me)
+
+
+@pytest.fixture(name="users")
+def users_fixture(register: registers.Register, write_as_me: None) -> registers.Register:
+    """A register whose application has two people: jane, head of the office, and ben."""
+    people.add(register, "jane", "head")
+    people.add(register, "ben", "officer")
+    return register
+
+
+def told(register: registers.Register) -> list[tuple[str, dict[str, str]]]:
+    """What is left for the history of the application."""
+    with people.opened(register) as (_, kept):
+        rows = kept.rows("SELECT what, about FROM told ORDER BY number")
+    found = [(it["what"], json.loads(it["about"])) for it in rows]
+    # (each has the time at which it was done: the history takes it later)
+    now = datetime.datetime.now(datetime.timezone.utc)
+    for _, about in found:
+        done_at = datetime.datetime.fromisoformat(about.pop("done_at"))
+        assert now - datetime.timedelta(hours=1) < done_at <= now
+    return found

@@ -1,7 +1,7 @@
-"""What admissions-setup is given by arguments, in tests."""
+"""What admissions-admin setup is given by arguments, in tests."""
 import argparse
 
-from machine import setup
+from machine.verbs import setup
 
 
 def given_to_setup(*words: str) -> argparse.Namespace:

@@ -40,7 +40,7 @@ def ended(name: str, error: BaseException, monkeypatch: pytest.MonkeyPatch) -> i
 def test_the_commands_are_those_that_are_installed() -> None:
     text = (ROOT / "deploy/install").read_text(encoding="utf-8")
     lists = re.findall(r"for command in (.*); do place 755 \.\./office/command", text)
-    assert sorted(" ".join(lists).split()) == sorted(NAMES)
+    assert sorted(" ".join(lists).split()) == sorted([*NAMES, "admin"])
 
 
 @pytest.mark.parametrize("name", NAMES)
@@ -133,9 +133,9 @@ def test_other_errors(
     capfdbinary: pytest.CaptureFixture[bytes],
 ) -> None:
     """A name that is no text is printed as its bytes."""
-    assert ended("status", error, monkeypatch) == 1
+    assert ended("drill", error, monkeypatch) == 1
     said = text.encode() if text else b"\xff: No such file or directory"
-    assert capfdbinary.readouterr().err == b"status: " + said + b"\n"
+    assert capfdbinary.readouterr().err == b"drill: " + said + b"\n"
 
 
 def test_a_signal_is_one_line(tmp_path: pathlib.Path) -> None:
@@ -170,7 +170,7 @@ def test_an_output_that_is_full_is_named(tmp_path: pathlib.Path) -> None:
 def test_nobody_reads_the_output(monkeypatch: pytest.MonkeyPatch) -> None:
     out = os.dup(1)
     try:
-        assert ended("status", BrokenPipeError(), monkeypatch) == 1
+        assert ended("drill", BrokenPipeError(), monkeypatch) == 1
     finally:
         os.dup2(out, 1)
         os.close(out)

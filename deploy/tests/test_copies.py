@@ -14,6 +14,7 @@ import time
 import typing
 
 import pytest
+from conftest import typed
 from machine import (
     certificates,
     copies,
@@ -25,10 +26,9 @@ from machine import (
     registers,
     second_copy,
     settings_copy,
-    setup,
     sites,
-    status,
 )
+from machine.verbs import setup, status
 from office.web import people
 from office.web.store import Store
 from office_files import (
@@ -212,7 +212,7 @@ def test_a_second_copy_at_another_place_is_none_here(
 def test_a_folder_of_copies_that_is_gone_is_named(register: registers.Register) -> None:
     register.copies.rmdir()
     assert status.copy_of(register) == (
-        False, f"{register.copies} is not there, so no copy can be made: admissions-setup"
+        False, f"{register.copies} is not there, so no copy can be made: admissions-admin setup"
         f" {register.name} makes it")
 
 
@@ -234,8 +234,7 @@ def copy_settings(register: registers.Register) -> int:
 
 
 def acknowledge(register: registers.Register, *words: str) -> int:
-    given = given_to_setup(register.name, *words or ("--acknowledge", "--yes"))
-    return setup.acknowledge_history(register, given)
+    return typed("history", register.name, *words or ("--acknowledge", "--yes"))
 
 
 @pytest.fixture(name="office")

@@ -1,7 +1,6 @@
 """The lines of docs/DEPLOYMENT.md: that bash reads them, that each command has the options that are
 named, and those that need neither root nor systemd, run in a folder in place of the machine."""
 import datetime
-import gzip
 import os
 import pathlib
 import re
@@ -11,6 +10,7 @@ import subprocess
 
 import pytest
 from conftest import ROOT
+from machine import admin
 from office.web.history import ANSWER, SENDS, History
 
 PAGE = (ROOT / "docs/DEPLOYMENT.md").read_text(encoding="utf-8")
@@ -28,9 +28,6 @@ STANDS_IN = {
     "setpriv": 'while [[ $1 == --* ]]; do shift; done; exec "$@"',
     "journalctl": 'echo "journal: $*"',
     "apt": 'echo "apt $*" >> "$CALLS"',
-    "admissions-status": "true",
-    "admissions-retire": 'echo "admissions-retire $*" >> "$CALLS"',
-    "uname": "echo spare",
     "mountpoint": 'test -d "$1"',
     "getent": "true",
     "userdel": 'echo "userdel $*" >> "$CALLS"',
@@ -49,12 +46,7 @@ given=()
 while (($#)); do case $1 in -o | -g) shift 2 ;; *) given+=("$1"); shift ;; esac; done
 exec /usr/bin/install "${given[@]}"
 """,
-    "admissions-setup": """
-if [ "$2" = --users ]; then printf 'jane head\nrobot officer (a program)\n'; exit; fi
-if [ "$4" != --new-password ]; then echo "admissions-setup $*" >> "$CALLS"; exit; fi
-if read -r; then exit 1; fi
-echo "$3 signs in at https://x/ with the password of-$3"
-""",
+    "admissions-admin": '[ "$1" = status ] || echo "admissions-admin $*" >> "$CALLS"',
     "admissions": """
 case $1 in
     do)
@@ -118,7 +110,7 @@ def helps_fixture(tmp_path_factory: pytest.TempPathFactory) -> dict[str, str]:
     room, found = tmp_path_factory.mktemp("commands"), {}
     text = COMMAND.read_text(encoding="utf-8")
     names = re.findall(r'"([a-z-]+)"', text.partition("OFFICE = (")[2].partition("\n\n")[0])
-    assert "setup" in names and "audit" in names
+    assert "admin" in names and "audit" in names
     for name in (*names, "backup", "restore"):
         path = room / f"admissions-{name}"
         path.symlink_to(ROOT / "tools" / name if name in ("backup", "restore") else COMMAND)
@@ -126,6 +118,10 @@ def helps_fixture(tmp_path_factory: pytest.TempPathFactory) -> dict[str, str]:
         done = subprocess.run([path, "--help"], capture_output=True, text=True, check=False)
         found[path.name] = done.stdout + done.stderr
         assert "usage" in found[path.name], path.name
+    for verb in admin.VERBS:
+        done = subprocess.run([room / "admissions-admin", verb, "--help"], capture_output=True,
+                              text=True, check=True)
+        found[f"admissions-admin {verb}"] = done.stdout
     return found
 
 
@@ -138,13 +134,16 @@ def test_each_command_has_the_options_that_the_page_names(helps: dict[str, str])
         for at, word in enumerate(words):
             if word == "as_desk" and words[at + 1:] != ["{"] and words[at + 1:]:
                 assert f"admissions {words[at + 1]} " in formats, part
-            if re.fullmatch(r"admissions-[a-z-]+", word) and word in helps:
+            if word == "admissions-admin" and words[at + 1:] and words[at + 1] != "..":
+                word = f"{word} {words[at + 1]}"
+                assert word in helps or words[at + 1] == "--help", part
+            if re.fullmatch(r"admissions-[a-z-]+( [a-z-]+)?", word) and word in helps:
                 options = [it.partition("=")[0] for it in words[at:] if it.startswith("--")]
                 assert not [it for it in options if it not in helps[word]], part
                 seen |= {(word, it) for it in options}
-    assert {("admissions-setup", "--standby"), ("admissions-setup", "--copy"),
-            ("admissions-setup", "--new-password"), ("admissions-sent", "--history"),
-            ("admissions-sent", "--rows"), ("admissions-retire", "--early"),
+    assert {("admissions-admin setup", "--copy"), ("admissions-admin takeover", "--copy"),
+            ("admissions-admin people", "--new-password"), ("admissions-sent", "--history"),
+            ("admissions-sent", "--rows"), ("admissions-admin retire", "--early"),
             ("admissions-audit", "--later"), ("admissions-drill", "--identity")} <= seen
 
 
@@ -152,7 +151,7 @@ def test_each_command_of_the_page_is_one(helps: dict[str, str]) -> None:
     """What begins a line, or what is between backticks, by its name."""
     pattern = re.compile(r"(?:^|[|(] *)(admissions-[a-z-]+)(?= |$)")
     named = {word for line in spans() for word in pattern.findall(line)}
-    assert "admissions-retire" in named
+    assert "admissions-admin" in named
     assert named - helps.keys() <= {"admissions-office"}
 
 
@@ -320,7 +319,7 @@ def test_a_register_is_restored_and_what_it_lacks_sent_again(at: Machine) -> Non
     at.write(f"{BACKUPS}/{COPY.replace('.db', '.tar')}", "people of then")
     assert at.run(people)[0] == 0
     assert at.called() == [
-        OFFICE_ENDS, f"admissions-setup {NAME} --copy /{BACKUPS}/{COPY}", *CLOSES]
+        OFFICE_ENDS, f"admissions-admin setup {NAME} --copy /{BACKUPS}/{COPY}", *CLOSES]
     assert at.content(f"{office}/aside") == {
         "office.db": b"people of now", "office.db-wal": b"log of now"}
     assert not (at.room / office / "office.db").exists()
@@ -335,7 +334,7 @@ def test_a_register_is_restored_and_what_it_lacks_sent_again(at: Machine) -> Non
         "office.db": b"people of now", "office.db-wal": b"log of now"}
     assert at.run(back)[0] != 0 and (at.room / office / "office.db").exists()
     # (a set-up that fails leaves the office closed, too)
-    at.write("bin/admissions-setup", "#!/bin/bash\nexit 1\n")
+    at.write("bin/admissions-admin", "#!/bin/bash\nexit 1\n")
     assert (at.run(people)[0], at.called()) == (1, [OFFICE_ENDS, *CLOSES])
 
 
@@ -441,7 +440,7 @@ def test_what_is_to_be_sent_is_printed_once_and_for_each_register_apart(at: Mach
     said = (1, f"{at.room}/{AGAIN} is there already, and stays as it is\n")
     assert at.run(printed) == said and at.content("run/again") == before
     # (as after a break-in, where the commands are brought from elsewhere)
-    bring = blocks_of("Somebody has broken in")[11]
+    bring = blocks_of("Somebody has broken in")[10]
     at.write(f"root/check/{NAME}/commands", "of the intruder\n")
     (at.room / f"root/check/{NAME}/rows").mkdir()
     assert at.run(bring) == said and at.content("run/again") == before
@@ -474,10 +473,12 @@ def test_an_earlier_release_opens_its_office_after_all_is_sent(at: Machine) -> N
     assert at.run(lines, COPY="before-0.2.0.db")[0] != 0 and at.called() == []
     named = {"COPY": "before-0.3.0.db"}
     assert at.run(lines, **named)[0] == 0
-    setup, *closes = at.called()
-    assert setup.startswith(f"admissions-setup {NAME} --copy /mnt/kept/{NAME}/{BACKUPS}/before-0")
+    setup, certificate, *closes = at.called()
+    copy = f"/mnt/kept/{NAME}/{BACKUPS}/before-0.3.0.db"
+    assert setup == f"admissions-admin setup {NAME} --copy {copy}"
+    assert certificate.startswith(f"admissions-admin certificate {NAME} /mnt/kept/{NAME}/etc/")
     assert closes == [OFFICE_ENDS]
-    at.write("bin/admissions-setup", "#!/bin/bash\nexit 1\n")
+    at.write("bin/admissions-admin", "#!/bin/bash\nexit 1\n")
     assert (at.run(lines, **named)[0], at.called()) == (1, [OFFICE_ENDS])
 
 
@@ -524,7 +525,7 @@ def test_a_move_takes_along_what_is_not_at_the_second_place(at: Machine) -> None
     assert found == {it: it for it in beside} | {f"{office}/gazetteer/places.db": "read in since"}
 
 
-GUARDED = [("Rehearse a takeover", 0), ("Somebody has broken in", 10)]
+GUARDED = [("Rehearse a takeover", 0), ("Somebody has broken in", 9)]
 
 
 @pytest.mark.parametrize("heading, number", GUARDED)
@@ -555,109 +556,16 @@ def test_a_rehearsal_is_cleared_where_it_was_and_nowhere_else(at: Machine) -> No
     assert at.run(clear)[0] == 1 and at.called() == [] and identity.exists()
     path.write_text("none\n", encoding="utf-8")
     # (a question that was not answered, and another register that was rehearsed too)
-    at.write("bin/admissions-retire", "#!/bin/bash\nexit 1\n")
+    at.write("bin/admissions-admin", "#!/bin/bash\nexit 1\n")
     assert at.run(clear)[0] == 1 and path.read_text(encoding="utf-8") == "none\n"
     assert identity.exists()
-    at.write("bin/admissions-retire", f"#!/bin/bash\n{STANDS_IN['admissions-retire']}\n")
+    at.write("bin/admissions-admin", f"#!/bin/bash\n{STANDS_IN['admissions-admin']}\n")
     other = at.write("var/lib/admissions/primary-2026/reg.db", "a register")
     assert at.run(clear)[0] == 0 and path.read_text(encoding="utf-8") == "none\n"
     assert not identity.exists()
     other.unlink()
     assert at.run(clear)[0] == 0 and path.read_text(encoding="utf-8") == ""
-    assert at.called() == 2 * [f"admissions-retire {NAME} --early rehearsal of a takeover"]
-
-
-def test_a_wrong_takeover_is_deleted_on_the_machine_that_is_named(at: Machine) -> None:
-    lines = blocks_of("Restore on another machine")[-1]
-    status, text = at.run(lines)
-    assert (status, "nothing was deleted" in text, at.called()) == (1, True, [])
-    assert at.run(lines, MACHINE="spare") == (0, "")
-    assert at.called() == [f"admissions-retire {NAME} --early taken over from a wrong copy"]
-
-
-def test_a_site_gets_another_name_and_keeps_its_key(at: Machine) -> None:
-    """Also where it was begun and interrupted, and pasted again."""
-    settings = f"etc/admissions/{NAME}"
-    ask, page = blocks_of("Another name of the site")
-    for it in ("key", "crt", "csr"):
-        at.write(f"{settings}/site.{it}", it)
-    # (no name is taken that was not given)
-    assert at.run(page) == (1, "HOST is no name of a site: nothing was changed\n")
-    assert at.run(ask)[0] == 1 and at.called() == []
-    host = {"HOST": "admissions.authority.example"}
-    at.write(f"{settings}/site-name", "old.example\n")
-    (at.room / settings / "site.crt").rename(at.room / settings / "old.example.crt")
-    assert at.run(page, **host) == (0, "")
-    wanted = {"site.key": b"key", "old.example.crt": b"crt", "old.example.csr": b"csr",
-              "site-name": b"admissions.authority.example\n"}
-    assert at.content(settings) == wanted
-    assert at.called() == [f"admissions-setup {NAME}"]
-    at.write(f"{settings}/site.crt", "of a CA")
-    assert at.run(page, **host) == (0, "")
-    assert at.content(settings) == wanted | {"site.crt": b"of a CA"}
-
-
-def test_a_request_of_the_new_name_is_of_the_key_that_is_there(at: Machine) -> None:
-    """So that a CA can sign it before the name is changed."""
-    key = at.room / f"etc/admissions/{NAME}/site.key"
-    key.parent.mkdir(parents=True)
-    subprocess.run(["openssl", "genpkey", "-algorithm", "EC", "-pkeyopt",
-                    "ec_paramgen_curve:P-256", "-out", key], check=True, capture_output=True)
-    lines = blocks_of("Another name of the site")[0]
-    status, request = at.run(lines, HOST="new.example")
-    shown = subprocess.run(["openssl", "req", "-noout", "-text", "-pubkey"], input=request,
-                           capture_output=True, text=True, check=True).stdout
-    public = subprocess.run(["openssl", "pkey", "-in", key, "-pubout"], capture_output=True,
-                            text=True, check=True).stdout
-    assert (status, "DNS:new.example" in shown, public in shown) == (0, True, True)
-    assert [it.name for it in key.parent.iterdir()] == ["site.key"]
-
-
-# in place of the one that takes a certificate: it keeps what was there, and removes the request of
-# the earlier key; and makes a request that is missing
-TAKES = f"""#!/bin/bash
-set -e
-echo "admissions-setup $*" >> "$CALLS"
-cd_to=$ROOM/etc/admissions/{NAME}
-if [ "$2" = --certificate ]; then
-    for it in crt key; do cp "$cd_to/site.$it" "$cd_to/site.$it.before"; done
-    cp "$3" "$cd_to/site.crt"; cp "$5" "$cd_to/site.key"; rm "$cd_to/site.csr"
-else
-    echo made > "$cd_to/site.csr"
-fi
-"""
-
-
-def test_a_key_of_the_site_that_others_have_is_replaced(at: Machine) -> None:
-    """The request is of the site's name, and the old key is nowhere afterwards."""
-    settings, room = f"etc/admissions/{NAME}", f"root/site-{NAME}"
-    for it in ("key", "crt", "csr"):
-        at.write(f"{settings}/site.{it}", "old")
-    at.write(f"{settings}/site-name", "admissions.example\n")
-    make, use = blocks_of("Others have the site's key")
-    status, text = at.run(make)
-    assert (status, text.count("BEGIN CERTIFICATE REQUEST")) == (0, 1)
-    assert {(at.room / room / f"new.{it}").stat().st_mode & 0o077 for it in ("key", "csr")} == {0}
-    key = (at.room / room / "new.key").read_bytes()
-    done = subprocess.run(
-        ["openssl", "req", "-in", at.room / room / "new.csr", "-noout", "-verify", "-text"],
-        capture_output=True, text=True, check=True)
-    assert "DNS:admissions.example" in done.stdout and "P-256" in done.stdout
-    # (the one that was sent to the CA stays)
-    assert at.run(make)[0] == 1 and (at.room / room / "new.key").read_bytes() == key
-    at.write("bin/admissions-setup", TAKES)
-    assert at.run(use)[0] != 0 and (at.room / room / "new.key").exists()
-    for it in ("key", "crt", "csr"):
-        at.write(f"{settings}/site.{it}", "old")
-    at.write(f"{room}/new.crt", "of the CA")
-    at.called()
-    assert at.run(use)[0] == 0
-    assert at.called() == [f"admissions-setup {NAME} --certificate new.crt --key new.key",
-                           f"admissions-setup {NAME}"]
-    assert at.content(settings) == {
-        "site.key": key, "site.crt": b"of the CA", "site.csr": b"made\n",
-        "site-name": b"admissions.example\n"}
-    assert not (at.room / room).exists()
+    assert at.called() == 2 * [f"admissions-admin retire {NAME} --early rehearsal of a takeover"]
 
 
 @pytest.mark.parametrize("name", [
@@ -728,10 +636,10 @@ def test_a_register_is_moved_away_and_brought_back(at: Machine) -> None:
     at.write(f"{names[2]}.moved/of", "what an interrupted run has left")
     assert at.run(away)[0] == 0
     assert not [it for it in names if list(at.room.glob(f"{it}*"))] and not site.exists()
-    assert at.called()[-1] == "admissions-setup --sites"
+    assert at.called()[-1] == "admissions-admin sites"
     assert at.run(back)[0] == 0
     assert [at.content(it) for it in names] == before
-    assert at.called() == [f"admissions-setup {NAME}"]
+    assert at.called() == [f"admissions-admin setup {NAME}"]
     # (interrupted, and pasted again)
     for it in names[2:]:
         shutil.rmtree(at.room / it)
@@ -745,48 +653,6 @@ def test_a_register_is_moved_away_and_brought_back(at: Machine) -> None:
     at.write(f"{names[0]}/of", "another register")
     assert at.run(back)[0] == 1 and at.called() == []
     assert at.content(names[0]) == {"of": b"another register"}
-
-
-def test_a_history_that_was_changed_is_replaced_by_a_whole_copy(at: Machine) -> None:
-    path = at.history(f"var/lib/admissions-office/{NAME}/history.jsonl", 1, 2)
-    whole = path.read_bytes()
-    names = [f"history-00000{it}-0123456789abcdef.gz" for it in (1, 2)]
-    changed = whole.replace(b'"child":2', b'"child":3')
-    for name, data in zip(names, (whole, changed)):
-        (at.room / BACKUPS / "history" / name).write_bytes(gzip.compress(data))
-    path.write_bytes(changed)
-    look, put = blocks_of("A line of the history was changed")
-    found = [it.rpartition("/")[2] for it in at.run(look)[1].splitlines()]
-    assert found[:2] == names and "the history was changed there" in found[2]
-    at.called()
-    # (a name that is mistyped changes nothing, and the right one goes on)
-    assert at.run(put, COPY="history-1.gz")[0] != 0 and at.called() == []
-    assert at.run(put, COPY=names[0]) == (0, f"{at.room}/{BACKUPS}/history/{names[0]}\n")
-    assert at.called() == [OFFICE_ENDS, OFFICE_ENDS.replace("stop", "reset-failed"),
-                           OFFICE_ENDS.replace("stop", "start")]
-    assert path.read_bytes() == whole and path.stat().st_mode & 0o777 == 0o600
-    kept = path.parent / "changed/history.jsonl"
-    assert kept.read_bytes() == changed
-    assert not (at.room / "run/history.jsonl").exists()
-    status, text = at.run(put, COPY=names[0])
-    assert (status, "mkdir" in text, at.called()) == (1, True, [])
-    assert kept.read_bytes() == changed
-
-
-def test_each_person_gets_a_new_password(at: Machine) -> None:
-    """Also behind one whose line reads what is typed."""
-    lines = blocks_of("Somebody has broken in")[1]
-    assert at.run(lines)[0] == 0
-    path = at.room / f"run/passwords-{NAME}"
-    before = path.read_bytes()
-    assert path.read_text(encoding="utf-8").splitlines() == [
-        f"{it} signs in at https://x/ with the password of-{it}" for it in ("jane", "robot")]
-    assert path.stat().st_mode & 0o777 == 0o600
-    assert [it.name for it in (at.room / "run").iterdir()] == [path.name]
-    # (those that are not handed over yet stay, also where another register gets its own)
-    status, text = at.run(lines)
-    assert (status, "no password was drawn" in text, path.read_bytes()) == (1, True, before)
-    assert at.run(lines, NAME="primary-2026")[0] == 0 and path.read_bytes() == before
 
 
 LATER = "nightly-000013-2025-03-04T023000.db"
@@ -804,10 +670,10 @@ def broken_into_fixture(at: Machine) -> Machine:
     at.history(f"var/lib/admissions-office/{NAME}/history.jsonl", 1, 2)
     commands = "".join(f'{{"child":{it},"cmd":"accept"}}\n' for it in (1, 2))
     at.write(f"var/lib/admissions/{NAME}/reg.db", f'{{"child":0}}\n{commands}')
-    for name in ("usr/bin/admissions", "usr/sbin/admissions-setup", "usr/lib/admissions/drill"):
+    for name in ("usr/bin/admissions", "usr/sbin/admissions-admin", "usr/lib/admissions/drill"):
         at.write(name, "of the release")
     at.write(PROGRAM, "of another")
-    close, keep = blocks_of("Somebody has broken in")[2:4]
+    close, keep = blocks_of("Somebody has broken in")[1:3]
     assert at.run(close)[0] == 0
     status, text = at.run(keep)
     assert (status, text.split()[1:]) == (0, ["SHA256SUMS"])
@@ -822,7 +688,7 @@ def test_a_site_is_taken_down_and_its_evidence_kept(broken_into: Machine) -> Non
         "list-units --state=active,activating,deactivating admissions*@*"]
     kept = broken_into.room / "mnt/evidence"
     sums = (kept / "SHA256SUMS").read_bytes()
-    status, text = broken_into.run(blocks_of("Somebody has broken in")[3])
+    status, text = broken_into.run(blocks_of("Somebody has broken in")[2])
     assert (status, "has evidence already" in text) == (1, True)
     assert (kept / "SHA256SUMS").read_bytes() == sums
     assert sorted(it.name for it in kept.iterdir()) == [
@@ -831,19 +697,19 @@ def test_a_site_is_taken_down_and_its_evidence_kept(broken_into: Machine) -> Non
     people = (kept / "people.txt").read_text(encoding="utf-8")
     assert people.count("SYSLOG_IDENTIFIER=admissions-") == 2
     (kept / "people.txt").write_text(f"{NAME}: a sign-in failed from 192.0.2.7 (password)\n")
-    assert "192.0.2.7" in broken_into.run(blocks_of("Somebody has broken in")[9])[1]
+    assert "192.0.2.7" in broken_into.run(blocks_of("Somebody has broken in")[8])[1]
 
 
 def test_programs_and_copies_that_were_changed_are_printed(broken_into: Machine) -> None:
     """Those alone; and evidence that was changed is not unpacked."""
-    unpack, _, compare = blocks_of("Somebody has broken in")[5:8]
+    unpack, _, compare = blocks_of("Somebody has broken in")[4:7]
     status, text = broken_into.run(unpack)
     assert (status, text.count("differ"), PROGRAM in text) == (0, 1, True)
     # (a program that the old machine alone has; and typed twice)
-    path = broken_into.room / "usr/sbin/admissions-setup"
+    path = broken_into.room / "usr/sbin/admissions-admin"
     path.rename(path.with_name("of-the-release"))
     status, text = broken_into.run(unpack)
-    assert (status, "cmp: usr/sbin/admissions-setup: No such file" in text) == (0, True)
+    assert (status, "cmp: usr/sbin/admissions-admin: No such file" in text) == (0, True)
     path.with_name("of-the-release").rename(path)
     _, text = broken_into.run(compare)
     assert (text.count("differ"), LATER in text) == (1, True)
@@ -866,7 +732,7 @@ def test_encrypted_copies_are_decrypted_aside(at: Machine) -> None:
     for name, data in wanted.items():
         path = at.write(f"mnt/copies/{NAME}/{name}.age", "")
         subprocess.run(["age", "-r", public.stdout.strip(), "-o", path], input=data, check=True)
-    lines = blocks_of("Somebody has broken in")[6]
+    lines = blocks_of("Somebody has broken in")[5]
     assert at.run(lines) == (0, "")
     assert at.content(f"root/copies/{NAME}") == wanted
     # (one of another key, one from before encryption, and typed twice)
@@ -880,12 +746,12 @@ def test_encrypted_copies_are_decrypted_aside(at: Machine) -> None:
 def test_a_register_is_its_copy_with_the_commands_of_the_history(broken_into: Machine) -> None:
     """Or it was changed past the history, which is printed."""
     blocks = blocks_of("Somebody has broken in")
-    assert broken_into.run(blocks[5])[0] == 0
+    assert broken_into.run(blocks[4])[0] == 0
     copy = f"{broken_into.room}/mnt/copies/{NAME}/{COPY}"
-    assert broken_into.run(blocks[8], COPY=copy) == (
+    assert broken_into.run(blocks[7], COPY=copy) == (
         0, "the register is that copy with the commands of the history\n")
     register = broken_into.room / f"root/seized/var/lib/admissions/{NAME}/reg.db"
     with register.open("a", encoding="utf-8") as file:
         file.write('{"child":7}\n')
-    status, text = broken_into.run(blocks[8], COPY=copy)
+    status, text = broken_into.run(blocks[7], COPY=copy)
     assert (status, '>         "child": 7' in text) == (1, True)

@@ -1,5 +1,5 @@
-"""What admissions-status prints for people and for monitors: the same findings as text, as one
-line, as JSON and as numbers; its exit statuses; and the line of a register that was deleted."""
+"""What admissions-admin status prints for people and for monitors: the same findings as text, as
+one line, as JSON and as numbers; its exit statuses; and the line of a register that was deleted."""
 import argparse
 import json
 import os
@@ -9,8 +9,9 @@ import socket
 import threading
 
 import pytest
-from machine import deletion, desk, findings, metrics, registers, status
+from machine import deletion, desk, findings, metrics, registers
 from machine.findings import Finding, Level
+from machine.verbs import status
 from office_files import add_people, record
 from register_files import Refused
 
@@ -33,7 +34,7 @@ def found_fixture(
 
 
 def run(*given: str) -> int:
-    """The exit status of admissions-status."""
+    """The exit status of it."""
     reader = argparse.ArgumentParser()
     status.arguments(reader)
     return status.main(reader.parse_args(given))
@@ -125,7 +126,7 @@ def test_a_register_that_was_deleted_has_a_line(
     level, text = status.report(register)["deleted"]
     assert (level, text.partition(f" bytes{rest}; ")[2]) == (
         Level.ATTENTION, f"{register.office}/aside, {register.office}/changed may have data of"
-        " children: admissions-retire secondary-2025")
+        " children: admissions-admin retire secondary-2025")
     deletion.record_place(register).write_text("no record", encoding="ascii")
     assert status.report(register)["deleted"].level is Level.ATTENTION
 

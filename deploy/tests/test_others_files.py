@@ -15,9 +15,10 @@ import typing
 import pytest
 from machine import (
     copies, desk, files, histories, history_copies, metrics, office_delete, office_restore,
-    office_store, registers, settings_copy, status,
+    office_store, registers, settings_copy,
 )
 from machine.findings import Level
+from machine.verbs import status
 from office_files import add_people, record
 from register_files import Refused
 

@@ -12,7 +12,7 @@ import types
 import pytest
 from by_path import loaded
 from conftest import ROOT
-from machine import setup
+from machine import serving
 from office import libraries
 
 GATE = """rt: adm_types proved
@@ -262,9 +262,9 @@ def dependencies(package: str) -> set[str]:
 
 
 def test_the_package_depends_on_what_a_site_needs() -> None:
-    """Whatever admissions-setup looks for, and rsync for second copies; none of what makes PDF."""
+    """Whatever set-up looks for, and rsync for second copies; none of what makes PDF."""
     found = dependencies("admissions")
-    needed = {*setup.NEEDED.values(), *(libraries.PACKAGES[it] for it in setup.MODULES), "rsync"}
+    needed = {*serving.NEEDED.values(), *(libraries.PACKAGES[it] for it in serving.MODULES), "rsync"}
     assert needed <= found and "python3-jinja2" in found
     assert not {libraries.PACKAGES[it] for it in libraries.LARGE} & found
 

@@ -5,8 +5,9 @@ import ssl
 import subprocess
 
 import pytest
-from machine import copies, office_store, registers, repairs, status
+from machine import copies, office_store, registers, repairs
 from machine.findings import Level
+from machine.verbs import status
 from office_files import add_people, record
 
 NAME = "secondary-2025"
@@ -23,7 +24,7 @@ class Typed:
     def __init__(self, folder: pathlib.Path, register: registers.Register) -> None:
         self.register, self.log, self.bin = register, folder / "typed", folder / "bin"
         self.bin.mkdir()
-        for name in ("systemctl", "setpriv", "admissions-setup", "admissions-sent"):
+        for name in ("systemctl", "setpriv", "admissions-admin", "admissions-sent"):
             (self.bin / name).write_text(COMMAND.format(log=self.log))
             (self.bin / name).chmod(0o755)
 
@@ -73,7 +74,7 @@ def test_a_register_without_any_copy_comes_from_the_second_place(
     register.file.unlink()
     found = status.report(register)["register"]
     assert (found.level, line_of(found.text)) == (
-        Level.FAILED, f"admissions-setup {NAME} --standby")
+        Level.FAILED, f"admissions-admin takeover {NAME}")
 
 
 def test_people_that_cannot_be_read_come_from_the_newest_copy_that_has_them(
@@ -89,7 +90,7 @@ def test_people_that_cannot_be_read_come_from_the_newest_copy_that_has_them(
     assert line == line_of(found["people"].text)
     assert typed.commands(line) == [
         f"systemctl stop admissions-office@{NAME}.socket admissions-office@{NAME}.service",
-        f"admissions-setup {NAME} --copy {typed.register.copies}/{OLDER}"]
+        f"admissions-admin setup {NAME} --copy {typed.register.copies}/{OLDER}"]
     assert (path.parent / "aside/office.db").read_bytes() == b"no database of anybody"
     assert not path.exists()
 
@@ -98,7 +99,7 @@ def test_people_that_cannot_be_read_come_from_the_newest_copy_that_has_them(
     (TimeoutError("timed out"), f"systemctl reset-failed admissions-office@{NAME}.socket"
      f" admissions-office@{NAME}.service; systemctl start admissions-office@{NAME}.socket"
      f" admissions-office@{NAME}.service"),
-    (ssl.SSLError(1, "TLSV1_UNRECOGNIZED_NAME"), "admissions-setup --sites"),
+    (ssl.SSLError(1, "TLSV1_UNRECOGNIZED_NAME"), "admissions-admin sites"),
 ])
 def test_a_site_that_does_not_answer(
     error: OSError, line: str, typed: Typed, monkeypatch: pytest.MonkeyPatch

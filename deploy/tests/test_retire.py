@@ -1,5 +1,5 @@
-"""admissions-retire: after it no file of a made-up machine has a child's name, in whatever form it
-was stored; what is refused, what goes on after a kill, and what remains at the second place."""
+"""admissions-admin retire: after it no file of a made-up machine has a child's name, in whatever
+form it was stored; what is refused, what goes on after a kill, and what remains at the second place."""
 import argparse
 import contextlib
 import datetime
@@ -18,10 +18,12 @@ import zipfile
 from collections.abc import Iterator
 
 import pytest
+from conftest import typed
 from machine import (
-    deletion, files, office_delete, programs, registers, retire, second_copy, setup, sites, status
+    deletion, network, office_delete, programs, registers, second_copy, serving, sites
 )
 from machine.findings import Level
+from machine.verbs import accounts, retire, status
 from register_files import Refused
 
 NAME = "Zoë Searched-For"
@@ -163,12 +165,11 @@ def register_fixture(
         (machine / "sites" / f"admissions-{register}").write_text(register)
     (machine / "etc/second-copy").write_text(f"{machine / 'mnt'}\n")
     monkeypatch.setattr(retire, "LOGS", machine / "log")
-    monkeypatch.setattr(files, "LOCK", machine / "lock")
     monkeypatch.setattr(office_delete, "SETTINGS", machine / "etc")
     monkeypatch.setattr(sites, "ENABLED", machine / "sites")
     monkeypatch.setattr(sites, "AVAILABLE", machine / "available")
     monkeypatch.setattr(sites, "MODEL", machine / "sites/admissions")
-    monkeypatch.setattr(setup, "UNITS", machine / "units")
+    monkeypatch.setattr(network, "UNITS", machine / "units")
     monkeypatch.setattr(deletion, "today", lambda: TODAY)
     monkeypatch.setattr(retire, "USER", pwd.getpwuid(os.geteuid()).pw_name)
     monkeypatch.setattr(
@@ -180,13 +181,14 @@ def register_fixture(
             calls.append(tuple(map(str, arguments[1:])))
             for unit in calls[-1] if calls[-1][0] == "disable" else ():
                 (wanted / unit).unlink(missing_ok=True)
-            return None
+            return types.SimpleNamespace(stdout="")
         return call(*arguments, **more)
 
-    for module in (retire, office_delete):
+    for module in (retire, office_delete, serving):
         monkeypatch.setattr(module, "call", called)
         monkeypatch.setattr(module, "tool", lambda name, _: name)
-    monkeypatch.setattr(retire, "is_booted", lambda: True)
+    for it in (retire, serving):
+        monkeypatch.setattr(it, "is_booted", lambda: True)
     return registers.Register("secondary-2025")
 
 
@@ -238,7 +240,7 @@ def test_the_units_are_stopped_before_the_first_file_is_gone(
     assert run() == 0
     assert seen and set(seen) == {len(calls)}
     words = [word for call in calls for word in call]
-    for unit in (f"admissions@{register.name}.service", *status.office_units(register)):
+    for unit in (f"admissions@{register.name}.service", *serving.office_units(register)):
         assert unit in words
     assert {call[:2] for call in calls if call[0] not in ("stop", "reset-failed")} == {
         ("disable", "--now")}
@@ -274,12 +276,13 @@ def test_a_later_register_of_the_name_has_no_right_to_the_network(
     given = machine / "accounts.json"
     given.write_text(json.dumps(ACCOUNTS), encoding="utf-8")
     with monkeypatch.context() as patch:
-        patch.setattr(setup, "is_booted", lambda: False)
+        patch.setattr(serving, "is_booted", lambda: False)
+        patch.setattr(accounts, "provider_fault", lambda _: "")
         for it in map(registers.Register, NAMES):
             for path in it.office.glob("office.db*"):
                 path.unlink()
-            assert setup.set_accounts(it, str(given)) == 0
-    own, other = (setup.outside_of(registers.Register(it)) for it in NAMES)
+            assert typed("accounts", it.name, str(given)) == 0
+    own, other = (network.outside_of(registers.Register(it)) for it in NAMES)
     assert own.exists() and other.exists()
     assert any(b"of the two" in it.read_bytes() for it in register.office.glob("office.db*"))
     changed = own.with_name("override.conf")
@@ -291,7 +294,7 @@ def test_a_later_register_of_the_name_has_no_right_to_the_network(
                 and b"of the two" in it.read_bytes()]
     # (as an earlier release has left it)
     changed.unlink()
-    own.write_text(setup.OUTSIDE, encoding="ascii")
+    own.write_text(accounts.OUTSIDE, encoding="ascii")
     before = deletion.record_of(register)
     assert run("--second-place") == 0 and not own.parent.exists()
     after = deletion.record_of(register)
@@ -309,7 +312,7 @@ def test_what_the_deletion_of_the_office_may_not_delete_is_named_until_it_is_del
     level, text = status.report(register)["deleted"]
     assert (level, f"{register.office}/aside, {register.office}/changed may have" in text) == (
         Level.ATTENTION, True)
-    assert text.endswith(f": admissions-retire {register.name}")
+    assert text.endswith(f": admissions-admin retire {register.name}")
     assert run("--second-place") == 0
     assert not [it for it in with_name(machine) if register.name in it]
     assert status.report(register)["deleted"].level is Level.OK
@@ -446,8 +449,8 @@ def test_without_a_terminal_it_must_be_confirmed(
     monkeypatch.setattr("sys.stdin", io.StringIO(f"{register.name}\n"))
     with pytest.raises(Refused, match="without a terminal --yes confirms"):
         retire.main(given)
-    for typed, is_done in (("yes", False), ("primary-2026", False), (register.name, True)):
-        terminal = io.StringIO(f"{typed}\n")
+    for word, is_done in (("yes", False), ("primary-2026", False), (register.name, True)):
+        terminal = io.StringIO(f"{word}\n")
         monkeypatch.setattr(terminal, "isatty", lambda: True, raising=False)
         monkeypatch.setattr("sys.stdin", terminal)
         if is_done:

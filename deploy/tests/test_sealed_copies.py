@@ -9,7 +9,8 @@ import time
 import typing
 
 import pytest
-from machine import copies, drill, programs, registers, sealed, second_copy, status
+from machine import copies, drill, programs, registers, sealed, second_copy
+from machine.verbs import status
 from register_files import Refused
 
 PLACE = "mnt"

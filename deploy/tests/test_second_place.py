@@ -10,7 +10,8 @@ import typing
 
 import pytest
 from conftest import ROOT
-from machine import registers, second_copy, standby, status
+from machine import registers, second_copy
+from machine.verbs import status, takeover
 from machine.findings import Level
 from register_files import Refused
 
@@ -61,7 +62,7 @@ def machines_fixture(
 ) -> Machines:
     """The first of them."""
     monkeypatch.setattr(second_copy, "open_error", lambda _: "")
-    monkeypatch.setattr(standby, "USER", "root" if os.getuid() == 0 else None)
+    monkeypatch.setattr(takeover, "USER", "root" if os.getuid() == 0 else None)
     place = machine / "mnt"
     place.mkdir()
     (machine / "etc/second-copy").write_text(f"{place}\n", encoding="utf-8")
@@ -96,7 +97,7 @@ def test_a_takeover_stops_the_first_machine_at_its_next_copy(
     machines.copy(1)
     owner = machines.owner()
     machines.be(SECOND)
-    standby.own_places(machines.register, str(machines.place))
+    takeover.own_places(machines.register, str(machines.place))
     machines.copy(2)
     assert machines.owner() != owner
     assert (machines.taken_over(), "WARNING: /" in capsys.readouterr().out) == (False, False)
@@ -116,7 +117,7 @@ def test_a_machine_that_was_taken_over_can_be_opened_again(machines: Machines) -
     machines.copy(1)
     owner = machines.owner()
     machines.be(SECOND)
-    standby.own_places(machines.register, str(machines.place))
+    takeover.own_places(machines.register, str(machines.place))
     machines.be(FIRST)
     with pytest.raises(Refused):
         machines.copy(2)
@@ -154,7 +155,7 @@ def test_a_rehearsal_leaves_the_place_as_it_is(
     owner = machines.owner()
     machines.be(SECOND)
     (machine / "etc/second-copy").write_text("none\n", encoding="utf-8")
-    standby.own_places(machines.register, str(machines.place))
+    takeover.own_places(machines.register, str(machines.place))
     assert machines.owner() == owner
 
 
@@ -165,7 +166,7 @@ def test_a_takeover_that_cannot_write_there_says_so(
     machines.be(SECOND)
     shutil.rmtree(machines.place)
     machines.place.write_text("no folder", encoding="ascii")
-    standby.own_places(machines.register, "")
+    takeover.own_places(machines.register, "")
     assert f"WARNING: {machines.place} is still the place of the mach" in capsys.readouterr().out
 
 

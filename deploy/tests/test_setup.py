@@ -1,13 +1,10 @@
-"""What admissions-setup takes, refuses and asks again; users and their roles; the holidays of a
-register that is there; and the lock."""
+"""What admissions-admin setup takes, refuses and asks again; the holidays of a register that is
+there; and the lock."""
 import argparse
 import contextlib
-import dataclasses
 import datetime
-import http.server
 import importlib.util
 import io
-import json
 import multiprocessing
 import os
 import pathlib
@@ -16,26 +13,16 @@ import sqlite3
 import subprocess
 import sys
 import tempfile
-import threading
 import typing
 
 import pytest
-from conftest import ROOT, document
-from machine import (
-    answers, certificates, files, holidays, people, registers, settings_copy, setup, status,
-)
-from office.web import authority
+from conftest import Terminal, document, typed
+from machine import answers, files, people, registers, serving, settings_copy
+from machine.verbs import holidays, setup
 from register_files import Refused
 from setup_arguments import given_to_setup
 
 T = typing.TypeVar("T")
-
-
-class Terminal(io.StringIO):
-    """What is typed on a terminal."""
-
-    def isatty(self) -> bool:
-        return True
 
 
 @pytest.mark.parametrize(
@@ -185,7 +172,7 @@ def test_a_name_that_no_register_has_is_named_before_anything_is_asked(
     said = (f"there is no register secondary-2052 yet; registers of this machine: {register.name}\n"
             "--phase (primary or secondary): ")
     with pytest.raises(Refused, match="the input ended"):
-        completed(monkeypatch, "", "secondary-2052", "--user", "jane", "--new-password")
+        completed(monkeypatch, "", "secondary-2052", "--user", "jane")
     assert capsys.readouterr().out == said
     with pytest.raises(Refused, match="the input ended"):
         completed(monkeypatch, "", "secondary-2052", "--phase", "secondary", "--year", "2052")
@@ -251,9 +238,6 @@ def test_a_user_without_a_role_is_refused_and_the_roles_are_named(
         (["--copy", "reg.db", "--phase", "primary"], "a copy has its own"),
         (["--copy", "reg.db", "--year", "2025"], "a copy has its own"),
         (["--role", "head"], "whose role"),
-        (["--new-password"], "whose password"),
-        (["--key", "site.key"], "belong together"),
-        (["--key", "/gone.key", "--certificate", "/gone.crt"], "^/gone.crt is not there"),
         (["--year", "25"], "'25' is no year"),
         (["--holiday", "3/4/2026"], "write YYYY-MM-DD"),
     ],
@@ -262,230 +246,6 @@ def test_options_that_do_not_belong_together(given: list[str], said: str) -> Non
     with pytest.raises(Refused, match=said) as found:
         given_to_setup("secondary-2025", *given)
     assert found.value.status == 2
-
-
-@pytest.fixture(name="users")
-def users_fixture(register: registers.Register, write_as_me: None) -> registers.Register:
-    """A register whose application has two people: jane, head of the office, and ben."""
-    people.add(register, "jane", "head")
-    people.add(register, "ben", "officer")
-    return register
-
-
-def told(register: registers.Register) -> list[tuple[str, dict[str, str]]]:
-    """What is left for the history of the application."""
-    with people.opened(register) as (_, kept):
-        rows = kept.rows("SELECT what, about FROM told ORDER BY number")
-    found = [(it["what"], json.loads(it["about"])) for it in rows]
-    # (each has the time at which it was done: the history takes it later)
-    now = datetime.datetime.now(datetime.timezone.utc)
-    for _, about in found:
-        done_at = datetime.datetime.fromisoformat(about.pop("done_at"))
-        assert now - datetime.timedelta(hours=1) < done_at <= now
-    return found
-
-
-def signs_in(register: registers.Register, name: str, password: str) -> bool:
-    """Whether somebody signs in at the application with a password."""
-    with people.opened(register) as (found, _):
-        try:
-            found.sign_in(name, password, "192.0.2.1")
-        except Refused:
-            return False
-        return True
-
-
-ANOTHER = "admissions-setup secondary-2025 --user jane --new-password"
-
-
-def test_a_person_is_added_and_signs_in_with_the_drawn_password(
-    register: registers.Register, write_as_me: None
-) -> None:
-    assert people.users_of(register) == {}
-    lines = list(setup.make_user(register, given_user("jane"), setup.Changes(None, None)))
-    password = lines[1].rpartition(" ")[2]
-    assert lines == [
-        f"jane gets the role head; if no password is below, draw one: {ANOTHER}",
-        f"jane signs in at https://admissions.example/ with the password {password}",
-    ]
-    assert len(password) == 24 and signs_in(register, "jane", password)
-    assert not signs_in(register, "jane", "another password")
-    assert people.users_of(register) == {"jane": people.User("jane", "person", "head", False)}
-    assert (register.office / "office.db").stat().st_mode & 0o777 == 0o600
-
-
-def test_what_an_administrator_changes_is_left_for_the_history(users: registers.Register) -> None:
-    """And the history has it with the name of whoever called the command as root."""
-    before = people.users_of(users)["ben"]
-    people.set_role(users, before, "reader")
-    people.remove(users, people.users_of(users)["ben"])
-    assert told(users) == [
-        ("added", {"person": "jane", "role": "head", "kind": "person"}),
-        ("added", {"person": "ben", "role": "officer", "kind": "person"}),
-        ("gave a role", {"person": "ben", "role": "reader", "before": "officer"}),
-        ("removed", {"person": "ben", "role": "reader"}),
-    ]
-
-
-def test_what_was_refused_is_not_left_for_the_history(users: registers.Register) -> None:
-    """A change and what is left of it for the history are stored together, or neither."""
-    before, was = told(users), people.users_of(users)
-    with pytest.raises(Refused, match="jane is there already"):
-        people.add(users, "jane", "reader")
-    gone = people.User("mary", "person", "reader", False)
-    with pytest.raises(Refused, match="there is no mary"):
-        people.set_role(users, gone, "head")
-    assert (told(users), people.users_of(users)) == (before, was)
-
-
-@pytest.mark.parametrize(
-    "user, who",
-    [
-        ("ann", "administrator of the machine (ann)"),
-        ("", "administrator of the machine"),
-        ("a\nb", "administrator of the machine"),
-    ],
-)
-def test_the_history_names_whoever_became_root(
-    user: str, who: str, monkeypatch: pytest.MonkeyPatch
-) -> None:
-    monkeypatch.setenv("SUDO_USER", user)
-    assert people.teller() == who
-
-
-def test_a_role_that_is_there_is_kept_or_changed_and_the_password_stays(
-    users: registers.Register,
-) -> None:
-    password = people.reset(users, "jane")
-    before = setup.Changes(people.users_of(users)["jane"], None)
-    kept = f"jane keeps the password; to draw another one: {ANOTHER}"
-    assert list(setup.make_user(users, given_user("jane"), before)) == [kept]
-    reader = given_to_setup("secondary-2025", "--user", "jane", "--role", "reader")
-    assert list(setup.make_user(users, reader, before)) == [
-        "jane has the role reader, and no longer head",
-        kept,
-    ]
-    assert signs_in(users, "jane", password)
-    with pytest.raises(Refused, match="the role of jane was changed meanwhile: it is reader"):
-        list(setup.make_user(users, given_user("jane"), before))
-
-
-def test_another_password_ends_the_first(users: registers.Register) -> None:
-    first = people.reset(users, "jane")
-    before = setup.Changes(people.users_of(users)["jane"], None)
-    lines = list(setup.make_user(users, given_user("jane", "--new-password"), before))
-    password = lines[0].rpartition(" ")[2]
-    assert (len(lines), signs_in(users, "jane", first), signs_in(users, "jane", password)) == (
-        1, False, True)
-
-
-def test_people_are_listed_and_removed_and_who_is_missing_is_named(
-    users: registers.Register,
-    monkeypatch: pytest.MonkeyPatch,
-    capsys: pytest.CaptureFixture[str],
-    machine: pathlib.Path,
-) -> None:
-    monkeypatch.setattr(files, "LOCK", machine / "lock")
-    assert (setup.list_users(users), *capsys.readouterr()) == (0, "ben officer\njane head\n", "")
-    with pytest.raises(Refused, match="'mary' is nobody of secondary-2025; its people: ben, jane"):
-        setup.remove_user(users, argparse.Namespace(remove="mary", yes=True))
-    assert setup.remove_user(users, argparse.Namespace(remove="jane", yes=True)) == 0
-    warning = "nobody has the role head, so nobody can hold a draw"
-    assert capsys.readouterr().out == f"removed jane\nWARNING: secondary-2025: {warning}\n"
-    with people.opened(users) as (found, _):
-        found.lock("ben", True)
-    assert (setup.list_users(users), *capsys.readouterr()) == (
-        0, "ben officer locked\n", f"WARNING: {warning}\n")
-
-
-ACCOUNTS = {"title": "Council account", "issuer": "https://id.example", "client": "admissions",
-            "secret": "of the two"}
-
-
-def test_accounts_of_the_authority_let_the_application_out_and_their_end_keeps_it_in(
-    users: registers.Register, monkeypatch: pytest.MonkeyPatch, machine: pathlib.Path
-) -> None:
-    monkeypatch.setattr(setup, "UNITS", machine)
-    monkeypatch.setattr(files, "LOCK", machine / "lock")
-    monkeypatch.setattr(setup, "is_booted", lambda: False)
-    monkeypatch.setattr(setup, "provider_fault", lambda _: "")
-    given = machine / "accounts.json"
-    given.write_text(json.dumps(ACCOUNTS), encoding="utf-8")
-    unit = machine / "admissions-office@secondary-2025.service.d/accounts.conf"
-    assert setup.set_accounts(users, str(given)) == 0
-    assert unit.read_text(encoding="utf-8").splitlines()[1:] == ["[Service]", "PrivateNetwork=no"]
-    with people.opened(users) as (_, kept):
-        found = authority.provider_of(kept)
-    assert found and dataclasses.asdict(found) == ACCOUNTS | {"claim": "email"}
-    assert setup.set_accounts(users, "none") == 0
-    assert not unit.exists()
-    with people.opened(users) as (_, kept):
-        assert authority.provider_of(kept) is None
-    assert [what for what, _ in told(users)][2:] == [
-        "changed the sign-in by the authority's accounts"] * 2
-
-
-@pytest.mark.parametrize(
-    "change, said",
-    [
-        ("{", "the accounts are no JSON: "),
-        ("[]", "the accounts are no JSON object with texts"),
-        (json.dumps({"title": 1}), "the accounts are no JSON object with texts"),
-        (json.dumps(ACCOUNTS | {"sekret": "x"}), "'sekret' is none of title, issuer, client, "),
-        (json.dumps({**ACCOUNTS, "client": ""}), "the accounts have no client"),
-        (json.dumps(ACCOUNTS | {"issuer": "http://id.example"}), "begins with https://"),
-    ],
-)
-def test_accounts_that_cannot_be_used_are_refused_and_nothing_changes(
-    change: str, said: str, users: registers.Register, monkeypatch: pytest.MonkeyPatch,
-    machine: pathlib.Path,
-) -> None:
-    monkeypatch.setattr(setup, "UNITS", machine)
-    monkeypatch.setattr(files, "LOCK", machine / "lock")
-    given = machine / "accounts.json"
-    given.write_text(change, encoding="utf-8")
-    before = told(users)
-    with pytest.raises(Refused, match=said):
-        setup.set_accounts(users, str(given))
-    with people.opened(users) as (_, kept):
-        assert authority.provider_of(kept) is None
-    assert (told(users), list(machine.glob("*.d"))) == (before, [])
-
-
-@pytest.mark.parametrize("body, said", [
-    ('{"issuer": "%s/"}', ""), ('{"issuer": "https://id.example"}', "is not of http://"),
-    ("[]", "is not of http://"), ("<html>", "cannot be read"), ("", "cannot be read")])
-def test_a_provider_is_tried_when_its_accounts_are_set(
-    body: str, said: str, users: registers.Register, monkeypatch: pytest.MonkeyPatch,
-    machine: pathlib.Path, capsys: pytest.CaptureFixture[str],
-) -> None:
-    """One that does not answer, or is another one, is named at once, and the accounts are set."""
-    monkeypatch.setattr(setup, "UNITS", machine)
-    monkeypatch.setattr(files, "LOCK", machine / "lock")
-    monkeypatch.setattr(setup, "is_booted", lambda: False)
-
-    class Answer(http.server.BaseHTTPRequestHandler):
-        """A provider, or what is none: without a body it does not answer as HTTP does."""
-
-        def do_GET(self) -> None:  # pylint: disable=invalid-name
-            """What it says of itself."""
-            if body and self.path == "/.well-known/openid-configuration":
-                self.send_response(200)
-                self.end_headers()
-                self.wfile.write(body.replace("%s", issuer).encode())
-
-        def log_message(self, *_: object) -> None:
-            """Prints nothing."""
-
-    with http.server.ThreadingHTTPServer(("127.0.0.1", 0), Answer) as server:
-        issuer = f"http://127.0.0.1:{server.server_address[1]}"
-        threading.Thread(target=server.serve_forever, daemon=True).start()
-        given = machine / "accounts.json"
-        given.write_text(json.dumps(ACCOUNTS | {"issuer": issuer}), encoding="utf-8")
-        assert setup.set_accounts(users, str(given)) == 0
-        server.shutdown()
-    printed = capsys.readouterr().out
-    assert said in printed and ("WARNING" in printed) == bool(said)
 
 
 def add_to(path: pathlib.Path, turns: int) -> None:
@@ -526,6 +286,22 @@ def test_the_holidays_of_an_empty_register_and_no_other(register: registers.Regi
         " Its holidays are 2025-04-03, 2025-04-04$",
     ):
         holidays.change_of(register, [])
+
+
+@pytest.mark.parametrize("words, said", [
+    (["secondary-2025", "2025-04-03"], "the holidays of secondary-2025 change from none to 2025-0"),
+    (["2025-04-05"], "2025-04-05 is a Saturday, which is no working day anyway: nothing was chan"),
+    (["secondary-2025"], "which days"), (["none", "2025-04-03"], "'none' is no day"),
+    (["secondary-2052", "none"], "no such register: secondary-2052"),
+    (["2025-4-3"], "'2025-4-3' is no day: write YYYY-MM-DD"),
+])
+def test_holidays_are_replaced_after_a_yes_and_a_wrong_word_is_named(
+    words: list[str], said: str, register: registers.Register, monkeypatch: pytest.MonkeyPatch,
+) -> None:
+    monkeypatch.setattr(sys, "stdin", io.StringIO(""))
+    with pytest.raises(Refused, match=said) as found:
+        typed("holidays", *words)
+    assert found.value.status == 2
 
 
 @pytest.fixture(name="as_desk")
@@ -587,35 +363,9 @@ def test_of_a_link_in_the_folder_of_the_desk_its_target_keeps_its_owner(
     )
     monkeypatch.setattr(setup, "program", lambda name: name)
     monkeypatch.setattr(setup, "call", lambda *_: register.file.write_text(""))
-    assert list(setup.make_register(register, argparse.Namespace(copy="copy.db"))) == [
-        f"made {register.file} from copy.db"
-    ]
+    space = argparse.Namespace(copy="copy.db", is_takeover=False)
+    assert list(setup.make_register(register, space)) == [f"made {register.file} from copy.db"]
     assert sorted(given) == [("link", False), ("reg.db", False)]
-
-
-def given_user(name: str, *more: str) -> argparse.Namespace:
-    return given_to_setup("secondary-2025", "--user", name, "--role", "head", *more)
-
-
-@pytest.mark.parametrize(
-    "words, said",
-    [
-        (["--users", "--remove", "jane"], "--users and --remove"),
-        (["--remove", "jane", "--user", "ben", "--role", "head"], "--remove and --user"),
-        (["--accounts", "none", "--users"], "--users and --accounts"),
-        (["--sites", "--new-password", "--user", "jane"], "--sites and --user"),
-        (["--users", "--holiday", "2025-03-03"], "--users and --holiday"),
-    ],
-)
-def test_options_of_two_commands_are_refused(
-    words: list[str], said: str, register: registers.Register, monkeypatch: pytest.MonkeyPatch
-) -> None:
-    monkeypatch.setattr(os, "geteuid", lambda: 0)
-    reader = argparse.ArgumentParser()
-    setup.arguments(reader)
-    with pytest.raises(Refused, match=f"^{said} belong to different commands$") as found:
-        setup.main(reader.parse_args([register.name, "--yes", *words]))
-    assert found.value.status == 2
 
 
 def test_an_empty_file_of_a_register_is_none(
@@ -634,31 +384,6 @@ def test_an_empty_file_of_a_register_is_none(
         f"made {register.file}, for secondary 2025, holidays 2025-04-18"
     ]
     assert made == [("admissions", "init", register.file, "secondary", 2025, "2025-04-18")]
-
-
-@pytest.mark.parametrize(
-    "role, typed, said",
-    [
-        ("head", "", None),
-        ("reader", "yes\n", "the role of jane changes from head to reader. Type yes to do it: "),
-    ],
-)
-def test_another_role_is_confirmed(
-    role: str,
-    typed: str,
-    said: str | None,
-    users: registers.Register,
-    monkeypatch: pytest.MonkeyPatch,
-    capsys: pytest.CaptureFixture[str],
-) -> None:
-    given = given_to_setup(users.name, "--user", "jane", "--role", role)
-    monkeypatch.setattr(setup, "AUTHORITY", users.settings / "site-name")
-    monkeypatch.setattr(sys, "stdin", Terminal(typed))
-    setup.completed(given)
-    changes = setup.confirmed(users, given)
-    assert capsys.readouterr().out == (said or "")
-    list(setup.make_user(users, given, changes))
-    assert people.users_of(users)["jane"].role == role
 
 
 @pytest.mark.parametrize("has_people", [False, True])
@@ -720,206 +445,6 @@ def see_confirmed(register: registers.Register, words: list[str], said: str) -> 
     setup.confirmed(register, given_to_setup(register.name, *words, *(["--yes"] if said else [])))
 
 
-REPLACED = (
-    "the certificate and the key of secondary-2025 are replaced,"
-    " and those that are there are kept beside them as site.crt.before and site.key.before"
-)
-
-
-@pytest.mark.parametrize(
-    "there, said",
-    [
-        ((), ""),
-        (("site.crt", "site.key"), ""),
-        (("other.crt", "site.key"), REPLACED),
-        (("site.crt", "other.key"), REPLACED),
-    ],
-)
-def test_another_certificate_or_key_is_confirmed(
-    there: tuple[str, ...],
-    said: str,
-    register: registers.Register,
-    machine: pathlib.Path,
-    monkeypatch: pytest.MonkeyPatch,
-) -> None:
-    monkeypatch.setattr(sys, "stdin", io.StringIO(""))
-    for name in ("site", "other"):
-        subprocess.run(
-            [
-                "openssl",
-                "req",
-                "-x509",
-                "-newkey",
-                "ec",
-                "-pkeyopt",
-                "ec_paramgen_curve:P-256",
-                "-nodes",
-                "-subj",
-                "/CN=x",
-                "-keyout",
-                machine / f"{name}.key",
-                "-out",
-                machine / f"{name}.crt",
-            ],
-            check=True,
-            capture_output=True,
-        )
-    for it in there:
-        shutil.copy(machine / it, register.settings / f"site{pathlib.Path(it).suffix}")
-    see_confirmed(
-        register,
-        ["--certificate", str(machine / "site.crt"), "--key", str(machine / "site.key")],
-        said,
-    )
-
-
-def certificate_of(host: str, folder: pathlib.Path) -> list[str]:
-    """The options with a certificate of a site and its key, which are made."""
-    folder.mkdir()
-    subprocess.run(
-        ["openssl", "req", "-x509", "-newkey", "ec", "-pkeyopt", "ec_paramgen_curve:P-256",
-         "-nodes", "-subj", f"/CN={host}", "-addext", f"subjectAltName=DNS:{host}", "-keyout",
-         folder / "new.key", "-out", folder / "new.crt"], check=True, capture_output=True)
-    return ["--certificate", "new.crt", "--key", "new.key"]
-
-
-def signed(folder: pathlib.Path, name: str, start: str, end: str) -> pathlib.Path:
-    """A certificate with its key that is valid between two moments, as YYYYMMDDHHMMSSZ."""
-    (folder / "ca.conf").write_text(
-        f"[ca]\ndefault_ca=c\n[c]\ndatabase={folder}/index\nnew_certs_dir={folder}\n"
-        "rand_serial=yes\ndefault_md=sha256\npolicy=p\nunique_subject=no\n[p]\ncommonName=supplied"
-        "\n[v]\nsubjectAltName=DNS:admissions.example\n", encoding="ascii")
-    (folder / "index").write_text("", encoding="ascii")
-    key, request, made = (folder / f"{name}.{it}" for it in ("key", "csr", "crt"))
-    commands: list[list[str | pathlib.Path]] = [
-        ["req", "-new", "-newkey", "ec", "-pkeyopt", "ec_paramgen_curve:P-256", "-nodes", "-subj",
-         "/CN=admissions.example", "-keyout", key, "-out", request],
-        ["ca", "-batch", "-notext", "-config", folder / "ca.conf", "-selfsign", "-keyfile", key,
-         "-in", request, "-out", made, "-startdate", start, "-enddate", end, "-extensions", "v"],
-    ]
-    for words in commands:
-        subprocess.run(["openssl", *words], check=True, capture_output=True)
-    return made
-
-
-YEAR = datetime.date.today().year
-JULY = [f"{YEAR + it}0701000000Z" for it in (-2, -1, 1, 2)]
-PAST, NOW, FUTURE = JULY[:2], JULY[1:3], JULY[2:]
-
-
-@pytest.mark.parametrize("days, said", [
-    ([PAST], rf"0.crt has ended at {YEAR - 1}-0.*: have the CA sign a new one"),
-    ([FUTURE], rf"0.crt is valid from {YEAR + 1}-0.* on, and it is {YEAR}-.*: is the clock right?"),
-    ([NOW, PAST], rf"0.crt, its certificate 2, has ended at {YEAR - 1}-0"),
-    ([NOW, NOW], ""),
-])
-def test_a_certificate_that_browsers_refuse_today_is_refused(
-    days: list[list[str]], said: str, register: registers.Register, machine: pathlib.Path,
-) -> None:
-    """And so is one whose intermediate certificate has ended."""
-    made = [signed(machine, str(at), *it) for at, it in enumerate(days)]
-    made[0].write_text("".join(it.read_text(encoding="ascii") for it in made), encoding="ascii")
-    words = ["--certificate", str(made[0]), "--key", str(made[0].with_suffix(".key")), "--yes"]
-    if said:
-        with pytest.raises(Refused, match=said):
-            see_confirmed(register, words, "")
-    else:
-        see_confirmed(register, words, "")
-
-
-@pytest.mark.parametrize("days, is_soon", [(20, True), (22, False)])
-def test_a_certificate_that_ends_soon_is_taken_with_a_warning(
-    days: int, is_soon: bool, register: registers.Register, machine: pathlib.Path, write_as_me: None
-) -> None:
-    end = datetime.datetime.now(datetime.timezone.utc) + datetime.timedelta(days=days, hours=1)
-    made = signed(machine, "new", NOW[0], f"{end:%Y%m%d%H%M%SZ}")
-    given = given_to_setup(register.name, "--site", "admissions.example", "--certificate",
-                           str(made), "--key", str(made.with_suffix(".key")))
-    said = [it for it in setup.make_settings(register, given) if "WARNING" in it]
-    crt = register.settings / "site.crt"
-    assert [it.partition(",")[0] for it in said] == (
-        [f"WARNING: {crt} ends in {days} days"] if is_soon else [])
-
-
-def test_an_address_is_no_name_of_a_site() -> None:
-    with pytest.raises(Refused, match="'10.0.0.5' is an address.*No DNS name?.*hosts file"):
-        answers.host("10.0.0.5")
-
-
-def test_what_a_certificate_replaces_is_kept_and_the_request_of_the_old_key_is_not(
-    register: registers.Register, machine: pathlib.Path, monkeypatch: pytest.MonkeyPatch,
-    write_as_me: None,
-) -> None:
-    """The names may be relative. A certificate of another site is refused."""
-    list(certificates.make(register, "admissions.example"))
-    before = [(register.settings / it).read_bytes() for it in ("site.key", "site.crt")]
-    words = certificate_of("admissions.example", machine / "new")
-    monkeypatch.chdir(machine / "new")
-    given = given_to_setup(register.name, *words, "--yes")
-    assert certificates.take(register, given.certificate, given.key) is True
-    names = ("site.key.before", "site.crt.before")
-    assert [(register.settings / it).read_bytes() for it in names] == before
-    assert (register.settings / names[0]).stat().st_mode & 0o777 == 0o600
-    assert not (register.settings / "site.csr").exists()
-    assert certificates.take(register, given.certificate, given.key) is False
-    assert [(register.settings / it).read_bytes() for it in names] == before
-    words = certificate_of("other.example", machine / "other")
-    monkeypatch.chdir(machine / "other")
-    given = given_to_setup(register.name, *words, "--site", "admissions.example", "--yes")
-    with pytest.raises(Refused, match="is of other.example, and not of admissions.example"):
-        setup.confirmed(register, given)
-
-
-def test_what_an_authority_has_signed_is_taken_with_the_key_of_the_site(
-    register: registers.Register, machine: pathlib.Path, write_as_me: None,
-) -> None:
-    """As docs/DEPLOYMENT.md has it given: the key and the request stay."""
-    list(certificates.make(register, "admissions.example"))
-    key, certificate, request = certificates.paths(register)
-    before = [it.read_bytes() for it in (key, certificate, request)]
-    signed = machine / "signed.crt"
-    subprocess.run(["openssl", "x509", "-in", certificate, "-signkey", key, "-days", "300", "-out",
-                    signed], check=True, capture_output=True)
-    given = given_to_setup(register.name, "--certificate", str(signed), "--key", str(key), "--yes")
-    assert certificates.is_lost(register, given.certificate, given.key)
-    assert certificates.take(register, given.certificate, given.key) is True
-    assert certificate.read_bytes() == signed.read_bytes()
-    assert [key.read_bytes(), request.read_bytes()] == [before[0], before[2]]
-    assert certificate.with_name("site.crt.before").read_bytes() == before[1]
-    assert certificates.take(register, given.certificate, given.key) is False
-    assert certificate.with_name("site.crt.before").read_bytes() == before[1]
-
-
-def test_the_warning_of_a_certificate_has_the_command_that_takes_the_answer_of_a_ca(
-    register: registers.Register, machine: pathlib.Path, write_as_me: None,
-) -> None:
-    """As docs/DEPLOYMENT.md shows it. Typed with the answer, it leaves nothing to be warned of."""
-    made = list(certificates.make(register, "admissions.example"))
-    warning = certificates.see(register, "admissions.example")
-    assert warning and "no CA has signed it" in warning and "authority" not in warning
-    page = (ROOT / "docs/DEPLOYMENT.md").read_text(encoding="utf-8").replace("2027", "2025")
-    for line in (*made, warning):
-        shown = line.replace(f"{machine}/etc/", "/etc/admissions/")
-        assert page.splitlines().count(shown) == 2, shown
-    assert status.certificate_of(register)[1].endswith("; no CA has signed it")
-    key, _, request = certificates.paths(register)
-    answer = machine / "answer.crt"
-    commands: list[list[str | pathlib.Path]] = [
-        ["req", "-x509", "-newkey", "ec", "-pkeyopt", "ec_paramgen_curve:P-256", "-nodes", "-subj",
-         "/CN=CA", "-keyout", machine / "ca.key", "-out", machine / "ca.crt"],
-        ["x509", "-req", "-in", request, "-CA", machine / "ca.crt", "-CAkey", machine / "ca.key",
-         "-copy_extensions", "copy", "-days", "300", "-out", answer]]
-    for command in commands:
-        subprocess.run(["openssl", *command], check=True, capture_output=True)
-    words = warning.rpartition(": ")[2].replace("FILE", str(answer)).split()
-    assert words[0] == "admissions-setup"
-    given = given_to_setup(*words[1:], "--site", "admissions.example", "--yes")
-    setup.confirmed(register, given)
-    assert list(setup.make_settings(register, given)) == [f"took the certificate {answer}"]
-    assert certificates.see(register, "admissions.example") is None
-    assert status.certificate_of(register)[0] and key.with_name("site.crt.before").exists()
-
-
 @pytest.mark.parametrize(
     "name, days, said",
     [
@@ -950,13 +475,16 @@ def test_what_may_be_wrong_of_a_season_is_shown_and_confirmed(
     assert capsys.readouterr().out == "".join(f"WARNING: {it}\n" for it in said)
 
 
-def test_a_holiday_that_is_there_already_is_not_doubted(register: registers.Register) -> None:
-    """So that the same command may run again."""
+def test_the_holidays_of_a_register_that_is_there_are_another_verb(
+    register: registers.Register
+) -> None:
+    """The same ones are not doubted, so that the same line may be typed again."""
     register.file.write_text(document(holidays=["2025-03-02"]), encoding="utf-8")
     words = [register.name, "--holiday", "2025-03-02"]
     setup.see_season(register, given_to_setup(*words))
-    with pytest.raises(Refused, match="2025-03-01 is a Saturday"):
-        setup.see_season(register, given_to_setup(*words, "--holiday", "2025-03-01"))
+    with pytest.raises(Refused, match="the holidays of secondary-2025 are 2025-03-02. To replace"
+                                      " them: admissions-admin holidays secondary-2025 2025-03-01"):
+        setup.see_season(register, given_to_setup(*words[:2], "2025-03-01"))
 
 
 def test_without_a_terminal_a_new_register_needs_its_holidays(
@@ -976,31 +504,22 @@ def test_of_a_register_that_is_there_no_authority_is_asked(
 ) -> None:
     """An answer to another question would be the name on each sheet."""
     monkeypatch.setattr(setup, "AUTHORITY", machine / "etc/authority")
-    found = completed(monkeypatch, "yes\n", users.name, "--holiday", "2025-03-03")
+    found = completed(monkeypatch, "yes\n", users.name)
     assert (found.authority, sys.stdin.read()) == (None, "yes\n")
-
-
-def test_another_password_of_nobody_names_who_is_there(
-    users: registers.Register, machine: pathlib.Path
-) -> None:
-    with pytest.raises(Refused, match="'zed' is nobody of secondary-2025; its people: ben, jane$"):
-        setup.completed(given_to_setup(users.name, "--user", "zed", "--new-password"))
 
 
 def test_what_the_application_lacks_is_named_before_anything_is_made(
     monkeypatch: pytest.MonkeyPatch,
 ) -> None:
-    monkeypatch.setattr(os, "geteuid", lambda: 0)
-    monkeypatch.setattr(setup, "tool", lambda name, package: name)
+    monkeypatch.setattr(serving, "tool", lambda name, package: name)
     real = importlib.util.find_spec
     monkeypatch.setattr(
         importlib.util, "find_spec",
         lambda name: None if name in ("flask", "argon2") else real(name))
-    reader = argparse.ArgumentParser()
-    setup.arguments(reader)
     said = "^the office's application needs: apt-get install python3-argon2 python3-flask$"
-    with pytest.raises(Refused, match=said):
-        setup.main(reader.parse_args(["--sites"]))
+    for verb in ("setup", "sites"):
+        with pytest.raises(Refused, match=said):
+            typed(verb)
 
 
 @pytest.mark.parametrize(
@@ -1026,3 +545,42 @@ def test_what_a_killed_init_leaves_is_no_register(
             for it in statements:
                 db.execute(it)
     assert register.file.stat().st_size > 0 and register.is_made == is_made
+
+
+@pytest.mark.parametrize("words, is_kept", [
+    (["--user", "jane"], True), (["--user", "jane", "--role", "head"], True),
+    (["--user", "jane", "--role", "reader"], False), (["--user", "mary", "--role", "head"], False),
+])
+def test_the_first_person_is_added_and_all_others_by_another_verb(
+    words: list[str], is_kept: bool, users: registers.Register, machine: pathlib.Path,
+    monkeypatch: pytest.MonkeyPatch,
+) -> None:
+    """The same line may be typed again, and keeps the password."""
+    monkeypatch.setattr(setup, "AUTHORITY", machine / "etc/authority")
+    given = given_to_setup(users.name, *words)
+    if is_kept:
+        setup.completed(given)
+        assert list(setup.make_user(users, given)) == [
+            "jane keeps the password; to draw another one: admissions-admin people secondary-2025"
+            " --user jane --new-password"]
+    else:
+        with pytest.raises(Refused, match="has people already.*: admissions-admin people"):
+            setup.completed(given)
+    assert people.users_of(users).keys() == {"ben", "jane"}
+
+
+def test_a_person_comes_with_a_password_that_is_printed_once(
+    register: registers.Register, write_as_me: None
+) -> None:
+    given = given_to_setup(register.name, "--user", "jane", "--role", "head")
+    first, second = setup.make_user(register, given)
+    assert first.startswith("jane gets the role head; if no password is below, draw one: ")
+    assert second.startswith("jane signs in at https://admissions.example/ with the password ")
+
+
+def test_another_name_of_the_site_is_another_verb(
+    register: registers.Register, machine: pathlib.Path, write_as_me: None
+) -> None:
+    given = given_to_setup(register.name, "--site", "other.example")
+    with pytest.raises(Refused, match="admissions-admin site secondary-2025 other.example$"):
+        list(setup.make_settings(register, given))

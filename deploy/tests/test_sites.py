@@ -1,4 +1,4 @@
-"""The sites that admissions-setup makes, by the version of nginx and with or without IPv6, and by a
+"""The sites that admissions-admin makes, by the version of nginx and with or without IPv6, and by a
 template that an office has changed."""
 import pathlib
 import re
@@ -12,7 +12,7 @@ MODEL = (ROOT / "deploy/nginx/admissions.conf").read_text(encoding="utf-8")
 MORE = (ROOT / "deploy/nginx/machine.conf").read_text(encoding="utf-8")
 OLD, LAST_OLD, FIRST_NEW, NEW = (1, 22, 1), (1, 25, 0), (1, 25, 1), (1, 26, 3)
 HERE = sites.Machine(NEW, True)
-# A template of an earlier version was a site, whose names admissions-setup replaced
+# A template of an earlier version was a site, whose names were replaced
 EARLIER = """map $remote_user $role {
     include /etc/admissions/roles;
 }
@@ -223,7 +223,7 @@ def test_with_a_template_of_an_earlier_version_nothing_is_changed(
         f"{nginx}/sites-available/admissions is not a template of this version: it does not use"
         " host, part, settings, socket, suffix. No site was changed. Put what you"
         f" changed into a copy of {ROOT}/deploy/nginx/admissions.conf, move that to"
-        f" {nginx}/sites-available/admissions, and type admissions-setup --sites"
+        f" {nginx}/sites-available/admissions, and type admissions-admin sites"
     )
     assert files_of(nginx) == before
 
@@ -278,14 +278,14 @@ def test_each_answer_has_the_headers_of_the_list() -> None:
     [
         (
             "events {\n\tworker_connections 768;\n}",
-            "events {\n\tworker_connections 8192; # 768 before admissions-setup\n}",
+            "events {\n\tworker_connections 8192; # 768 before admissions-admin\n}",
         ),
         ("events { }", "events { }"),
         ("\tworker_connections 9000;", "\tworker_connections 9000;"),
         ("\t# worker_connections 768;", "\t# worker_connections 768;"),
         (
             "worker_connections\t768; # few",
-            "worker_connections\t8192; # 768 before admissions-setup # few",
+            "worker_connections\t8192; # 768 before admissions-admin # few",
         ),
         (
             "\tworker_connections 768; multi_accept on;",

@@ -1,4 +1,4 @@
-"""What admissions-status says of each part: well on one side of a limit, and not on the other."""
+"""What admissions-admin status says of each part: well on one side of a limit, and not on the other."""
 import argparse
 import collections
 import contextlib
@@ -13,9 +13,10 @@ import time
 
 import pytest
 from machine import (
-    certificates, deletion, metrics, office_store, registers, second_copy, setup, status,
+    certificates, deletion, metrics, office_store, registers, second_copy, serving,
 )
 from machine.findings import Level
+from machine.verbs import status
 from office.web.history import SENDS, SETTLED
 from office.web.store import Store
 from office_files import add_people, history, record
@@ -520,14 +521,14 @@ def test_a_certificate_has_failed_from_its_last_day_on(
         end = certificates.end_of(made).astimezone()
         assert part["text"] == (
             f"admissions.example, {ends} at {end:%Y-%m-%d %H:%M}, and browsers let nobody in after"
-            f" that: admissions-setup {NAME} --certificate FILE --key {key}")
+            f" that: admissions-admin certificate {NAME} FILE")
         assert f"  FAILED    certificate: {part['text']}" in text.splitlines()
 
 
 def findings_of(
     register: registers.Register, form: str, capsys: pytest.CaptureFixture[str]
 ) -> str:
-    """What admissions-status prints in this form."""
+    """What it prints in this form."""
     reader = argparse.ArgumentParser()
     status.arguments(reader)
     status.main(reader.parse_args([register.name, *([form] if form else [])]))
@@ -552,9 +553,9 @@ def test_a_certificate_of_another_key_or_site(
     with pytest.raises(Refused, match=said):
         certificates.see(register, "admissions.example")
     assert found.text.endswith(f": {certificates.command(register)}")
-    [line] = setup.other_problems(None)
+    [line] = serving.other_problems(None)
     assert line.startswith(f"WARNING: {said}")
-    assert not list(setup.other_problems(register))
+    assert not list(serving.other_problems(register))
     made_certificate(register.settings, "other.example")
     found = status.report(register)["certificate"]
     assert (found.level, "is of other.example, and not of admissions.example" in found.text) == (
@@ -572,7 +573,7 @@ def test_a_register_whose_site_name_is_gone(
     made_certificate(office.settings, "admissions.example")
     monkeypatch.setattr(status, "is_booted", lambda: True)
     (office.settings / "site-name").unlink()
-    found, how = status.report(office), f"admissions-setup {office.name} --site"
+    found, how = status.report(office), f"admissions-admin setup {office.name} --site"
     assert found["site"] == (
         Level.FAILED, f"the file of its name is gone: {how} admissions.example")
     assert found["units"] == (

@@ -167,7 +167,7 @@ def machine_root_fixture(tmp_path: pathlib.Path) -> pathlib.Path:
         "etc/tmpfiles.d/admissions-a.conf",
     ):
         (tmp_path / name).parent.mkdir(parents=True, exist_ok=True)
-        (tmp_path / name).write_text("# Made by admissions-setup\n")
+        (tmp_path / name).write_text("# Made by admissions-admin\n")
     (tmp_path / "etc/nginx/nginx.conf").write_text(sites.main_text(MAIN))
     (tmp_path / "etc/nginx/modules-enabled").mkdir()
     (tmp_path / "etc/nginx/modules-enabled/90-admissions.conf").write_text(sites.limits_text(MAIN))
@@ -237,8 +237,8 @@ def test_an_upgrade_removes_what_an_earlier_page_read_once_no_site_names_it(
     status: int, is_left: bool, machine_root: pathlib.Path, tmp_path_factory: pytest.TempPathFactory
 ) -> None:
     room = tmp_path_factory.mktemp("script")
-    for name in ("admissions-setup", "systemd-sysusers", "systemd-tmpfiles", "upgrade"):
-        (room / name).write_text(f"#!/bin/sh\nexit {status if name == 'admissions-setup' else 0}\n")
+    for name in ("admissions-admin", "systemd-sysusers", "systemd-tmpfiles", "upgrade"):
+        (room / name).write_text(f"#!/bin/sh\nexit {status if name == 'admissions-admin' else 0}\n")
         (room / name).chmod(0o755)
     script = (ROOT / "debian/postinst").read_text(encoding="utf-8")
     script = re.sub(r"(?<![\w$/])/(var|etc|run)/", rf"{machine_root}/\1/", script)

@@ -42,7 +42,7 @@ def test_each_module_loads_without_them() -> None:
     done = subprocess.run([sys.executable, "-B", "-c", EACH, *places], capture_output=True,
                           text=True, check=False)
     assert done.returncode == 0, done.stderr
-    assert {"office.worklists", "office.web.app", "machine.setup"} <= set(done.stdout.split())
+    assert {"office.worklists", "office.web.app", "machine.verbs.setup"} <= set(done.stdout.split())
 
 
 def test_excel_files_need_no_numpy(tmp_path: pathlib.Path) -> None:
@@ -68,8 +68,8 @@ def test_a_command_names_the_package(
     def work() -> int:
         raise ImportError("no", name=module)
 
-    assert run.ended("admissions-status", work) == 1
-    assert capfd.readouterr().err == f"admissions-status: {said}\n"
+    assert run.ended("admissions-admin status", work) == 1
+    assert capfd.readouterr().err == f"admissions-admin status: {said}\n"
 
 
 def test_a_page_as_pdf(monkeypatch: pytest.MonkeyPatch) -> None:

@@ -1,5 +1,16 @@
-"""The holidays of a register that is there. A register has them from the beginning on, so it is
-made anew; and only while it is empty."""
+"""Replaces the holidays of a register that has no school and no child yet.
+
+  admissions-admin holidays [NAME] DAY..
+
+DAY is a day that is no working day, as 2026-04-03; `none` where there is none.
+The register has them from the beginning on, so it is made anew, and what was
+there is kept beside it as reg.db.before-restore-1. A day outside of the season
+and one on a weekend are shown before.
+
+example:
+  admissions-admin holidays secondary-2027 2027-03-26 2027-03-29
+"""
+import argparse
 import contextlib
 import pathlib
 import tempfile
@@ -8,9 +19,32 @@ import typing
 from office import texts
 from register_files import Refused
 
-from . import files
-from .programs import USER, call, is_booted, program, tool
-from .registers import Register, open_error, stored
+from .. import answers, files
+from ..programs import USER, call, is_booted, program, tool
+from ..registers import Register, open_error, stored
+
+
+def arguments(reader: argparse.ArgumentParser) -> None:
+    reader.add_argument("words", nargs="+", metavar="[NAME] DAY",
+                        help="the name of the register, and its holidays")
+    answers.add_yes(reader)
+
+
+def main(given: argparse.Namespace) -> int:
+    name = None if answers.is_day(given.words[0]) else given.words.pop(0)
+    days = answers.holidays([] if given.words == [answers.NONE] else given.words)
+    if not given.words:
+        raise Refused("which days? Type `none` where there is none", 2)
+    register = answers.register_named(name)
+    found = change_of(register, days)
+    if not found:
+        print(f"{register.name} has just these holidays")
+        return 0
+    before = days_of(register.file)
+    answers.see_season("", stored(register.file).year, days, given.yes)
+    answers.confirm(found, given.yes)
+    print(change(register, days, before))
+    return 0
 
 
 def days_of(file: pathlib.Path) -> list[str]:

@@ -1,7 +1,7 @@
 """Reports how the registers of this machine are: file, desk, site, units,
 people, history, copies, disks, certificates; and which were deleted.
 
-  admissions-status [NAME ..] [--line | --json | --metrics [--to FILE]]
+  admissions-admin status [NAME ..] [--line | --json | --metrics [--to FILE]]
 
 Without a NAME it reports all registers. With --line it prints one line, for a
 monitoring system that runs plugins as Nagios and Icinga do; with --json one
@@ -11,7 +11,7 @@ The site is sent a request of nobody, which it must refuse. The people and the
 history are those of the office's application, whose files are only read.
 
 example:
-  admissions-status --line
+  admissions-admin status --line
 
 exit status: 0 all is well, or the numbers are written; 1 something needs
 attention; 2 wrong arguments, or no such register; 3 an office cannot work: its
@@ -39,26 +39,26 @@ from register_files import Refused
 from office import texts
 from office.days import DELETION_NOTICE
 
-from . import (
+from .. import (
     certificates, copies, deletion, files, findings, histories, history_copies, metrics,
-    office_requests, office_store, repairs, sealed, second_copy, standby,
+    office_requests, office_store, repairs, sealed, second_copy, serving,
 )
-from .desk import site_status_of, status_of
-from .drill import NOT_TRIED, OPENED, REPORT as DRILL
-from .findings import Finding, Level, Report
-from .registers import REGISTERS, SETTINGS, Register, known, stored
-from .programs import OFFICE, call, is_booted, tool
-from .second_copy import NONE, REPORT as SECOND, line_of, place_of
-from .settings_copy import REPORT as BESIDE
+from ..desk import site_status_of, status_of
+from ..drill import NOT_TRIED, OPENED, REPORT as DRILL
+from ..findings import Finding, Level, Report
+from ..registers import REGISTERS, SETTINGS, Register, known, stored
+from ..programs import OFFICE, call, is_booted, tool
+from ..second_copy import NONE, REPORT as SECOND, line_of, place_of
+from ..settings_copy import REPORT as BESIDE
+from . import takeover
 
 # from when on something needs attention
 COPY_HOURS, DRILL_DAYS = 26, 35
 LEAST_ROOM, ROOM_FACTOR, ARCHIVES = 200_000_000, 10, 3
 # for so long the answer to a request may be unknown
 OPEN_SECONDS = 3600
-# what the application asks for, and the units whose last run must not have failed
-REQUESTS = ("copy", "restore", "deletion-day", "delete")
-JOBS = ("backup", "second-copy", "drill", *(f"office-{it}" for it in REQUESTS))
+# the units whose last run must not have failed
+JOBS = ("backup", "second-copy", "drill", *(f"office-{it}" for it in serving.REQUESTS))
 State = tuple[bool, str]
 # what an upgrade keeps of what it has stopped, until it has started it again; and dpkg's own lock
 INTERRUPTED = pathlib.Path("/var/lib/admissions/.running-before-upgrade")
@@ -106,7 +106,7 @@ def reported(given: argparse.Namespace) -> int:
     if given.json:
         print(findings.as_json(reports))
     elif not registers:
-        print(f"no register is set up in {REGISTERS}: type admissions-setup")
+        print(f"no register is set up in {REGISTERS}: type admissions-admin setup")
     elif given.line:
         print(findings.as_line(reports))
     else:
@@ -166,7 +166,7 @@ def deleted_of(register: Register) -> State:
     text = f"on {found['ended']}, its day being {found.get('day')}: {found.get('files')} files"
     text = f"{text} of {found.get('bytes')} bytes{rest}"
     if left := left_of(register):
-        how = f"admissions-retire {register.name}"
+        how = f"admissions-admin retire {register.name}"
         return False, f"{text}; {', '.join(map(str, left))} may have data of children: {how}"
     return True, text
 
@@ -191,8 +191,8 @@ def deletion_of(register: Register) -> State:
 
 
 def file_of(register: Register) -> State:
-    if standby.begun(register):
-        how = f"admissions-setup {register.name} --standby"
+    if takeover.begun(register):
+        how = f"admissions-admin takeover {register.name}"
         return False, f"its takeover has not ended: type `{how}`, which goes on"
     try:
         found = register.file.lstat()
@@ -263,7 +263,7 @@ def had_site(register: Register) -> bool:
 def site_command(register: Register) -> str:
     """What sets the site up again, with its name as far as its certificate has it."""
     host = certificates.host_of(certificates.paths(register)[1])
-    return f"admissions-setup {register.name} --site {host or 'HOST'}"
+    return f"admissions-admin setup {register.name} --site {host or 'HOST'}"
 
 
 def first_certificate(register: Register) -> bytes:
@@ -291,7 +291,7 @@ def units_of(register: Register) -> State:
         f"admissions-{it}@{register.name}.timer" for it in ("backup", "drill", "second-copy"))
     desk, bad = f"admissions@{register.name}.service", []
     enabled = (desk, backup, drill, *(["nginx.service"] if register.host else []))
-    for unit in (*enabled, *(office_units(register) if register.host else [])):
+    for unit in (*enabled, *(serving.office_units(register) if register.host else [])):
         found = shown_of(unit, "ActiveState", "UnitFileState")
         if found["ActiveState"] != "active":
             state = found["ActiveState"]
@@ -327,13 +327,6 @@ def is_dpkg_at_work() -> bool:
         # (it is held; or this command may not write there, and cannot know)
         return True
     return False
-
-
-def office_units(register: Register) -> list[str]:
-    """The units of the application: its socket, itself, and what waits for its requests."""
-    name = register.name
-    application = [f"admissions-office@{name}.{it}" for it in ("socket", "service")]
-    return application + [f"admissions-office-{it}@{name}.path" for it in REQUESTS]
 
 
 def shown_of(unit: str, *names: str) -> dict[str, str]:
@@ -428,7 +421,7 @@ def copy_of(register: Register) -> State:
     """The copy that was made last. One that is dated ahead was made by a wrong clock, or the clock
     is wrong now."""
     if not register.copies.is_dir():
-        how = f"admissions-setup {register.name} makes it"
+        how = f"admissions-admin setup {register.name} makes it"
         return False, f"{register.copies} is not there, so no copy can be made: {how}"
     made = register.nightly_copies()
     if not made:

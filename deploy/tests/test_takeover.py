@@ -1,5 +1,5 @@
-"""A second machine that takes over: what it fetches, from which copy it goes on, and what it prints
-to be sent again."""
+"""admissions-admin takeover on a second machine: what it fetches, from which copy it goes on, and
+what it prints to be sent again."""
 import argparse
 import datetime
 import getpass
@@ -10,9 +10,12 @@ import pwd
 import shutil
 import subprocess
 import tempfile
+import typing
 
 import pytest
-from machine import copies, files, registers, sent, setup, standby, status
+from conftest import typed
+from machine import copies, files, registers, sent, serving
+from machine.verbs import setup, status, takeover
 from office.web.history import ANSWER, RESTORED, SENDS, History
 from register_files import Refused
 
@@ -25,7 +28,7 @@ COPIES = ("nightly-2025-03-01T023000.db", "nightly-000002-2025-03-02T023000.db",
 def place_fixture(tmp_path: pathlib.Path, monkeypatch: pytest.MonkeyPatch) -> pathlib.Path:
     """A second place with three copies, of which the one with the greatest number was made last."""
     me = getpass.getuser()
-    monkeypatch.setattr(standby, "USER", me)
+    monkeypatch.setattr(takeover, "USER", me)
     place = tmp_path / "place"
     (place / NAME / "history").mkdir(parents=True)
     for name in COPIES:
@@ -41,7 +44,7 @@ def test_what_is_fetched(
     capsys: pytest.CaptureFixture[str],
 ) -> None:
     """Copies, archives and the history; no report, and nothing through a link."""
-    copy = standby.fetch(NAME, f"{place}/")
+    copy = takeover.fetch(NAME, f"{place}/")
     assert copy == machine / "backups" / NAME / COPIES[2]
     assert copy.read_text(encoding="ascii") == COPIES[2]
     found = {str(it.relative_to(copy.parent)): it.stat().st_mode & 0o777
@@ -61,15 +64,15 @@ def test_what_is_fetched_from_a_disk_is_written_by_the_user_of_the_copies(
         # (another user reaches it, where root runs the tests)
         os.chmod(room, 0o755)
         user = pwd.getpwnam("daemon" if os.geteuid() == 0 else getpass.getuser())
-        monkeypatch.setattr(standby, "USER", user.pw_name)
+        monkeypatch.setattr(takeover, "USER", user.pw_name)
         monkeypatch.setattr(registers, "COPIES", pathlib.Path(room))
         monkeypatch.setattr(files, "numbers", lambda *_: (user.pw_uid, user.pw_gid))
-        copy = standby.fetch(NAME, str(place))
+        copy = takeover.fetch(NAME, str(place))
         assert {it.stat().st_uid for it in copy.parent.rglob("*")} == {user.pw_uid}
         shutil.rmtree(copy.parent / "history")
         (copy.parent / "history").mkdir(mode=0o500)
         with pytest.raises(Refused, match="history.* Permission denied"):
-            standby.fetch(NAME, str(place))
+            takeover.fetch(NAME, str(place))
         assert not list((copy.parent / "history").iterdir())
 
 
@@ -90,21 +93,21 @@ def test_what_is_encrypted_is_opened_with_the_identity_of_this_machine(
         subprocess.run(["age", "-r", key, "-o", there / f"{it}.age", there / it], check=True)
         (there / it).unlink()
     with pytest.raises(Refused, match=f"is encrypted: put the identity file .* at {identity}"):
-        standby.fetch(NAME, str(place))
+        takeover.fetch(NAME, str(place))
     identity.write_bytes((tmp_path / "vault.key").read_bytes())
     identity.chmod(0o640)
     with pytest.raises(Refused, match=f"chown admissions: {identity} && chmod 400 {identity}$"):
-        standby.fetch(NAME, str(place))
+        takeover.fetch(NAME, str(place))
     subprocess.run(["age-keygen", "-o", identity.with_name("wrong")], check=True,
                    capture_output=True)
     identity.write_bytes(identity.with_name("wrong").read_bytes())
     identity.chmod(0o400)
     with pytest.raises(Refused, match=r"\.age is encrypted for another key than that of .*\(age1"):
-        standby.fetch(NAME, str(place))
+        takeover.fetch(NAME, str(place))
     identity.chmod(0o600)
     identity.write_bytes((tmp_path / "vault.key").read_bytes())
     identity.chmod(0o400)
-    copy = standby.fetch(NAME, str(place))
+    copy = takeover.fetch(NAME, str(place))
     assert copy.name == COPIES[2]
     assert {it: (copy.parent / it).read_bytes() for it in names} == wanted
     found = {str(it.relative_to(copy.parent)): it.stat().st_mode & 0o777
@@ -117,25 +120,25 @@ def test_an_older_copy_is_chosen_by_its_name(
 ) -> None:
     """All copies are fetched, so the next one still has the greatest number. One that is not there
     is refused, with names of those that are."""
-    copy = standby.fetch(NAME, str(place), COPIES[1])
+    copy = takeover.fetch(NAME, str(place), COPIES[1])
     assert copy.read_text(encoding="ascii") == COPIES[1]
     assert copies.next_name(copy.parent).startswith("nightly-000011-")
     with pytest.raises(Refused, match=f"has no copy nightly-.*; of its 3 copies .*{COPIES[2]}$"):
-        standby.fetch(NAME, str(place), "nightly-000003-2025-03-02T023000.db")
+        takeover.fetch(NAME, str(place), "nightly-000003-2025-03-02T023000.db")
 
 
 def test_the_place_of_the_settings(
     place: pathlib.Path, machine: pathlib.Path, write_as_me: None
 ) -> None:
     (machine / "etc/second-copy").write_text(f"{place}\n", encoding="utf-8")
-    assert standby.fetch(NAME, "").name == COPIES[2]
+    assert takeover.fetch(NAME, "").name == COPIES[2]
 
 
 @pytest.mark.parametrize("line, status", [("none\n", 2), ("", 2)])
 def test_no_place(line: str, status: int, machine: pathlib.Path) -> None:
     (machine / "etc/second-copy").write_text(line, encoding="utf-8")
     with pytest.raises(Refused, match="^name the second place, here or in ") as found:
-        standby.fetch(NAME, "")
+        takeover.fetch(NAME, "")
     assert found.value.status == status
 
 
@@ -144,7 +147,7 @@ def test_a_machine_that_has_the_register_does_not_take_over(
 ) -> None:
     monkeypatch.setattr(registers, "is_blank", lambda _: False)
     with pytest.raises(Refused, match="is there already, so this machine does not take over"):
-        standby.fetch(NAME, str(place))
+        takeover.fetch(NAME, str(place))
     assert not list(register.copies.iterdir())
 
 
@@ -153,32 +156,23 @@ def test_a_place_without_the_register(
 ) -> None:
     (place / "primary-2026").mkdir()
     with pytest.raises(Refused, match="has no copy of a register"):
-        standby.fetch("primary-2026", str(place))
+        takeover.fetch("primary-2026", str(place))
     said = f"{place} has no folder primary-2027, .* folders there: primary-2026, {NAME}$"
     with pytest.raises(Refused, match=said):
-        standby.fetch("primary-2027", str(place))
+        takeover.fetch("primary-2027", str(place))
     with pytest.raises(Refused, match=f"Name {place}, which has it$"):
-        standby.fetch(NAME, str(place / NAME))
+        takeover.fetch(NAME, str(place / NAME))
     with pytest.raises(Refused, match="/gone is not there: is the disk mounted?"):
-        standby.fetch(NAME, f"{place}/gone")
+        takeover.fetch(NAME, f"{place}/gone")
     assert not (machine / "backups/primary-2027").exists()
 
 
-@pytest.mark.parametrize(
-    "given",
-    [["--standby"], [NAME, "--standby", "--copy", "x"],
-     [NAME, "--standby", "--copy", f"/mnt/copies/{COPIES[1]}"],
-     [NAME, "--standby", "--year", "2025"],
-     [NAME, "--standby", "--user", "jane"], [NAME, "--standby", "/x", "--holiday", "2025-01-01"],
-     [NAME, "--standby=-x"], [NAME, "--standby", "--sites"]],
-)
+@pytest.mark.parametrize("given", [
+    ["--copy", "x"], ["--copy", f"/mnt/copies/{COPIES[1]}"], ["", "--copy", "x"], ["--", "-x"]])
 def test_arguments_that_do_not_fit(given: list[str], monkeypatch: pytest.MonkeyPatch) -> None:
-    reader = argparse.ArgumentParser()
-    setup.arguments(reader)
-    monkeypatch.setattr(os, "geteuid", lambda: 0)
-    monkeypatch.setattr(setup, "tool", lambda *_: "")
+    monkeypatch.setattr(serving, "see_needed", lambda: None)
     with pytest.raises(Refused) as found:
-        setup.main(reader.parse_args(given))
+        typed("takeover", NAME, *given)
     assert found.value.status == 2
 
 
@@ -189,10 +183,10 @@ def test_the_moment_of_a_copy(written: str, tmp_path: pathlib.Path) -> None:
     copy.touch()
     at = datetime.datetime.fromisoformat(written).timestamp()
     os.utime(copy, (at, at))
-    assert f"{standby.moment_of(copy):%Y-%m-%dT%H%M%S}" == "2025-03-03T023000"
+    assert f"{takeover.moment_of(copy):%Y-%m-%dT%H%M%S}" == "2025-03-03T023000"
     early = datetime.datetime(2025, 3, 3, 1, 30).timestamp()
     os.utime(copy, (early, early))
-    assert f"{standby.moment_of(copy):%Y-%m-%dT%H%M%S}" == "2025-03-03T013000"
+    assert f"{takeover.moment_of(copy):%Y-%m-%dT%H%M%S}" == "2025-03-03T013000"
 
 
 def written_at(register: registers.Register, at: str) -> History:
@@ -215,7 +209,7 @@ def test_what_is_to_be_sent_again(
         record.close()
     copy = tmp_path / COPIES[2]
     copy.touch()
-    standby.report(register, copy)
+    takeover.report(register, copy)
     lines = capfd.readouterr().out.splitlines()
     assert lines[0] == (f"{NAME} is as at 2025-03-03 02:30:00, when {COPIES[2]} was made. Send"
                         " again what follows, line by line:")
@@ -225,7 +219,7 @@ def test_what_is_to_be_sent_again(
         " 2025-03-03T02:30:00` prints them again. What was sent later is in no copy: ask who"
         " worked then.")
     register.history.unlink()
-    standby.report(register, copy)
+    takeover.report(register, copy)
     assert capfd.readouterr().out.startswith(
         "WARNING: what was sent since 2025-03-03 02:30 is not known: ")
 
@@ -239,14 +233,31 @@ def sent_at(register: registers.Register, child: int, moment: str) -> None:
     record.close()
 
 
-def given_to(place: pathlib.Path, *more: str) -> argparse.Namespace:
-    reader = argparse.ArgumentParser()
-    setup.arguments(reader)
-    return reader.parse_args([NAME, "--standby", str(place), *more])
+class Takeover:
+    """The verb, with what it is given, and with another set-up."""
+
+    def __init__(self, monkeypatch: pytest.MonkeyPatch, place: pathlib.Path) -> None:
+        self.monkeypatch, self.place = monkeypatch, place
+        self.given = argparse.Namespace()
+        monkeypatch.setattr(serving, "see_needed", lambda: None)
+
+    def ended(self, step: typing.Callable[[], int], *more: str) -> int:
+        """The status with which it ends, if a step sets the register up."""
+        def set_up(given: argparse.Namespace) -> int:
+            self.given = given
+            return step()
+
+        self.monkeypatch.setattr(setup, "set_up_as_given", set_up)
+        return typed("takeover", NAME, str(self.place), *more)
+
+
+@pytest.fixture(name="takes_over")
+def takes_over_fixture(monkeypatch: pytest.MonkeyPatch, place: pathlib.Path) -> Takeover:
+    return Takeover(monkeypatch, place)
 
 
 def test_a_takeover_that_was_killed_goes_on_and_prints_the_same(
-    place: pathlib.Path, machine: pathlib.Path, write_as_me: None,
+    place: pathlib.Path, machine: pathlib.Path, write_as_me: None, takes_over: Takeover,
     monkeypatch: pytest.MonkeyPatch, capfd: pytest.CaptureFixture[str],
 ) -> None:
     """Wherever it was killed: before anything is made, and when the office already works here. Only
@@ -280,24 +291,24 @@ def test_a_takeover_that_was_killed_goes_on_and_prints_the_same(
 
     for step in (killed, set_up_and_killed):
         with pytest.raises(KeyboardInterrupt):
-            standby.take_over(given_to(place), step)
+            takes_over.ended(step)
     assert status.file_of(register) == (
-        False, f"its takeover has not ended: type `admissions-setup {NAME} --standby`, which goes"
+        False, f"its takeover has not ended: type `admissions-admin takeover {NAME}`, which goes"
         " on")
     capfd.readouterr()
     (machine / "etc/second-copy").write_text(f"{place}\n", encoding="utf-8")
-    assert standby.take_over(given_to(place), set_up) == 0
+    assert takes_over.ended(set_up) == 0
     assert os.uname().nodename in (place / NAME / "owner").read_text(encoding="utf-8")
     lines = capfd.readouterr().out.splitlines()
     assert lines[0] == (f"goes on with the takeover of {NAME} from"
                         f" {register.copies / COPIES[2]}")
     assert [it for it in lines if it.startswith("{")] == ['{"child":1,"cmd":"accept"}']
     with pytest.raises(Refused, match="is there already, so this machine does not take over"):
-        standby.take_over(given_to(place), set_up)
+        takes_over.ended(set_up)
 
 
 def test_a_takeover_by_an_older_copy(
-    place: pathlib.Path, machine: pathlib.Path, write_as_me: None,
+    place: pathlib.Path, machine: pathlib.Path, write_as_me: None, takes_over: Takeover,
     monkeypatch: pytest.MonkeyPatch, capfd: pytest.CaptureFixture[str],
 ) -> None:
     """It prints the commands since that copy, of which somebody must leave out what it was chosen
@@ -328,15 +339,14 @@ def test_a_takeover_by_an_older_copy(
 
     for step, name in ((killed, COPIES[0]), (made_and_killed, f"{COPIES[1]}.age")):
         with pytest.raises(KeyboardInterrupt):
-            standby.take_over(given_to(place, "--copy", name), step)
+            takes_over.ended(step, "--copy", name)
     with pytest.raises(Refused, match=f"reg.db is made from {COPIES[1]} already"):
-        standby.take_over(given_to(place, "--copy", COPIES[2]), set_up)
+        takes_over.ended(set_up, "--copy", COPIES[2])
     assert not register.history.exists()
     capfd.readouterr()
-    given = given_to(place, "--copy", COPIES[1])
-    assert standby.take_over(given, set_up) == 0
+    assert takes_over.ended(set_up, "--copy", COPIES[1]) == 0
     lines = capfd.readouterr().out.splitlines()
-    assert given.copy == str(register.copies / COPIES[1])
+    assert takes_over.given.copy == str(register.copies / COPIES[1])
     assert lines[1] == (
         f"{NAME} is as at 2025-03-02 02:30:00, when {COPIES[1]} was made. Send again what follows,"
         " line by line, without what shall not come back:")
@@ -376,7 +386,7 @@ def test_a_copy_that_has_what_a_restore_has_undone_is_not_taken(
     (folder / "history-1-a.gz").unlink()
     (folder / "history-000001-0123456789abcdef.gz").write_bytes(
         gzip.compress(other.history.read_bytes()))
-    assert standby.fetch(NAME, str(place)).name == wanted
+    assert takeover.fetch(NAME, str(place)).name == wanted
     said = f"goes on from {wanted}: since {COPIES[2]} the office has restored a copy"
     assert (said in capsys.readouterr().out) == (wanted != COPIES[2])
 
@@ -391,7 +401,7 @@ def test_a_copy_of_before_a_restore_is_named(
     sent_at(register, 2, "2025-03-03T09:30:00")
     copy = tmp_path / COPIES[2]
     copy.touch()
-    standby.report(register, copy)
+    takeover.report(register, copy)
     found = capfd.readouterr()
     assert '{"child":2,"cmd":"accept"}' in found.out.splitlines()
     said = "since 2025-03-03 02:30:00 the office has restored a copy, so that a copy of that moment"
@@ -419,7 +429,7 @@ def test_what_else_was_done_since_is_counted(
     sent_at(register, 1, "2025-03-03T03:03:00")
     copy = tmp_path / COPIES[2]
     copy.touch()
-    standby.report(register, copy)
+    takeover.report(register, copy)
     assert ("whose own file is as at that moment: added a note (2), gave a role (1). The screen"
             " Activity has each of them") in capfd.readouterr().out
 
@@ -431,7 +441,7 @@ def test_nothing_to_be_sent_again_is_said(
     sent_at(register, 1, "2025-03-03T02:29:00")
     copy = tmp_path / COPIES[2]
     copy.touch()
-    standby.report(register, copy)
+    takeover.report(register, copy)
     out = capfd.readouterr().out
     assert "so nothing is to be sent again." in out and "line by line" not in out
 
@@ -439,9 +449,9 @@ def test_nothing_to_be_sent_again_is_said(
 def test_the_identity_that_remains_is_named(
     machine: pathlib.Path, capsys: pytest.CaptureFixture[str]
 ) -> None:
-    standby.remind()
+    takeover.remind()
     assert capsys.readouterr().out == ""
     identity = machine / "etc/second-copy-identity"
     identity.touch()
-    standby.remind()
+    takeover.remind()
     assert f"rm {identity}" in capsys.readouterr().out

@@ -1,6 +1,18 @@
-"""A second machine takes over a register of one that is lost: it fetches what the second place has,
-and prints what was sent since the copy from which the register goes on. One that was killed goes on
-when it is typed again."""
+"""Goes on with a register of a machine that is lost, on this one.
+
+  admissions-admin takeover NAME [PLACE] [--copy COPY] [--site HOST]
+
+What PLACE has, or the second place that /etc/admissions/second-copy names, is
+fetched, and the register is made from the copy that was made last, with its
+people, settings and history. The commands that were sent since, as far as the
+history there has them, are printed, to be sent again, and what else people did
+since is counted. COPY is the name of an older copy there, from which it is made
+in place of the last one. HOST is another name of the site. A takeover that was
+interrupted goes on when it is typed again, and prints the same.
+
+example:
+  admissions-admin takeover secondary-2025 /mnt/copies
+"""
 import argparse
 import collections
 import datetime
@@ -15,9 +27,10 @@ import typing
 from office.web import history
 from register_files import Refused
 
-from . import copies, files, histories, history_copies, sealed, second_copy, sent
-from .programs import OFFICE, USER, call, tool
-from .registers import SETTINGS, Register, named
+from .. import answers, copies, files, histories, history_copies, sealed, second_copy, sent, serving
+from ..programs import OFFICE, USER, call, tool
+from ..registers import SETTINGS, Register, named
+from . import setup
 
 # what is fetched: copies with what is beside each, and the history
 WANTED = (*copies.PATTERNS, *(f"{it}{sealed.END}" for it in copies.PATTERNS),
@@ -31,6 +44,17 @@ NAMED = 5
 # the entries of a history that are requests to the register, and what became of them
 REQUESTS = (history.SENDS, history.ANSWER, history.SETTLED)
 WITHOUT = ", without what shall not come back"
+
+
+def arguments(reader: argparse.ArgumentParser) -> None:
+    add = reader.add_argument
+    add("name", metavar="NAME", help="the name of the register, as of its folder there")
+    add("place", nargs="?", default="", metavar="PLACE", help="the second place")
+    add("--copy", metavar="COPY", help="the name of an older copy there")
+    add("--site", metavar="HOST", help="another name of the site than before")
+    answers.add_yes(reader)
+    reader.set_defaults(is_takeover=True, phase=None, year=None, holiday=[], user=None, role=None,
+                        authority=None)
 
 
 class Begun(typing.NamedTuple):
@@ -209,25 +233,21 @@ def record_of(register: Register, entries: int | None) -> histories.Record:
     return histories.Record(str(register.history), data)
 
 
-def see_arguments(given: argparse.Namespace) -> None:
-    """Refuses what a register that is taken over has of its own."""
-    if given.name is None:
-        raise Refused("NAME is missing: which register is taken over?", 2)
-    if given.phase or given.year or given.holiday or given.user:
-        raise Refused("--standby takes phase, year, holidays and people from the copies: give none"
-                      " of them", 2)
+def checked(given: argparse.Namespace) -> None:
+    """Refuses what is wrong before anything is fetched."""
     if given.copy and not copies.NAME.fullmatch(given.copy.removesuffix(sealed.END)):
-        raise Refused(f"{given.copy!r} is no name of a copy at the second place: with --standby"
-                      " --copy takes one as nightly-000012-2025-03-03T023000.db", 2)
-    if not re.fullmatch(r"[^-].*|", given.standby):
-        raise Refused(f"{given.standby!r} is no place", 2)
+        raise Refused(f"{given.copy!r} is no name of a copy at the second place, as"
+                      " nightly-000012-2025-03-03T023000.db", 2)
+    if not re.fullmatch(r"[^-].*|", given.place):
+        raise Refused(f"{given.place!r} is no place", 2)
 
 
-def take_over(given: argparse.Namespace, set_up: typing.Callable[[], int]) -> int:
+def main(given: argparse.Namespace) -> int:
     """Fetches the copies, has the register set up from the last one, or from the one that is
     named, and prints what it lacks. Until that is printed the takeover is not over, and goes on
     when it is typed again."""
-    see_arguments(given)
+    serving.see_needed()
+    checked(given)
     register = named(given.name)
     wanted = (given.copy or "").removesuffix(sealed.END)
     found = begun(register)
@@ -235,7 +255,7 @@ def take_over(given: argparse.Namespace, set_up: typing.Callable[[], int]) -> in
         if register.is_made:
             raise Refused(f"{register.file} is made from {found.copy} already. To begin again with"
                           " another copy, end this takeover without --copy, and delete the register"
-                          f" (admissions-retire {register.name} --early REASON, without"
+                          f" (admissions-admin retire {register.name} --early REASON, without"
                           " --second-place)")
         # (people and settings are taken after the register is made)
         found = None
@@ -243,11 +263,11 @@ def take_over(given: argparse.Namespace, set_up: typing.Callable[[], int]) -> in
         copy = register.copies / found.copy
         print(f"goes on with the takeover of {register.name} from {copy}", flush=True)
     else:
-        copy = fetch(given.name, given.standby, wanted)
+        copy = fetch(given.name, given.place, wanted)
         found = begin(register, copy)
     given.copy = str(copy)
-    status = set_up()
-    own_places(register, given.standby)
+    status = setup.set_up_as_given(given)
+    own_places(register, given.place)
     report(register, copy, found.entries, is_chosen=bool(wanted))
     sys.stdout.flush()
     begun_place(register).unlink()

@@ -1,12 +1,12 @@
 """Deletes a register of this machine for good, when its season is over.
 
-  admissions-retire NAME [--second-place] [--early REASON] [--yes]
+  admissions-admin retire NAME [--second-place] [--early REASON] [--yes]
 
 It stops and disables the units of the register NAME, and deletes its files:
 the register with its log, all copies, the office's application with people,
 history, letters and files of children, logs of earlier versions, the site,
-its key and its settings, and the right to the network that --accounts of
-admissions-setup gave its application. The last day of its waiting lists must
+its key and its settings, and the right of its application to the network of the
+machine. The last day of its waiting lists must
 have passed; --early deletes it before that, for a reason that is kept. With
 --second-place its folder at the second place is deleted too; otherwise the
 command names what remains there. What stays is the record,
@@ -20,25 +20,23 @@ Files that were taken away are not found, as an archive or letters; disk blocks
 are not overwritten.
 
 example:
-  admissions-retire secondary-2025 --second-place
+  admissions-admin retire secondary-2025 --second-place
 
 exit status: 0 deleted; 1 not, or something remains at the second place, and
-the line says so; 2 wrong arguments.
+the line says so.
 """
 import argparse
 import os
 import pathlib
 import shutil
-import socket
 import sys
 import tempfile
 
 from register_files import Refused
 
-from . import deletion, files, office_delete, people, second_copy, setup, sites
-from .programs import USER, call, is_booted, tool
-from .registers import Register, named, stored
-from .status import office_units
+from .. import answers, deletion, files, network, office_delete, second_copy, serving, sites
+from ..programs import USER, call, is_booted, tool
+from ..registers import Register, named, stored
 
 LOGS, MOST_REASON = pathlib.Path("/var/log/admissions"), 200
 
@@ -54,16 +52,15 @@ def arguments(reader: argparse.ArgumentParser) -> None:
 
 def main(given: argparse.Namespace) -> int:
     register = named(given.name)
-    with files.lock():
-        record = deletion.record_of(register)
-        if not anything(register) and not given.second_place:
-            if not record:
-                raise Refused(f"no such register: {register.name}", 2)
-            print(in_words(register, record))
-            return 0
-        see_time(register, record, given.early)
-        confirm(register, given)
-        record = retired(register, given)
+    record = deletion.record_of(register)
+    if not anything(register) and not given.second_place:
+        if not record:
+            raise Refused(f"no such register: {register.name}", 2)
+        print(in_words(register, record))
+        return 0
+    see_time(register, record, given.early)
+    confirm(register, given)
+    record = retired(register, given)
     print(in_words(register, record))
     return 1 if given.second_place and record["remains"] else 0
 
@@ -79,7 +76,7 @@ def anything(register: Register) -> bool:
     beside = [it for it in settings.iterdir() if it != deletion.record_place(register)] if (
         settings.is_dir()) else []
     places = (register.folder, register.copies, *folders_of(register), *site_of(register),
-              setup.outside_of(register))
+              network.outside_of(register))
     return bool(beside) or any(map(os.path.lexists, places))
 
 
@@ -114,23 +111,14 @@ def see_time(register: Register, record: dict[str, str], reason: str | None) -> 
 
 
 def confirm(register: Register, given: argparse.Namespace) -> None:
-    """Shows what will be deleted, and asks for the name. A machine that has taken a register over
-    has one of the same name as the first: what differs is the machine, and mostly the site."""
+    """Shows what will be deleted, and has it confirmed."""
     places = (register.folder, register.copies, *folders_of(register), register.settings)
     for it in places:
         count, size = office_delete.counted([it])
         print(f"{it}: {count} files, {size:,} bytes")
     if given.second_place and (there := office_delete.second_place(register)):
         print(f"{there}: all of it, at the second place")
-    if given.yes:
-        return
-    if not sys.stdin.isatty():
-        raise Refused("nothing was deleted: without a terminal --yes confirms", 2)
-    print(f"This is the machine {socket.gethostname()}, where {register.name} has"
-          f" {f'the site {register.host}' if register.host else 'no site'}.")
-    print("Type the name of the register to delete all of it: ", end="", flush=True)
-    if sys.stdin.readline().strip() != register.name:
-        raise Refused("nothing was deleted: another name was typed")
+    answers.confirm_name(register, "delete all of it", given.yes)
 
 
 def retired(register: Register, given: argparse.Namespace) -> dict[str, str]:
@@ -140,7 +128,7 @@ def retired(register: Register, given: argparse.Namespace) -> dict[str, str]:
     # (what is left of an earlier deletion is deleted under its day)
     is_left = is_begun(before) or not register.file.exists()
     day = (deletion.day_in(before) if is_left else None) or deletion.today()
-    about = {"by": people.teller(), **({"early": given.early} if given.early else {})}
+    about = {"by": answers.teller(), **({"early": given.early} if given.early else {})}
 
     def remaining(_: Register) -> str:
         return at_second_place(register) if given.second_place else (
@@ -168,17 +156,16 @@ def stop(register: Register) -> None:
     them open and asks for more. Where systemd does not run, nothing does.
     """
     if is_booted():
-        call(tool("systemctl", "systemd"), "disable", "--now", *office_units(register))
+        serving.systemctl("disable", "--now", *serving.office_units(register))
         office_delete.stop(register)
 
 
 def keep_in(register: Register) -> None:
     """Takes back the right of its application to the network, which a later register of this name
     would have."""
-    if os.path.lexists(setup.outside_of(register)):
-        setup.keep_in(register)
-        if is_booted():
-            call(tool("systemctl", "systemd"), "daemon-reload")
+    if os.path.lexists(network.outside_of(register)):
+        network.keep_in(register)
+        serving.systemctl("daemon-reload")
 
 
 def remove_site(register: Register) -> None:
@@ -210,7 +197,7 @@ def at_second_place(register: Register) -> str:
                         second_copy.SSH, f"{place}/{register.name}/", as_user=USER).stdout
         return remains if len(left.splitlines()) > 1 else ""
     except Refused as error:
-        print(f"admissions-retire: the second place: {error}", file=sys.stderr)
+        print(f"admissions-admin retire: the second place: {error}", file=sys.stderr)
         return remains
 
 

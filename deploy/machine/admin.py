@@ -1,0 +1,115 @@
+"""Does what an administrator of this machine does, by a verb for each task.
+
+  admissions-admin VERB ..
+  admissions-admin VERB --help
+
+NAME, the name of a register, may be left out if the machine has one register.
+Each verb looks before it acts, and refuses with a reason. A change of what is
+there is shown, and is done after a yes on the terminal, or with --yes. What is
+final wants the name of the register typed. One verb at a time changes
+something, and the journal has who typed it, as admissions-admin. A verb that
+was interrupted goes on when it is typed again.
+
+exit status: 0 done; 1 not or not wholly done, and the line says why: correct
+that and type it again; 2 wrong arguments. That of `status` is in its help.
+"""
+import argparse
+import contextlib
+import importlib
+import os
+import shlex
+import sys
+import syslog
+import typing
+
+from office import run
+from register_files import Refused
+
+from . import answers, files
+
+
+class Verb(typing.NamedTuple):
+    """What a verb does, in the list of the help; and whether it only looks."""
+
+    text: str
+    looks: bool = False
+
+
+VERBS = {
+    "setup": Verb("make a register with its site, or what is missing of one"),
+    "people": Verb("list, add, change or remove people; draw new passwords"),
+    "accounts": Verb("sign people in by the accounts of the authority"),
+    "holidays": Verb("replace the holidays of a register that is still empty"),
+    "site": Verb("give the site another name"),
+    "request": Verb("print a request for a certificate, for a CA to sign"),
+    "certificate": Verb("take the certificate of the site that a CA has signed"),
+    "sites": Verb("make all sites again, after a change of their template"),
+    "status": Verb("report how the registers are", looks=True),
+    "history": Verb("show the copies of the history, and mend one that was changed"),
+    "takeover": Verb("go on with a register of a machine that is lost"),
+    "retire": Verb("delete a register for good, when its season is over"),
+}
+
+
+def module_of(verb: str) -> run.Command:
+    """The module of a verb. The others are not loaded: what they need may be missing."""
+    name = f"machine.verbs.{verb.replace('-', '_')}"
+    return typing.cast(run.Command, importlib.import_module(name))
+
+
+def reader_of(called: str, words: list[str]) -> argparse.ArgumentParser:
+    """The reader of the arguments, with those of the verb that is typed."""
+    reader = run.parser_of(called, __doc__)
+    verbs = reader.add_subparsers(dest="verb", metavar="VERB", required=True, title="verbs")
+    for name, verb in VERBS.items():
+        of_verb = verbs.add_parser(
+            name, help=verb.text, formatter_class=run.Help, allow_abbrev=False)
+        if words[:1] == [name]:
+            module = module_of(name)
+            of_verb.description = module.__doc__
+            module.arguments(of_verb)
+    return reader
+
+
+def main(called: str) -> int:
+    """Runs the verb that is typed, and returns the exit status."""
+    words = sys.argv[1:]
+    verb = VERBS.get(words[0]) if words else None
+
+    def work() -> int:
+        try:
+            given = reader_of(called, words).parse_args()
+        except SystemExit:
+            # (the help was printed)
+            sys.stdout.flush()
+            raise
+        module = module_of(given.verb)
+        if verb and verb.looks:
+            status = module.main(given)
+        else:
+            status = changed(words, lambda: module.main(given))
+        sys.stdout.flush()
+        return status
+
+    return run.ended(f"{called} {words[0]}" if verb else called, work)
+
+
+def changed(words: list[str], work: typing.Callable[[], int]) -> int:
+    """Does what changes something: as root, alone, and with two lines in the journal."""
+    if os.geteuid() != 0:
+        raise Refused("only root can do this")
+    with files.lock(), in_journal(f"{answers.teller()}: {shlex.join(words)}"):
+        return work()
+
+
+@contextlib.contextmanager
+def in_journal(text: str) -> typing.Iterator[None]:
+    """Has the journal say who began what, and how it ended."""
+    syslog.openlog("admissions-admin", facility=syslog.LOG_AUTHPRIV)
+    syslog.syslog(f"{text}: begun")
+    try:
+        yield
+    except BaseException as error:
+        syslog.syslog(syslog.LOG_WARNING, f"{text}: {error or type(error).__name__}")
+        raise
+    syslog.syslog(f"{text}: ended")
