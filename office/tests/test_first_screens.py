@@ -115,8 +115,8 @@ def test_a_first_screen_has_what_its_person_did(office: Site) -> None:
     """And nobody else."""
     ada, ben = (office.browser(it, "administrator") for it in ("ada", "ben"))
     office.parts.history.add("ada", "added", {"person": "newcomer", "role": "officer"})
-    assert '<bdi>Added</bdi>' in ada.get("/").text
-    assert '<bdi>Added</bdi>' not in ben.get("/").text
+    added = "<bdi>Added the account newcomer as officer</bdi>"
+    assert added in ada.get("/").text and added not in ben.get("/").text
 
 
 def test_a_copy_that_is_too_old_is_named_on_each_screen(

@@ -173,6 +173,25 @@ def test_the_first_screen_says_how_the_season_stands(office: Site) -> None:
         ["2", "1", "1", "2"], ["1", "1", "0", "2"]]
 
 
+def test_what_colleagues_did_is_in_the_words_of_activity(office: Site) -> None:
+    """Each by itself; several of one kind are one line, with their number."""
+    jane = office.browser("jane", "officer")
+    history = office.parts.history
+    for child, school in ((1, "A"), (2, "A"), (3, "B")):
+        command = {"cmd": "accept", "child": child, "school": school}
+        sent = history.add("jane", "sends", {"command": command})
+        history.add("jane", "answer", {"of": sent.number, "answer": {"done": True}})
+    history.add("jane", "took a file", {"of": "the list All children"})
+    history.add("jane", "added a note", {"child": 4, "note": 1})
+    page = jane.get("/").text
+    card = page[page.index('<section class="card " id="work"'):].split("</section>")[0]
+    shown = [html.unescape(it) for it in re.findall("<bdi>(.*?)</bdi>", card)]
+    assert shown == ["Added a note on Dai O'Dare (4)", "Downloaded the list All children",
+                     "Recorded answers", "3 in a row"]
+    activity = html.unescape(jane.get("/activity/").text)
+    assert shown[0] in activity and shown[1] in activity
+
+
 def test_every_list_of_the_office_is_there(office: Site, monkeypatch: pytest.MonkeyPatch) -> None:
     """But for a child's own screen, the search, and the line for a terminal; none says how a
     terminal has it.

@@ -206,7 +206,7 @@ def test_another_list_is_tried(office: Site, number: int, given: dict[str, str],
     fields = "&".join(f"{name}={code}" for name, code in given.items())
     page = Page(rita.get(f"/children/{number}/what-if/1?{fields}&what=list").text)
     assert said in page.said()
-    chosen = page.form("What would it have got by this list?").values
+    chosen = page.form("What would the child have got by this list?").values
     assert {name: it[0] for name, it in chosen.items()} == given
     assert register(office) == before
 

@@ -61,7 +61,7 @@ GROUPS: dict[str, tuple[Screen, ...]] = {
         Screen("draws.show", "Draws", READ, ("draws",)),
         Screen("lots.show", "Lots", OF_LOTS, ("lots",)),
         Screen("answers.show", "Answers", RECORD, ("answers", "answers_of")),
-        Screen("notices.show", "Reminders", READ, ("notices",)),
+        Screen("notices.show", "Reminders and withdrawals", READ, ("notices",)),
         Screen("letters.show", "Letters", READ, ("letters",))),
     "Reports": (
         Screen("lists.show", "Lists", READ, ("lists",)),

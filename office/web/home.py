@@ -10,9 +10,10 @@ from typing import Any
 from office import days, model, register_lists, texts
 from office.model import Register, School
 
-from . import pictures, worklists
+from . import entry_words, pictures, worklists
 from .copies import Behind
 from .draws_terms import Draw
+from .entry_words import Names
 from .history import ANSWER, SENDS, SETTLED, Entry
 from .kinds import KINDS
 from .letters_whom import OFFERS, PART
@@ -266,36 +267,28 @@ NO_WORK = (ANSWER, SETTLED, "signed in", "signed out", "refused", "records a pil
 LOOKED_AT, SHOWN = 500, 5
 
 
-def work(entries: Sequence[Entry]) -> list[dict[str, str]]:
-    """What was done last, the last first: what one person did one after another is one line."""
+def work(entries: Sequence[Entry], names: Names) -> list[dict[str, str]]:
+    """What was done last, the last first, in the words of Activity: what one person did one after
+    another is one line.
+    """
     found = [it for it in entries[-LOOKED_AT:] if it.what not in NO_WORK]
     rows = []
-    for (title, who, _), group in itertools.groupby(reversed(found), key=line_of):
+    for (title, who, _), group in itertools.groupby(
+            reversed(found), key=lambda it: line_of(it, names)):
         same = list(group)
-        rows.append({"at": same[0].at, "when": moment(same[0].at), "who": who, "what": title,
-                     "more": about(same), "kind": "info"})
+        is_one = len(same) == 1
+        rows.append({"at": same[0].at, "when": moment(same[0].at), "who": who, "kind": "info",
+                     "what": entry_words.title_of(same[0], names) if is_one else title,
+                     "more": "" if is_one else f"{len(same):,} in a row"})
         if len(rows) == SHOWN:
             break
     return rows
 
 
-def line_of(it: Entry) -> tuple[str, str, str]:
+def line_of(it: Entry, names: Names) -> tuple[str, str, str]:
     """What is said of an entry, by whom it is, and its day: entries with the same are one line."""
-    if it.what != SENDS:
-        return it.what[:1].upper() + it.what[1:], it.who, it.at[:10]
-    kind = KINDS.get(it.about.get("command", {}).get("cmd", ""))
-    title = kind.deeds if kind else "Sent a line to the register"
-    if "import" in it.about:
-        title = "Added applications to the register"
-    return title, it.who, it.at[:10]
-
-
-def about(entries: Sequence[Entry]) -> str:
-    """How many entries of one line there are, or whom the only one is about."""
-    if len(entries) > 1:
-        return f"{len(entries):,} in a row"
-    found = entries[0].about.get("command", entries[0].about)
-    return f"Child {found['child']}" if "child" in found else str(found.get("for", ""))
+    kind = KINDS.get(it.about.get("command", {}).get("cmd", "")) if it.what == SENDS else None
+    return kind.deeds if kind else entry_words.title_of(it, names), it.who, it.at[:10]
 
 
 # -------------------------------------------------------------------------- how the season stands

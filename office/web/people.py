@@ -217,8 +217,8 @@ class People:
         if found and found["many"]:
             have = texts.count(found["many"], "answer")
             raise Refused(f"{name} has {have} in a batch that nobody has recorded, which would be"
-                          f" lost: whoever records answers takes them over first, on the screen"
-                          f" Answers. {name} can be locked")
+                          f" lost: another officer takes them over first, on the screen Answers."
+                          f" {name} can be locked")
 
     def remove(self, name: str) -> None:
         """Removes a person. What they did stays in the history."""

@@ -36,7 +36,7 @@ def figures(office: Office) -> None:
     report.step("figures of the first round")
     got = outcome(before)
     hal.open("/")
-    hal.press("Published figures")
+    hal.press("Figures")
     hal.pick("Round", "round 1", "round 1")
     hal.press_by_keys("Make the figures, and show them")
     hal.see(f"of {len(got)} children who took part")
@@ -119,7 +119,7 @@ def question(office: Office) -> None:
     got = other.round(before.lots, before.day)[child]
     for at, _ in enumerate(season.lists[child][1:], 1):
         rita.pick(f"{NTH[at].capitalize()} preference", "no school", "no s")
-    rita.press_by_keys("What would it have got by this list?")
+    rita.press_by_keys("What would the child have got by this list?")
     rita.look("What another list would have given")
     meant = f"a place at {NAMES[got]} ({got}), its first preference" if got else "no place"
     rita.see(f"By the list {first}: {meant}.")

@@ -9,9 +9,10 @@ from register_files import Refused
 from office import texts
 from office.model import Register
 
-from .. import doubts, first_screens, frame, guard, home, pictures, worklists
+from .. import doubts, first_screens, flags, frame, guard, home, pictures, worklists
 from ..draws_page import who_may
 from ..draws_terms import CONFIRMED, Draw
+from ..entry_words import Names
 from ..first_screens import First
 from ..guard import SIGNED_IN, needs, parts, person
 from ..home import Known, Task
@@ -110,7 +111,8 @@ def page(found: Register, draw: Draw | None) -> dict[str, Any]:
         "met": bars([
             (list_of(words, state) if many else words, many, kind) for words, state, many, kind in
             zip(home.RANKS, (*worklists.MET, NONE), met, home.RANK_KINDS)]) if found.draws else [],
-        "work": home.work(parts().history.entries) if person().may(NOTES) else [],
+        "work": home.work(
+            parts().history.entries, Names(found, flags.present())) if person().may(NOTES) else [],
         "form": form_of(found), "acts": acts(found),
     }
 
@@ -152,7 +154,7 @@ def first_page() -> str:
         tasks=[(title, [linked(it) for it in rows]) for title, rows in home.grouped(found.tasks)],
         done=[linked(it) for it in found.done],
         dates=home.dates(register, day, False) if register else [],
-        work=home.work([it for it in history if it.who == who.name]))
+        work=home.work([it for it in history if it.who == who.name], Names()))
 
 
 def first_of(who: Person, register: Register | None, day: datetime.date) -> First:
