@@ -18,6 +18,7 @@ from office.web.people import Person
 # their own without the frame
 NO_SCREENS = ("file", "icon", "health", "register", "help", "static")
 LINK, IMAGE = re.compile(r"(?<!!)\[[^]]*\]\(([^)]*)\)"), re.compile(r"!\[[^]]*\]\(([^)]*)\)")
+MACHINE = re.compile(r"admissions-\w+|/var/|/etc/|\broot\b|\bsudo\b|\.db\b|systemctl")
 ADDRESS, SOURCE = re.compile(r'href="(/help[^"]*)"'), re.compile(r'<img [^>]*src="([^"]*)"')
 
 
@@ -94,8 +95,7 @@ def test_each_link_and_picture_of_a_topic_is_there(jane: Browser) -> None:
 
 def test_no_topic_names_a_command_a_path_or_a_user_of_the_machine() -> None:
     for it in topics.topics().values():
-        found = re.findall(r"admissions-\w+|/var/|/etc/|\broot\b|\bsudo\b|systemctl", it.text)
-        assert not found, it.name
+        assert not MACHINE.findall(it.text), it.name
 
 
 @pytest.mark.parametrize("words, name", [
