@@ -21,7 +21,9 @@ from conftest import ROOT
 from pages import Page, press
 from register_files import Refused
 
-from office.web import attempts, guard, history, letters_whom, people, serve, store, uploads
+from office.web import (
+    attempts, guard, history, letters_whom, list_views, people, serve, store, uploads,
+)
 from office.web.screens import people as people_screen
 
 ACCEPT = {"cmd": "accept", "child": 1, "school": "A"}
@@ -111,6 +113,30 @@ def test_each_view_says_which_right_it_needs(office: Site) -> None:
     office.app.view_functions["forgotten"] = lambda: ""
     with pytest.raises(RuntimeError, match="without a right: forgotten"):
         guard.guarded(office.app)
+
+
+def test_what_needs_no_right_is_on_record_a_hundred_times_an_hour(office: Site) -> None:
+    """Of a person, whatever is asked for: a loop over all addresses would fill the disk, and the
+    memory of the application with it.
+    """
+    sup, rita = office.browser("sup", "supervisor"), office.browser("rita", "reader")
+    moment = [0.0]
+    office.app.extensions["few"].clock = lambda: moment[0]
+
+    def recorded(*kinds: str) -> int:
+        return sum(it.what in kinds for it in office.parts.history.entries)
+
+    for number in range(1, 130):
+        assert sup.get(f"/children/{number}").status_code == 403
+    assert recorded("refused") == 100
+    for at in range(80):
+        found = rita.post("/lists/children/save", {"title": "mine", "query": f"find={at}"})
+        assert found.status_code == 303
+        [view] = list_views.Views(office.parts.store).of("rita")
+        assert rita.post(f"/lists/views/{view.number}/remove").status_code == 303
+    assert recorded("saved a view", "removed a view") == 100
+    moment[0] += 3601
+    assert sup.get("/children/200").status_code == 403 and recorded("refused") == 101
 
 
 def test_a_refusal_is_on_record_once_in_a_while(office: Site) -> None:

@@ -1,4 +1,5 @@
 """Who asks, and whether they may: sessions, tokens, rights, requests of other sites, headers."""
+import contextlib
 import datetime
 import json
 import re
@@ -44,6 +45,8 @@ HEADERS = {
 }
 # a person who tries what is not theirs is on record once in so many seconds for each address
 REFUSED_SECONDS = 60
+# and what anybody may do who is signed in so often within so many seconds
+MOST_FEW, FEW_SECONDS = 100, 3600
 # what is for programs with a token, and for nobody else: the register's own answers
 OF_PROGRAMS = {f"register.{it}" for it in (
     "register", "draw", "read", "pairs", "waiting", "command", "rows", "question")}
@@ -176,6 +179,32 @@ class Recent:
             return is_due
 
 
+class Few:
+    """How often somebody did in an hour what needs no more right than a sign-in: who does it in a
+    loop fills neither the disk nor the memory with what is on record of it.
+    """
+
+    def __init__(self, clock: Callable[[], float] = time.monotonic) -> None:
+        self.lock, self.clock = threading.Lock(), clock
+        self.counts: dict[str, tuple[float, int]] = {}
+
+    def is_one(self, name: str) -> bool:
+        """Whether this is one of the few that are to be on record."""
+        moment = self.clock()
+        with self.lock:
+            began, count = self.counts.get(name, (moment, 0))
+            if moment - began > FEW_SECONDS:
+                began, count = moment, 0
+            self.counts[name] = began, count + 1
+            return count < MOST_FEW
+
+
+def record_few(what: str, **about: Any) -> None:
+    """Records what the person did, if that is one of few."""
+    if cast(Few, flask.current_app.extensions["few"]).is_one(person().name):
+        record(what, **about)
+
+
 def again(status: int, reason: str) -> AnyResponse | None:
     """The answer that keeps what was typed on a page of this site, so that it can be sent again; or
     None where there is nothing. No password is in it.
@@ -263,10 +292,8 @@ def refused(found: Person, reason: str = "") -> None:
     path = f"{request.method} {request.path[:80]}"
     refusals: Recent = flask.current_app.extensions["refusals"]
     if refusals.is_new(found.name, path):
-        try:
-            parts().history.add(found.name, "refused", {"asked": path, "role": found.role})
-        except Refused:
-            pass
+        with contextlib.suppress(Refused):
+            record_few("refused", asked=path, role=found.role)
     who = "a program" if found.is_program else f"the role {found.role}"
     flask.abort(403, reason or f"{who} may not do this")
 
@@ -366,6 +393,7 @@ def guarded(app: flask.Flask) -> None:
     """Guards an application. Each of its views says which right it needs."""
     app.extensions["refusals"] = Recent(REFUSED_SECONDS)
     app.extensions["exports"] = Recent(EXPORT_SECONDS)
+    app.extensions["few"] = Few()
     app.extensions["watch"] = Watch()
     app.before_request(see)
     app.after_request(headers)

@@ -278,7 +278,7 @@ def save(name: str) -> Answer:
         views().save(person().name, title, name, address)
     except Refused as error:
         return page(found, "", sentence(str(error)), 422, title)
-    guard.record("saved a view", view=title, list=name)
+    guard.record_few("saved a view", view=title, list=name)
     return flask.redirect(flask.url_for("lists.show", said="saved"), 303)
 
 
@@ -290,5 +290,5 @@ def remove(number: int) -> Answer:
         title = views().remove(person().name, number)
     except Refused as error:
         return index(sentence(str(error)), True), 409
-    guard.record("removed a view", view=title)
+    guard.record_few("removed a view", view=title)
     return flask.redirect(flask.url_for("lists.show", said="removed"), 303)
