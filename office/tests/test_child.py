@@ -3,6 +3,7 @@ history.
 """
 import datetime
 import pathlib
+import tracemalloc
 from collections.abc import Callable, Iterator
 from types import SimpleNamespace
 from typing import Any
@@ -470,6 +471,23 @@ def test_what_is_asked_about_is_kept_within_limits() -> None:
     for at in range(MOST_KEPT + 1):
         kept.keep(jane, f"/{at}", MultiDict({"name": "x", "form": "secret"}))
     assert kept.find(jane, "/0") is None and kept.find(jane, "/1") == MultiDict({"name": "x"})
+
+
+def test_what_is_kept_takes_no_more_than_its_characters() -> None:
+    """Somebody has a form of as many fields as may be kept at one address after another: as objects
+    those of all addresses would take a gigabyte.
+    """
+    kept, jane = Asked(), Person("jane", "officer", form="1")
+    form = MultiDict([(f"c{it}", str(it)) for it in range(17_000)])
+    tracemalloc.start()
+    try:
+        for at in range(10):
+            kept.keep(jane, f"/{at}", form)
+        taken = tracemalloc.get_traced_memory()[0]
+    finally:
+        tracemalloc.stop()
+    assert kept.find(jane, "/0") == kept.find(jane, "/9") == form
+    assert taken < 2 * 10 * MOST_CHARACTERS
 
 
 def test_the_point_of_a_home_is_not_put_together_from_two(office: Site) -> None:

@@ -21,7 +21,8 @@ class Asked:
 
     def __init__(self) -> None:
         self.lock = threading.Lock()
-        self.kept: dict[tuple[str, str], tuple[str, Typed]] = {}
+        # (as texts: the fields of a long list are many objects)
+        self.kept: dict[tuple[str, str], tuple[str, str]] = {}
 
     def keep(self, who: Person, path: str, typed: Typed) -> str:
         """Keeps what was typed into the form at a path, and returns its digest."""
@@ -31,7 +32,7 @@ class Asked:
         with self.lock:
             self.kept.pop((who.form, path), None)
             if len(text) <= MOST_CHARACTERS:
-                self.kept[who.form, path] = digest, MultiDict(pairs)
+                self.kept[who.form, path] = digest, text
             for key in list(self.kept)[:-MOST_KEPT]:
                 del self.kept[key]
         return digest
@@ -40,7 +41,7 @@ class Asked:
         """What was typed last into a form, or what has a digest."""
         with self.lock:
             found = self.kept.get((who.form, path))
-        return found[1] if found and digest in ("", found[0]) else None
+        return MultiDict(json.loads(found[1])) if found and digest in ("", found[0]) else None
 
     def forget(self, who: Person, path: str) -> None:
         """Keeps it no longer."""
