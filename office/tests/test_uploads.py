@@ -61,12 +61,19 @@ def test_a_file_of_a_child_has_at_most_five_million_bytes(jane: Browser) -> None
         assert jane.post("/children/1/files", given).status_code == status, size
 
 
-@pytest.mark.parametrize("path, most", [
-    ("/applications/gazetteer/file", (64 << 20) + 65_536), ("/answers/several", 16 << 20)])
-def test_a_body_that_is_too_long_is_refused(jane: Browser, path: str, most: int) -> None:
-    """A gazetteer has at most 64 MiB, with what its form has beside it; all others 16."""
+@pytest.mark.parametrize("role, path, most", [
+    ("officer", "/applications/gazetteer/file", (64 << 20) + 65_536),
+    ("officer", "/answers/several", 16 << 20),
+    ("reader", "/applications/gazetteer/file", 16 << 20)])
+def test_a_body_that_is_too_long_is_refused(
+    office: Site, role: str, path: str, most: int
+) -> None:
+    """A gazetteer has at most 64 MiB, with what its form has beside it, of who may send one; all
+    others 16.
+    """
+    browser = office.browser(f"a-{role}", role)
     for length, is_too_much in ((most + 1, True), (most, False)):
-        found = jane.client.post(
+        found = browser.client.post(
             path, base_url=ORIGIN, headers={"Origin": ORIGIN}, data=bytes(length),
             content_type="multipart/form-data; boundary=x")
         assert (found.status_code == 413) is is_too_much, (path, length)

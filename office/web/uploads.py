@@ -17,6 +17,7 @@ from office.model import Register
 from office.sheet import Row
 
 from . import gazetteer_rows, plain
+from .people import RECORD, Person
 
 # (what a browser says of its name is not needed, and may be anything)
 NAME = "the file"
@@ -72,9 +73,12 @@ class Request(flask.Request):
     @property
     def max_content_length(self) -> int | None:
         """How many bytes its body has at most."""
-        if not flask.g.get("person"):
+        found: Person | None = flask.g.get("person")
+        if not found:
             return NOBODY_BYTES
-        return MOST_LARGE if self.path == LARGE else super().max_content_length
+        # (the body is read before it is refused what the person may not do)
+        is_large = self.path == LARGE and found.may(RECORD)
+        return MOST_LARGE if is_large else super().max_content_length
 
     @max_content_length.setter
     def max_content_length(self, value: int | None) -> None:
