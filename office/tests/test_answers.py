@@ -269,7 +269,8 @@ def test_the_same_pile_is_not_recorded_twice(office: Site) -> None:
     with pytest.raises(Exception, match="is being recorded already"):
         found.record(Person("jane", "officer"), entries, 0)
     held.set()
-    found.running["jane"].join(20)
+    job = office.parts.jobs.last("answer jane")
+    assert job and job.is_over.wait(20)
     assert [it["child"] for it in sent(office)] == [11, 12, 13]
 
 
@@ -314,7 +315,8 @@ def test_an_application_that_ends_in_the_middle_goes_on(tmp_path: pathlib.Path) 
                 return answer
 
             setattr(sender, "send", ends)
-            record(jane, page, "Record 4 answers")
+            with pytest.raises(SystemExit):
+                record(jane, page, "Record 4 answers")
             states = [it.state for it in screen_piles(office).of("jane")]
             assert states == ["done", "done", "sending", "waits"]
         with site(tmp_path, address) as office:
@@ -335,7 +337,8 @@ def test_an_application_that_ends_in_the_middle_goes_on(tmp_path: pathlib.Path) 
                 raise SystemExit
 
             setattr(sender, "send", lost)
-            record(jane, page, "Record 1 answer")
+            with pytest.raises(SystemExit):
+                record(jane, page, "Record 1 answer")
         with site(tmp_path, address) as office:
             office.passwords["jane"] = "jane of the office"
             jane = office.browser("jane")

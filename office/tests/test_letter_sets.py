@@ -26,6 +26,7 @@ from office.web import letters_audits, letters_sets, letters_whom, people, rehea
 from office.web.draws_store import DrawStore
 from office.web.draws_terms import AUDITED
 from office.web.history import History, now
+from office.web.jobs import Jobs
 from office.web.letters_audits import Audits
 from office.web.letters_sets import Asked, Sets
 from office.web.letters_templates import Templates
@@ -49,7 +50,7 @@ class Office:
         self.templates = Templates(self.store, self.history)
         assert self.templates.standard() == 1
         self.sets = Sets(self.store, self.history, self.desk, mock.MagicMock(), self.templates,
-                         mock.MagicMock(), folder / "letters")
+                         mock.MagicMock(), folder / "letters", Jobs())
 
     def add(self, state: str, **columns: object) -> int:
         """A set in a state."""
@@ -95,13 +96,11 @@ def test_a_set_that_was_ended_before_its_turn_stays_ended(office: Office) -> Non
 
 
 def test_letters_go_on_after_the_store_has_failed(office: Office) -> None:
-    """The thread that made them ended with the error: another one goes on."""
+    """The job that made them ended with the error: another one goes on."""
     stored = office.sets.change
-    silent = mock.patch.object(threading, "excepthook", lambda _: None)
-    with silent, mock.patch.object(
-            office.sets, "change", side_effect=Refused("the disk is full")):
+    with mock.patch.object(office.sets, "change", side_effect=Refused("the disk is full")):
         one = office.sets.ask(JANE, "one", ASKED)
-        waited(lambda: not (office.sets.thread and office.sets.thread.is_alive()))
+        waited(lambda: not office.sets.jobs.is_running("letters"))
         assert office.sets.get(one).state == letters_sets.WAITS
     assert office.sets.change == stored
     other = office.sets.ask(JANE, "two", dataclasses.replace(ASKED, words="Others"))

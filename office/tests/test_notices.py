@@ -381,7 +381,8 @@ def test_a_row_that_runs_says_so_while_the_register_is_away(
     assert page.status_code == 200 and f'id="row" data-running="{row}">' in page.text
     assert "0 of 2 reminders recorded. The rest is being recorded" in page.text
     may_end.set()
-    office.app.extensions["notices"].running[row.rsplit("/", 1)[1]].join(600)
+    job = office.parts.jobs.last(f'notice {row.rsplit("/", 1)[1]}')
+    assert job and job.is_over.wait(600)
     monkeypatch.setattr(office.parts.desk, "register", read)
     page = jane.get(row).text
     assert "2 of 2 reminders recorded." in page and "is being recorded" not in page
@@ -480,7 +481,8 @@ DAY = datetime.date(2025, 3, 18)
 def row_of(office: Site, *children: int) -> tuple[notices.Notices, int]:
     """A row of reminders of these children, of which none is recorded."""
     found = notices.Notices(
-        office.parts.store, office.parts.desk, office.parts.copies, lambda *_: None)
+        office.parts.store, office.parts.desk, office.parts.jobs, office.parts.copies,
+        lambda *_: None)
     chosen = [notices.Due(it, "ELM", NAMES[it], {}, "{}") for it in children]
     return found, found.add(JANE, "one", notices.REMIND, DAY, chosen)
 

@@ -15,6 +15,7 @@ from office import senders
 from office.web import desk, kinds
 from office.web.desk import Command
 from office.web.history import ANSWER, History
+from office.web.jobs import Jobs
 from office.web.outbox import DONE, FAILED, WAITS, Item, Outbox
 from office.web.people import Person
 from office.web.store import Store
@@ -78,7 +79,7 @@ def alive(
     with pytest.MonkeyPatch.context() as patch:
         patch.setattr(record, "write", life.around(record.write))
         patch.setattr(sender, "send", life.around(sent))
-        found = Rows(store, desk.Desk(sender, record))
+        found = Rows(store, desk.Desk(sender, record), Jobs())
         patch.setattr(found, "begin", life.around(found.begin))
         patch.setattr(found, "change", life.around(found.change))
         try:

@@ -643,7 +643,8 @@ def test_a_pile_that_is_being_recorded_stops_and_keeps_its_rest(
         office.parts.copies.make("a try", "hal")
         office.add("jane", "officer")
         desk, found = office.parts.desk, office.parts.restores
-        piles, real = Piles(office.parts.store, desk, office.parts.copies), desk.request
+        piles = Piles(office.parts.store, desk, office.parts.jobs, office.parts.copies)
+        real = desk.request
         piles.add("jane", desk.now(), [Meant(str(it), "name_plan", it, "ELM") for it in (1, 2, 3)])
 
         def send(*given: Any) -> Result:

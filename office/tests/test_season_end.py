@@ -680,7 +680,7 @@ def test_letters_previews_and_trials_end_with_the_season(
                              (letters_sets.PREVIEWS, preview)):
             (own / folder / name).parent.mkdir(exist_ok=True)
             (own / folder / name).write_text("of Ada Abel")
-        office.parts.trials.runs[1] = Run(1, "hal", history.now(), [], Program(PROGRAM, 1))
+        office.parts.trials.runs[1] = Run(1, [], Program(PROGRAM, 1))
         assert head.browser.get("/letters/templates/preview.pdf").text == "of Ada Abel"
         jane.press("confirm", name=NAME)
         see_forgotten(office, office.parts.history.entries[0].about["digest"], 4)

@@ -56,7 +56,7 @@ def ended(office: Site, answer: Any) -> Run:
     """The trial of an answer, when it is over."""
     assert answer.status_code == 303, answer.text
     run = office.parts.trials.get(int(answer.location.rpartition("/")[2]))
-    assert run is not None and run.is_over.wait(PATIENCE)
+    assert run is not None and run.is_over(PATIENCE)
     return run
 
 

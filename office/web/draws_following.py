@@ -1,13 +1,10 @@
 """What follows a step of a draw by itself, as there is nothing to decide in between: the copy and
 the pairs after the close, the rehearsal after the seal, the audit after the draw, and the opening
-after an audit that agrees. Each is on record of its own. A step and what follows it are done in a
-thread, so that a page can say that they run.
+after an audit that agrees. Each is on record of its own. A step and what follows it are a job, so
+that a page can say that they run.
 """
 import contextlib
-import dataclasses
-import logging
 import sqlite3
-import threading
 from collections.abc import Callable
 
 from register_files import Refused
@@ -15,85 +12,61 @@ from register_files import Refused
 from .desk import local
 from .draws import Draws, held_in, see_goes_on
 from .draws_terms import AUDITED, CLOSED, COPIED, FOLLOWED, SEALED, SENDING, Draw
-from .history import now
+from .jobs import BROKEN, Job, Jobs
 from .people import Person
 
-LOG = logging.getLogger(__name__)
 # a request waits so long for the end of what it has begun, and then says that it runs
 WAIT_SECONDS = 4.0
-BROKEN = "an error in the application, which its log has. Tell IT support"
-
-
-@dataclasses.dataclass
-class Work:
-    """A step of a draw with what follows it: who has begun it, at which moment (UTC), and what came
-    of it.
-    """
-
-    number: int
-    who: str
-    at: str
-    is_over: threading.Event = dataclasses.field(default_factory=threading.Event)
-    refused: str = ""
-    error: BaseException | None = None
+# the job of a draw, of which there is one at a time
+DRAW = "draw"
 
 
 class Following:
     """What follows by itself in the draws of one application."""
 
-    def __init__(self, draws: Draws) -> None:
-        self.draws = draws
+    def __init__(self, draws: Draws, jobs: Jobs) -> None:
+        self.draws, self.jobs = draws, jobs
         self.wait = WAIT_SECONDS
-        self.beginning = threading.Lock()
-        self.last: Work | None = None
 
-    def under_way(self) -> Work | None:
+    @property
+    def last(self) -> Job | None:
+        """The last job of a draw."""
+        return self.jobs.last(DRAW)
+
+    def under_way(self) -> Job | None:
         """What runs now, if anything does."""
-        found = self.last
-        return found if found and not found.is_over.is_set() else None
+        return self.last if self.jobs.is_running(DRAW) else None
 
     def refused(self, number: int) -> str:
         """Why the last step of a draw was not done, where its page came before its end; or ""."""
         found = self.last
-        return found.refused if found and found.number == number else ""
+        return found.refused if found and found.about == number else ""
 
-    def begin(self, who: Person, number: int, step: Callable[[], None] | None = None) -> Work:
+    def begin(self, who: Person, number: int, step: Callable[[], None] | None = None) -> None:
         """Begins a step with what follows it, or only that, and waits some seconds for its end.
         What is refused until then is raised here.
         """
         if present := self.under_way():
             present.is_over.wait(self.wait)
-        with self.beginning:
-            if present := self.under_way():
-                raise Refused(f"a step is under way, which {present.who} began at"
-                              f" {local(present.at)}. Nothing else was done")
-            work = self.last = Work(number, who.name, now())
-            threading.Thread(target=self.work, args=(work, who, step), daemon=True).start()
-        if not work.is_over.wait(self.wait):
-            return work
-        if work.error:
-            work.refused = ""
-            raise work.error
-        return work
+        if not self.jobs.run(DRAW, who.name, lambda: self.work(who, number, step), self.wait,
+                             about=number):
+            present = self.last
+            began = f", which {present.who} began at {local(present.at)}" if present else ""
+            raise Refused(f"a step is under way{began}. Nothing else was done")
 
-    def work(self, work: Work, who: Person, step: Callable[[], None] | None) -> None:
-        """Does a step with what follows it. Whatever hinders it is kept."""
+    def work(self, who: Person, number: int, step: Callable[[], None] | None) -> None:
+        """Does a step with what follows it. An error that nobody knows is kept with the draw."""
         try:
             with self.draws.lock:
                 if step:
                     step()
-                self.after(who, work.number)
-        except Refused as error:
-            work.refused, work.error = str(error), error
-        except BaseException as error:  # pylint: disable=broad-exception-caught
-            # (a thread that ends so would leave a draw of which nobody knows why it waits)
-            work.refused, work.error = BROKEN, error
-            LOG.error("draw %d: %s", work.number, BROKEN, exc_info=error)
-            if isinstance(error, Exception):
-                with contextlib.suppress(Refused, OSError, sqlite3.Error):
-                    self.draws.halted(who, self.draws.get(work.number), BROKEN)
-        finally:
-            work.is_over.set()
+                self.after(who, number)
+        except Refused:
+            raise
+        except Exception:
+            with contextlib.suppress(Refused, OSError, sqlite3.Error):
+                self.draws.halted(who, self.draws.get(number), BROKEN)
+            raise
 
     def after(self, who: Person, number: int) -> None:
         """Goes on after a step that a person has done, until somebody has to decide. What cannot be

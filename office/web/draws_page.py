@@ -17,7 +17,6 @@ from .draws import case_of, held_in, next_state
 from .draws_cancel import Way
 from .draws_changes import Change
 from .draws_decision import Decision, Known, decision
-from .draws_following import Work
 from .draws_outcome import Whole, whole
 from .draws_second import Case, Second
 from .draws_shown import Grouped
@@ -27,6 +26,7 @@ from .draws_terms import (
 )
 from .guard import parts, person
 from .history import ANSWER, SENDS, SETTLED
+from .jobs import Job
 from .people import CONFIRM, DRAW, LOTS, NOTES, PERSON, Person
 from .wording import moment, sentence
 
@@ -55,7 +55,7 @@ class Seen:
 
     draw: Draw
     register: Register | None
-    work: Work | None
+    work: Job | None
     standing: int
     state: str
 
@@ -65,7 +65,7 @@ class Seen:
         return draws_words.name_of(self.draw.terms, self.register)
 
 
-def seen(draw: Draw, register: Register | None, work: Work | None) -> Seen:
+def seen(draw: Draw, register: Register | None, work: Job | None) -> Seen:
     """A draw as it is now."""
     standing = held_in(register, draw) if register and draw.state in SENT else 0
     # (the same state of a row that is not held to its end)

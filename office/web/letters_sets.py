@@ -28,6 +28,7 @@ from . import flags, letters_sender, letters_whom, plain
 from .copies import Copies
 from .desk import Desk
 from .history import History, now
+from .jobs import Jobs
 from .letters_addresses import Addresses
 from .letters_audits import Audits, announced
 from .letters_sender import Sender
@@ -36,6 +37,8 @@ from .people import Person
 from .store import Store
 
 PDF, MERGE = "pdf", "merge"
+# the job that makes one set after another
+LETTERS = "letters"
 WAITS, RUNS, MADE, FAILED, ENDED, GONE = "waits", "runs", "made", "failed", "ended", "gone"
 BATCH = 50
 # how long a file is kept after it was made, and after it was taken; and letters of which nobody has
@@ -134,14 +137,14 @@ class Sets:
 
     def __init__(
         self, store: Store, record: History, desk: Desk, copies: Copies, templates: Templates,
-        audits: Audits, folder: pathlib.Path,
+        audits: Audits, folder: pathlib.Path, jobs: Jobs,
     ) -> None:
         self.store, self.history, self.desk, self.copies = store, record, desk, copies
+        self.jobs = jobs
         self.templates, self.audits, self.folder = templates, audits, folder
         self.sender, self.addresses = Sender(store, record), Addresses(store, record)
         folder.mkdir(mode=0o700, exist_ok=True)
         self.lock = threading.RLock()
-        self.thread: threading.Thread | None = None
         self.running: dict[int, Running] = {}
         # by a clock that nobody sets: when this application has stored a moment of a set
         self.steady: Callable[[], float] = lambda: time.clock_gettime(time.CLOCK_BOOTTIME)
@@ -316,12 +319,14 @@ class Sets:
     def wake(self) -> None:
         """Begins to make what waits, unless that is going on."""
         self.sweep()
+        if self.next() is not None:
+            self.jobs.wake(LETTERS, self.work, self.close)
+
+    def close(self) -> None:
+        """Ends the processes that make letters: the set goes on when the application does."""
         with self.lock:
-            # (one that the store has failed is gone without a word)
-            is_working = self.thread is not None and self.thread.is_alive()
-            if not is_working and self.next() is not None:
-                self.thread = threading.Thread(target=self.work, daemon=True)
-                self.thread.start()
+            for it in self.running.values():
+                it.end()
 
     def next(self) -> int | None:
         """The first set that is not made yet."""
@@ -331,21 +336,14 @@ class Sets:
 
     def work(self) -> None:
         """Makes one set after another."""
-        while True:
+        while not self.jobs.is_closed:
             with self.lock:
-                try:
-                    number = self.next()
-                except sqlite3.ProgrammingError:
-                    # (the application has ended)
-                    return
+                number = self.next()
                 if number is None:
-                    self.thread = None
                     return
                 self.running[number] = Running()
             try:
                 self.make(number)
-            except sqlite3.ProgrammingError:
-                return
             finally:
                 self.running.pop(number, None)
 
@@ -359,15 +357,15 @@ class Sets:
             state, said = MADE, ""
         except Refused as error:
             state, said = FAILED, str(error)
-        except sqlite3.ProgrammingError:
-            # (the application has ended)
-            raise
         except (OSError, sqlite3.Error) as error:
             state, said = FAILED, f"{plain.reason(error)}. {plain.ADVICE}"
             logging.getLogger(__name__).exception("letters of set %d", number)
         except Exception:  # pylint: disable=broad-except
             state, said = FAILED, BROKEN
             logging.getLogger(__name__).exception("letters of set %d", number)
+        if state == FAILED and self.jobs.is_closed:
+            # (it goes on when the application does)
+            return
         with self.lock:
             is_ended = self.get(number).state == ENDED
             if not is_ended:

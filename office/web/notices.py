@@ -6,6 +6,7 @@ import datetime
 import hashlib
 import json
 import sqlite3
+import threading
 from collections.abc import Callable, Iterable
 from typing import Any
 
@@ -17,6 +18,7 @@ from office.model import Register
 from .copies import Copies
 from .desk import Desk, seen_of
 from .history import now
+from .jobs import Jobs
 from .kinds import NOTICES
 from .notice_marks import Marks, waiting
 from .outbox import DONE, Item, Outbox
@@ -97,9 +99,11 @@ class Notices(Outbox[Item]):
     kind, item = "notice", Item
 
     def __init__(
-        self, store: Store, desk: Desk, copies: Copies, letters: Callable[[Person, int], None],
+        self, store: Store, desk: Desk, jobs: Jobs, copies: Copies,
+        letters: Callable[[Person, int], None],
     ) -> None:
-        super().__init__(store, desk)
+        super().__init__(store, desk, jobs)
+        self.lock = threading.Lock()
         # (and what has the letters of a row made)
         self.copies, self.letters = copies, letters
 
@@ -151,7 +155,7 @@ class Notices(Outbox[Item]):
 
     def record(self, who: Person, number: int, wait: float) -> None:
         """Begins to record what is left of a row, and waits for the end for some seconds."""
-        self.run(number, wait, lambda: self.send_all(who, number))
+        self.jobs.run(self.job(number), who.name, lambda: self.send_all(who, number), wait)
 
     def send_all(self, who: Person, number: int) -> None:
         """Copies the register where that was not done, and sends one after another, until the end
@@ -171,9 +175,6 @@ class Notices(Outbox[Item]):
                 self.write(who, number)
         except Refused as error:
             self.change_row(number, "said=?", str(error))
-        except sqlite3.ProgrammingError:
-            # (the application has ended)
-            return
 
     def write(self, who: Person, number: int) -> None:
         """Has the letters of a row made. What is recorded stays so where they cannot be."""

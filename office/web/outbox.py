@@ -5,13 +5,13 @@ import dataclasses
 import json
 import math
 import sqlite3
-import threading
 import time
 from collections.abc import Callable, Iterable, Mapping
 from typing import Any, Generic, TypeVar
 
 from .desk import LOST, UNSENT, Desk, Result, Seen
 from .history import ANSWER, SENDS, Entry
+from .jobs import Jobs
 from .people import Person
 from .records import came_of, ends_of
 from .store import Store
@@ -56,10 +56,8 @@ class Outbox(Generic[It]):
     # what a request is whose command the register has refused
     refused = FAILED
 
-    def __init__(self, store: Store, desk: Desk) -> None:
-        self.store, self.desk = store, desk
-        self.lock = threading.RLock()
-        self.running: dict[str, threading.Thread] = {}
+    def __init__(self, store: Store, desk: Desk, jobs: Jobs) -> None:
+        self.store, self.desk, self.jobs = store, desk, jobs
         self.clock: Callable[[], float] = time.monotonic
 
     def request(self, it: It) -> Request:
@@ -108,32 +106,23 @@ class Outbox(Generic[It]):
 
     def is_running(self, batch: object) -> bool:
         """Whether a batch is being sent."""
-        with self.lock:
-            thread = self.running.get(str(batch))
-            return thread is not None and thread.is_alive()
+        return self.jobs.is_running(self.job(batch))
 
-    def run(self, batch: object, wait: float, work: Callable[[], None]) -> bool:
-        """Begins to send a batch, and waits for the end for some seconds; not if it is being sent
-        already.
-        """
-        with self.lock:
-            if self.is_running(batch):
-                return False
-            thread = self.running[str(batch)] = threading.Thread(target=work, daemon=True)
-            thread.start()
-        thread.join(wait)
-        return True
+    def job(self, batch: object) -> str:
+        """The name of the job by which a batch is sent."""
+        return f"{self.kind} {batch}"
 
     def send(
         self, who: Person, items: Iterable[It], is_closed: bool = False, end: float = math.inf,
     ) -> Result | None:
         """Sends those that wait, one after another, until the end, some moment, or until nothing
-        can be sent: then what came of the last. Also while recording is paused.
+        can be sent: then what came of the last. Also while recording is paused. The application
+        ends after one of them.
         """
         for it in items:
             if it.state != WAITS:
                 continue
-            if self.clock() > end:
+            if self.clock() > end or self.jobs.is_closed:
                 break
             if said := self.why_not(it):
                 self.change(it, FAILED, said)

@@ -16,6 +16,7 @@ from .draws_following import Following
 from .failures import Failures
 from .held_again import HeldAgain
 from .history import History
+from .jobs import Jobs
 from .list_moves import OfCopies
 from .notes import Notes
 from .people import People
@@ -57,7 +58,8 @@ class Parts:
         self.people = People(self.store)
         self.asked = Asked()
         self.notes = Notes(self.store, self.history)
-        self.trials = Trials()
+        self.jobs = Jobs()
+        self.trials = Trials(self.jobs)
         self.held_again = HeldAgain()
         is_socket = config.door.startswith("/")
         sender = senders.Door(config.door) if is_socket else senders.Http(config.door)
@@ -67,9 +69,9 @@ class Parts:
         self.positions = OfCopies(self.copies)
         self.draws = Draws(self.store, self.history, self.desk, self.copies)
         self.lots = Drafts(self.draws)
-        self.following = Following(self.draws)
+        self.following = Following(self.draws, self.jobs)
         self.restores = Restores(
-            self.store, self.history, self.desk, self.copies, self.draws)
+            self.store, self.history, self.desk, self.jobs, self.copies, self.draws)
         self.copy_tests = CopyTests(self.copies, self.draws)
         self.end = SeasonEnd(self)
         self.draws.closed_by_another = lambda: self.end.closed() or self.restores.closed()
@@ -110,6 +112,6 @@ class Parts:
 
     def close(self) -> None:
         """Ends the use of its files, and what is under way."""
-        self.trials.close()
+        self.jobs.close()
         self.store.close()
         self.history.close()

@@ -15,6 +15,7 @@ from . import answers
 from .answers import Entry, Meant, Names
 from .copies import Copies
 from .desk import Desk, Result, seen_of
+from .jobs import Jobs
 from .outbox import DONE, SENDING, WAITS, Outbox, Request
 from .people import Person
 from .safeguard import copied
@@ -68,8 +69,8 @@ class Piles(Outbox[Entry]):
 
     kind, item, refused = "answer", Entry, WAITS
 
-    def __init__(self, store: Store, desk: Desk, copies: Copies) -> None:
-        super().__init__(store, desk)
+    def __init__(self, store: Store, desk: Desk, jobs: Jobs, copies: Copies) -> None:
+        super().__init__(store, desk, jobs)
         self.copies = copies
         # of those that were recorded last: how many are done, and how many were to be
         self.recorded: dict[str, tuple[int, int]] = {}
@@ -159,7 +160,8 @@ class Piles(Outbox[Entry]):
 
     def record(self, who: Person, entries: list[Entry], wait: float) -> None:
         """Begins to record entries, and waits for the end for some seconds at most."""
-        if not self.run(who.name, wait, lambda: self.send_all(who, entries)):
+        if not self.jobs.run(
+                self.job(who.name), who.name, lambda: self.send_all(who, entries), wait):
             raise Refused("this batch is being recorded already")
 
     def send_all(self, who: Person, entries: list[Entry]) -> None:

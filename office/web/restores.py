@@ -17,6 +17,7 @@ from .desk import Desk, local
 from .draws import STEADY, Draws
 from .draws_second import Case
 from .history import Entry, History
+from .jobs import Jobs
 from .outbox import DONE, WAITS
 from .people import Person
 from .restores_again import Sending
@@ -42,13 +43,13 @@ class Restores(StepStore[Restore]):
     table = "restore"
 
     def __init__(
-        self, store: Store, record: History, desk: Desk, copies: Copies, draws: Draws
+        self, store: Store, record: History, desk: Desk, jobs: Jobs, copies: Copies, draws: Draws
     ) -> None:
         super().__init__(store, record)
         self.desk, self.copies, self.draws = desk, copies, draws
         # (so that no draw begins while a restore does)
         self.lock = draws.lock
-        self.sending = Sending(store, desk)
+        self.sending = Sending(store, desk, jobs)
         # why no restore can begin, or ""
         self.closed_by_another: Callable[[], str] = str
 

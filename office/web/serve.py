@@ -1,6 +1,7 @@
 """Serves the application by gunicorn: one process with many threads, since what it knows of the
 register is in its memory, and one request to the register follows another.
 """
+import atexit
 from typing import Any
 
 import gunicorn.app.base
@@ -37,10 +38,13 @@ class Server(gunicorn.app.base.BaseApplication):  # type: ignore[misc]
     def load(self) -> Any:
         """The application, which its process makes."""
         try:
-            return app.create(self.office)
+            made = app.create(self.office)
         except (Refused, OSError) as error:
             say(2, f"office: {error}")
             raise SystemExit(4) from error
+        # (once no request is answered any more)
+        atexit.register(made.extensions["office"].close)
+        return made
 
 
 def run(config: Config, listen: str) -> None:

@@ -1,5 +1,5 @@
-"""Trials of other admission numbers and criteria, each in a thread of its own over registers that
-are deleted at its end: one at a time, ended when it takes too long, and kept in memory alone.
+"""Trials of other admission numbers and criteria, each a job over registers that are deleted at its
+end: one at a time, ended when it takes too long, and kept in memory alone.
 """
 import dataclasses
 import threading
@@ -16,13 +16,15 @@ from office.trial_registers import Program
 
 from . import plain
 from . import schools as cells_of_schools
-from .history import now
+from .jobs import Job, Jobs
 from .people import Person
 
 # wall-clock seconds: the programs that a trial has begun are ended then
 MOST_SECONDS = 600
 # so many are kept, and those before them are forgotten
 KEPT = 10
+# the job that a trial is
+TRIAL = "trial"
 WAIT = "wait for its end, or end it"
 BROKEN = "the trial did not come to its end: tell IT support"
 SCHOOL_HEAD = ("school", "name", "admission number", "tried", "offers", "would be", "would gain",
@@ -56,49 +58,59 @@ class Found:
 
 @dataclasses.dataclass
 class Run:
-    """A trial: its number, who asked for what and when, and what came of it."""
+    """A trial: its number, what was asked for, and what came of it; and the job that it is."""
 
     number: int
-    who: str
-    at: str
     words: list[str]
     program: Program
-    is_over: threading.Event = dataclasses.field(default_factory=threading.Event)
     found: Found | None = None
     refused: str = ""
+    job: Job | None = None
+
+    @property
+    def who(self) -> str:
+        """Who asked for it."""
+        return self.job.who if self.job else ""
+
+    @property
+    def at(self) -> str:
+        """When it was asked for."""
+        return self.job.at if self.job else ""
+
+    def is_over(self, wait: float = 0.0) -> bool:
+        """Whether it has come to its end, for which some seconds are waited."""
+        return self.job is None or self.job.is_over.wait(wait)
 
 
 class Trials:
     """The trials of one application."""
 
-    def __init__(self) -> None:
-        self.lock = threading.Lock()
+    def __init__(self, jobs: Jobs) -> None:
+        self.jobs, self.lock = jobs, threading.Lock()
         self.runs: dict[int, Run] = {}
         self.last = 0
 
     def begin(self, who: Person, asked: Asked) -> Run:
         """Begins a trial, if none is under way."""
         with self.lock:
-            if present := next((it for it in self.runs.values() if not it.is_over.is_set()), None):
-                raise Refused(f"a trial of {present.who} is under way: {WAIT}")
-            self.last += 1
-            run = Run(self.last, who.name, now(), asked.words,
-                      Program(plain.program(), MOST_SECONDS))
+            program = Program(plain.program(), MOST_SECONDS)
+            run = Run(self.last + 1, asked.words, program)
+            run.job = self.jobs.run(
+                TRIAL, who.name, lambda: work(run, asked), end=program.end)
+            if run.job is None:
+                present = self.jobs.last(TRIAL)
+                raise Refused(f"a trial of {present.who if present else ''} is under way: {WAIT}")
+            self.last = run.number
             self.runs[run.number] = run
             for number in list(self.runs)[:-KEPT]:
                 del self.runs[number]
-        threading.Thread(target=work, args=(run, asked), daemon=True).start()
         return run
 
-    def close(self) -> None:
-        """Ends the one that is under way, with its programs."""
-        for it in self.listed():
-            it.program.end()
-
     def forget(self) -> None:
-        """Ends the one that is under way, and keeps none."""
-        self.close()
+        """Ends the one that is under way, with its programs, and keeps none."""
         with self.lock:
+            for it in self.runs.values():
+                it.program.end()
             self.runs = {}
 
     def listed(self) -> list[Run]:
@@ -124,11 +136,8 @@ def work(run: Run, asked: Asked) -> None:
     except Refused as error:
         run.refused = plain.said(str(error))
     except Exception:
-        # (a thread that ends so would leave a trial that never ends)
         run.refused = BROKEN
         raise
-    finally:
-        run.is_over.set()
 
 
 @dataclasses.dataclass(frozen=True)

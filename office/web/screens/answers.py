@@ -34,7 +34,7 @@ MANY = ("all", "marked")
 
 def all_piles() -> Piles:
     """The batches of this application."""
-    made = Piles(parts().store, parts().desk, parts().copies)
+    made = Piles(parts().store, parts().desk, parts().jobs, parts().copies)
     return cast(Piles, flask.current_app.extensions.setdefault("piles", made))
 
 

@@ -13,11 +13,11 @@ from office.model import Register
 from .. import draws_again, draws_cancel, draws_checks, draws_words, numbers, step_store
 from .. import draws_page as page
 from ..draws_checks import Check
-from ..draws_following import Work
 from ..draws_lots import sheet_of
 from ..draws_page import AGAIN
 from ..draws_terms import BEGUN, IN_WORDS, MOST_FILLS, OPENED, RUNS, TAGS, Draw
 from ..guard import needs, parts, person
+from ..jobs import Job
 from ..parts import Parts
 from ..people import CONFIRM, DRAW, LOTS, READ, Person
 from ..wording import day_of, sentence
@@ -123,10 +123,10 @@ def found_draw(number: int) -> Draw:
         flask.abort(404)
 
 
-def work_on(number: int) -> Work | None:
+def work_on(number: int) -> Job | None:
     """What runs now of a draw, if anything does."""
     found = parts().following.under_way()
-    return found if found and found.number == number else None
+    return found if found and found.about == number else None
 
 
 def draw_page(number: int, reason: str = "", status: int = 200) -> Answer:

@@ -56,7 +56,7 @@ def sets_of(found: Parts) -> Sets:
     templates = Templates(found.store, found.history)
     audits = Audits(found.store, found.draws, found.copies)
     return Sets(found.store, found.history, found.desk, found.copies, templates, audits,
-                found.config.folder / letters_sets.FOLDER)
+                found.config.folder / letters_sets.FOLDER, found.jobs)
 
 
 def sets() -> Sets:

@@ -46,7 +46,7 @@ def rows() -> Notices:
     def write(who: Person, number: int) -> None:
         letters_rows.ask(sets, lists, who, number, today())
 
-    made = Notices(found.store, found.desk, found.copies, write)
+    made = Notices(found.store, found.desk, found.jobs, found.copies, write)
     return cast(Notices, flask.current_app.extensions.setdefault("notices", made))
 
 

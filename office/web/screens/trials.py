@@ -117,7 +117,7 @@ def found_of(run: Run) -> Found:
 def one(number: int) -> Answer:
     """A trial: its result, or that it is under way."""
     run = run_of(number)
-    is_over = run.is_over.wait(WAIT_SECONDS)
+    is_over = run.is_over(WAIT_SECONDS)
     return flask.render_template(
         "trial.html", run=run, found=run.found, is_over=is_over, refused=sentence(run.refused),
         seconds=trials.MOST_SECONDS, school_head=trials.SCHOOL_HEAD,
