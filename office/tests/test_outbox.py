@@ -4,7 +4,7 @@ each request to the register, and whoever looks next goes on.
 import contextlib
 import pathlib
 from collections.abc import Callable, Iterator
-from typing import Any
+from typing import Any, cast
 
 import pytest
 from conftest import make
@@ -12,12 +12,14 @@ from served import served
 from test_desk import APPLIED, CHILDREN, JANE, ROUND, ROW, SCHOOLS, about
 
 from office import senders
-from office.web import desk, kinds
+from office.web import desk, kinds, schools
+from office.web.copies import Copies
 from office.web.desk import Command
 from office.web.history import ANSWER, History
 from office.web.jobs import Jobs
 from office.web.outbox import DONE, FAILED, WAITS, Item, Outbox
 from office.web.people import Person
+from office.web.school_drafts import DRAFT, Draft
 from office.web.store import Store
 
 BATCH = "a batch"
@@ -27,6 +29,19 @@ class Rows(Outbox[Item]):
     """Rows of commands, as they are."""
 
     kind, item = "row", Item
+
+
+class Copied:
+    """The copies of a machine that makes each at once."""
+
+    def make(self, *_: str) -> int:
+        """The number of a copy."""
+        return 1
+
+
+def draft(store: Store, found: desk.Desk, jobs: Jobs) -> Draft:
+    """The draft of schools."""
+    return Draft(store, found, jobs, cast(Copies, Copied()))
 
 
 class Killed(BaseException):
@@ -64,8 +79,9 @@ def address_fixture(tmp_path: pathlib.Path, monkeypatch: pytest.MonkeyPatch) -> 
 
 @contextlib.contextmanager
 def alive(
-    folder: pathlib.Path, address: str, life: Life, lines: list[bytes] | None = None
-) -> Iterator[Rows]:
+    folder: pathlib.Path, address: str, life: Life, lines: list[bytes] | None = None,
+    kind: Callable[[Store, desk.Desk, Jobs], Any] = Rows,
+) -> Iterator[Any]:
     """An application, of which each write and each request is an event of its life."""
     record, store, sender = (History(str(folder / "history.jsonl")),
                              Store(str(folder / "office.db")), senders.Http(address))
@@ -79,9 +95,9 @@ def alive(
     with pytest.MonkeyPatch.context() as patch:
         patch.setattr(record, "write", life.around(record.write))
         patch.setattr(sender, "send", life.around(sent))
-        found = Rows(store, desk.Desk(sender, record), Jobs())
-        patch.setattr(found, "begin", life.around(found.begin))
-        patch.setattr(found, "change", life.around(found.change))
+        found = kind(store, desk.Desk(sender, record), Jobs())
+        for name in ("begin", "change", "revise"):
+            patch.setattr(found, name, life.around(getattr(found, name)))
         try:
             yield found
         finally:
@@ -106,7 +122,7 @@ def test_each_command_is_sent_once_whenever_the_application_is_killed(
     wait(tmp_path, address, command, other)
     lines: list[bytes] = []
     lives = 0
-    for at, is_after in ((at, after) for at in range(1, 99) for after in (False, True)):
+    for at, is_after in moments():
         with alive(tmp_path, address, Life(at, is_after), lines) as box:
             try:
                 box.settle(BATCH)
@@ -121,6 +137,37 @@ def test_each_command_is_sent_once_whenever_the_application_is_killed(
         assert all(kinds.is_done(register, it) for it in (command, other))
         assert [box.desk.history.entries[(it.sent or 0) - 1].about for it in found] == [
             {"command": command}, {"command": other}]
+
+
+def moments() -> Iterator[tuple[int, bool]]:
+    """Each event of a life, before it and after it."""
+    return ((at, after) for at in range(1, 99) for after in (False, True))
+
+
+def test_each_school_of_a_draft_is_stored_once_whenever_the_application_is_killed(
+    address: str, tmp_path: pathlib.Path
+) -> None:
+    """Also one that was typed with the words of a flag, which may mean another thing later."""
+    words = {2: "medical need"}
+    cells = [{"school": code, "name": code, "pan": "030", "east": str(at), "north": "0",
+              "criteria": "medical need"} for at, code in enumerate(("Oak", "Elm"))]
+    wanted = [schools.read(it, words)[0] for it in cells]
+    lines: list[bytes] = []
+    with alive(tmp_path, address, Life(), kind=draft) as box:
+        box.add(cells)
+    for at, is_after in moments():
+        with alive(tmp_path, address, Life(at, is_after), lines, draft) as box:
+            try:
+                box.settle(DRAFT)
+                box.send_all(JANE, schools.lines_of(box.rows(), box.desk.now().schools, words))
+                break
+            except Killed:
+                continue
+    with alive(tmp_path, address, Life(), kind=draft) as box:
+        register = box.desk.now()
+        assert at > 5 and box.of(DRAFT) == []
+        assert lines == [desk.line_of(it) for it in wanted if it] and len(lines) == 2
+        assert all(it and kinds.is_done(register, it) for it in wanted)
 
 
 @pytest.mark.parametrize("is_after", [False, True])

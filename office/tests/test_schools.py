@@ -22,7 +22,7 @@ from served import served
 from office.model import Register
 from office.web import flags, schools
 from office.web.people import Person
-from office.web.school_drafts import Draft, digest, seen_line, store_all
+from office.web.school_drafts import Draft, digest, seen_line
 from office.web.schools import Line
 
 OAK: dict[str, Any] = {
@@ -107,7 +107,7 @@ def test_a_school_is_typed_and_shown_whole_before_it_is_stored(empty: Site) -> N
     found = stores(jane, "/schools/new/", page, "Store 1 school")
     assert found.status_code == 200 and Page(found.text).said() == "1 school is stored."
     assert stored(empty) == [OAK] and sent(empty) == [OAK]
-    assert Draft(empty.parts.store).rows() == []
+    assert empty.parts.schools.rows() == []
     who = [(it.who, it.what) for it in empty.parts.history.entries]
     assert ("jane", "added to the draft of schools") in who and ("jane", "sends") in who
 
@@ -206,7 +206,7 @@ def test_what_was_typed_stays_in_the_form(empty: Site) -> None:
                   pan="", east="1", north="2", kind=["within:", "sibling", ""],
                   value=["x", "", "77"])
     page = Page(found.text)
-    assert found.status_code == 400 and Draft(empty.parts.store).rows() == []
+    assert found.status_code == 400 and empty.parts.schools.rows() == []
     assert page.error("school").startswith("a code of") and page.error("pan")
     assert page.error("name") == "" == page.error("east")
     assert '"within:x" and "77" are no criteria' in page.by_id["criteria-error"]
@@ -225,7 +225,7 @@ def test_a_sheet_comes_into_the_draft_with_its_errors(empty: Site) -> None:
     assert [it[0][:3] for it in rows] == ["OAK", "ELM", "ASH", "=1+"]
     assert "a whole number from 1 to 500" in rows[2][2] and "a code of" in rows[3][0]
     assert not any(it.startswith("Store") for it in page.buttons())
-    lines = Draft(empty.parts.store).rows()
+    lines = empty.parts.schools.rows()
     found = press(jane, "/schools/new/store", Page(
         '<form method="post" action="/schools/new/store"><button>x</button></form>'), "x",
         digest=digest(schools.lines_of(lines, {}, {})))
@@ -251,7 +251,7 @@ def test_a_workbook_comes_into_the_draft(empty: Site) -> None:
     book.save(out)
     found = upload(empty.browser("jane"), "/schools/new/sheet", "sheet", out.getvalue(), "a.xlsx")
     assert found.status_code == 303, Page(found.text).said()
-    (_, cells), = Draft(empty.parts.store).rows()
+    (_, cells), = empty.parts.schools.rows()
     assert cells == {"school": "OAK", "name": "Oak", "pan": "30", "east": "4100", "north": "3600",
                      "criteria": "sibling; within:1500"}
 
@@ -294,7 +294,7 @@ def test_another_file_is_refused(empty: Site, data: bytes, said: str) -> None:
     found = upload(empty.browser("jane"), "/schools/new/sheet", "sheet", data, "../../a.xlsx")
     text = Page(found.text).said()
     assert (found.status_code, said in text.replace("The file", "the file")) == (400, True), text
-    assert Draft(empty.parts.store).rows() == [] and "/tmp" not in found.text
+    assert empty.parts.schools.rows() == [] and "/tmp" not in found.text
 
 
 def test_a_bomb_and_a_formula_are_refused(empty: Site, tmp_path: pathlib.Path) -> None:
@@ -351,36 +351,39 @@ def test_what_is_no_copy_of_a_register_is_refused(empty: Site, tmp_path: pathlib
         found = upload(jane, "/schools/new/last-year", "copy", data, "last.db")
         assert found.status_code == 400 and said in Page(found.text).said(), said
         assert str(tmp_path) not in found.text and "/tmp" not in found.text
-    assert Draft(empty.parts.store).rows() == []
+    assert empty.parts.schools.rows() == []
 
 
 def test_storing_goes_on_where_it_stopped(empty: Site, monkeypatch: pytest.MonkeyPatch) -> None:
     """The application ends after the second school was stored and before it left the draft: none is
-    sent twice.
+    sent twice. A school that came otherwise meanwhile is not sent at all.
     """
-    jane = empty.browser("jane")
-    drafted(jane, HEADER + "A,Alpha,1,1,1,\nB,Beta,1,2,2,\nC,Gamma,1,3,3,\n")
-    kept = Draft.remove
+    jane, hal = empty.browser("jane"), Person("hal", "head")
+    drafted(jane, HEADER + "A,Alpha,1,1,1,\nB,Beta,1,2,2,\nC,Gamma,1,3,3,\nD,Delta,1,4,4,\n")
+    desk, draft = empty.parts.desk, empty.parts.schools
+    shown = digest(schools.lines_of(draft.rows(), {}, {}))
 
-    def ends(self: Draft, *numbers: int) -> None:
+    kept = Draft.change
+
+    def ends(*given: Any) -> None:
         if len(sent(empty)) == 2:
             raise KeyboardInterrupt
-        kept(self, *numbers)
+        kept(*given)
 
-    monkeypatch.setattr(Draft, "remove", ends)
-    desk, draft = empty.parts.desk, Draft(empty.parts.store)
-    shown = digest(schools.lines_of(draft.rows(), {}, {}))
-    with pytest.raises(KeyboardInterrupt):
-        store_all(desk, empty.parts.copies, Person("jane", "officer"), draft, {}, shown)
+    with monkeypatch.context() as patch:
+        patch.setattr(Draft, "change", ends)
+        with pytest.raises(KeyboardInterrupt):
+            draft.store_all(Person("jane", "officer"), {}, shown, 600)
     assert [it["school"] for it in stored(empty)] == ["A", "B"]
-    monkeypatch.setattr(Draft, "remove", kept)
+    assert desk.send(hal, {"cmd": "add_school", "school": "C", "name": "Gamma", "pan": 1,
+                           "east": 3, "north": 3, "criteria": []}).is_done
     page = Page(jane.get("/schools/new/").text)
     rows = page.tables["Each line as it will be stored"][1:]
-    assert [it[0] for it in rows] == ["B", "C"]
+    assert [it[0] for it in rows] == ["C", "D"]
     assert "the register has it already: nothing is stored for it" in rows[0][6]
     found = stores(jane, "", page, "Store 2 schools")
     assert found.status_code == 200 and draft.rows() == []
-    assert [it["school"] for it in sent(empty)] == ["A", "B", "C"]
+    assert [it["school"] for it in sent(empty)] == ["A", "B", "C", "D"]
     said = [it[2] for it in Page(found.text).tables["outcomes"][1:]]
     assert said == ["The register has it already, with the same data.", "Done, and stored."]
 
@@ -389,7 +392,7 @@ def test_a_line_that_a_colleague_changed_is_not_overwritten(empty: Site) -> None
     """What was typed stays, beside the present line, and may be stored after that."""
     jane, bo = empty.browser("jane"), empty.browser("bo")
     drafted(jane, HEADER + "A,Alpha,1,1,1,\n")
-    number = Draft(empty.parts.store).rows()[0][0]
+    number = empty.parts.schools.rows()[0][0]
     path = f"/schools/new/{number}"
     page, other = Page(jane.get(path).text), Page(bo.get(path).text)
     assert press(bo, path, other, "Change the line", pan="30").status_code == 303
@@ -402,7 +405,7 @@ def test_a_line_that_a_colleague_changed_is_not_overwritten(empty: Site) -> None
     form = page.form("Change the line").values
     assert (form["pan"], form["north"]) == (["1"], ["7"])
     assert press(jane, path, page, "Change the line", pan="30").status_code == 303
-    assert Draft(empty.parts.store).cells(number) == {
+    assert empty.parts.schools.cells(number) == {
         "school": "A", "name": "Alpha", "pan": "30", "east": "1", "north": "7", "criteria": ""}
 
 
@@ -412,16 +415,16 @@ def test_a_line_that_is_changed_while_others_are_stored_stays(
     """Only what was shown is stored; a line that was changed since remains in the draft."""
     jane = empty.browser("jane")
     page = drafted(jane, HEADER + "A,Alpha,1,1,1,\nB,Beta,1,2,2,\nC,Gamma,1,3,3,\n")
-    draft, send = Draft(empty.parts.store), empty.parts.desk.send
+    draft, send = empty.parts.schools, empty.parts.desk.request
     _, (second, cells), _ = draft.rows()
 
     def meanwhile(*given: Any) -> Any:
         with empty.parts.store.writing() as db:
-            db.execute("UPDATE school_draft SET cells=? WHERE number=?",
+            db.execute("UPDATE sending SET about=? WHERE place=? AND state='waits'",
                        (json.dumps({**cells, "pan": "9"}), second))
         return send(*given)
 
-    monkeypatch.setattr(empty.parts.desk, "send", meanwhile)
+    monkeypatch.setattr(empty.parts.desk, "request", meanwhile)
     found = stores(jane, "", page, "Store 3 schools")
     assert found.status_code == 409 and [it["school"] for it in stored(empty)] == ["A", "C"]
     assert draft.rows() == [(second, {**cells, "pan": "9"})]
@@ -442,19 +445,18 @@ def test_a_school_with_other_data_is_named(empty: Site) -> None:
     assert "with other data: Admission number 31 there, 30 here" in line[0]
     assert sent(empty) == [other]
     # and one that came between the comparison and the sending
-    draft = Draft(empty.parts.store)
+    draft = empty.parts.schools
     draft.remove(draft.rows()[0][0])
     lines = schools.lines_of(draft.rows(), {}, {})
-    kept = desk.send
+    kept = desk.request
 
-    def late(who: Person, command: dict[str, Any], *more: Any) -> Any:
-        setattr(desk, "send", kept)
-        kept(Person("bo", "officer"), {**ELM, "pan": 99})
-        return kept(who, command, *more)
+    def late(*given: Any) -> Any:
+        setattr(desk, "request", kept)
+        desk.send(Person("bo", "officer"), {**ELM, "pan": 99})
+        return kept(*given)
 
-    setattr(desk, "send", late)
-    outcome, = store_all(
-        desk, empty.parts.copies, Person("jane", "officer"), draft, {}, digest(lines))
+    setattr(desk, "request", late)
+    outcome, = draft.store_all(Person("jane", "officer"), {}, digest(lines), 600)
     assert not outcome.result.is_done and len(draft.rows()) == 1
     assert "Admission number 99 there, 12 here" in outcome.result.said
 
@@ -502,7 +504,7 @@ def test_nothing_is_stored_while_the_register_is_closed(empty: Site) -> None:
     found = stores(jane, "", page, "Store 2 schools")
     assert found.status_code == 409
     assert Page(found.text).said() == "Recording is paused for draw 1 by hal. Nothing was recorded."
-    assert sent(empty) == [] and len(Draft(empty.parts.store).rows()) == 2
+    assert sent(empty) == [] and len(empty.parts.schools.rows()) == 2
 
 
 def test_all_schools_are_shown(held: Site) -> None:
@@ -707,14 +709,14 @@ def test_the_register_is_away(tmp_path: pathlib.Path) -> None:
 def test_all_of_a_draft_is_removed_after_a_question(empty: Site) -> None:
     """That names the schools; what a colleague has changed since is not removed unseen."""
     jane, remove = empty.browser("jane"), "/schools/new/remove"
-    draft = Draft(empty.parts.store)
+    draft = empty.parts.schools
     question = Page(press(jane, "", drafted(jane), "Remove all 2 from the draft").text)
     before = draft.rows()
     assert len(before) == 2 and question.buttons()[-1] == "Remove 2 schools"
     for _, cells in before:
         assert f"{cells['school']} {cells['name']}" in question.by_id["removed"]
     number, cells = before[0]
-    draft.change(number, {**cells, "pan": "77"}, seen_line(cells))
+    draft.correct(number, {**cells, "pan": "77"}, seen_line(cells))
     question = Page(press(jane, remove, question, "Remove 2 schools").text)
     assert "Nothing was removed" in question.said() and len(draft.rows()) == 2
     press(jane, remove, question, "Remove 2 schools")
@@ -734,7 +736,7 @@ def test_a_form_of_another_site_changes_no_school(empty: Site) -> None:
         found = jane.client.post(path, base_url=ORIGIN, data={**given, "form": "guessed"},
                                  headers={"Origin": ORIGIN})
         assert found.status_code == 403
-    assert sent(empty) == [] and len(Draft(empty.parts.store).rows()) == 2
+    assert sent(empty) == [] and len(empty.parts.schools.rows()) == 2
     assert json.loads(flags.text_of(flags.words_of(empty.parts.store))) == {}
 
 

@@ -108,6 +108,12 @@ def taken(office: Site, head: Person) -> bytes:
 # what is open
 
 
+def add_draft(db: sqlite3.Connection, cells: str) -> None:
+    """Adds a line to the draft of schools."""
+    db.execute("INSERT INTO sending (kind, batch, place, about, state, said)"
+               " VALUES ('school', 'draft', 1, ?, 'waits', '')", (cells,))
+
+
 def test_what_is_open_is_read_before_the_last_copy(
     tmp_path: pathlib.Path, monkeypatch: pytest.MonkeyPatch
 ) -> None:
@@ -119,7 +125,7 @@ def test_what_is_open_is_read_before_the_last_copy(
         office.parts.end.today = lambda: datetime.date(2025, 12, 31)
         head.browser.post("/answers/type", {"typed": "1"})
         with office.parts.store.writing() as db:
-            db.execute("INSERT INTO school_draft (cells) VALUES ('{}')")
+            add_draft(db, "{}")
         register = office.parts.desk.now()
         found = season_end.still_open(office.parts, register, office.parts.end.today())
         assert [(it.title, it.said) for it in found if it.title != "Answers in batches"] == [
@@ -439,7 +445,7 @@ def test_what_came_after_the_archive_is_not_lost(
     monkeypatch.setattr(SeasonEnd, "see_unchanged", lambda *_: None)
     alone.end.today = lambda: DAY
     with alone.store.writing() as db:
-        db.execute("INSERT INTO school_draft (cells) VALUES ('{}')")
+        add_draft(db, "{}")
         db.execute("INSERT INTO letter_set (key, who, at, asked, state, total) VALUES"
                    " ('a', 'jane', '', '{}', 'made', 1)")
     said = "the archive lacks what was recorded here since it was made ({}): make it again"
@@ -471,7 +477,7 @@ def test_what_came_after_the_archive_is_not_lost(
     # (what is there no more is in the archive)
     archived(alone)
     with alone.store.writing() as db:
-        db.execute("DELETE FROM school_draft")
+        db.execute("DELETE FROM sending WHERE kind='school'")
     alone.end.ask(HAL, alone.end.get().version, NAME)
     assert alone.end.get().asked_by == "hal"
     (archive.folder_of(alone) / "a.zip").unlink()
@@ -630,7 +636,7 @@ def test_a_deletion_that_was_killed_goes_on(
         head.press("archive/file", 200, kept=WHERE)
         head.press("day", day="24/1/2026", reason=WHY)
         with office.parts.store.writing() as db:
-            db.execute("INSERT INTO school_draft (cells) VALUES ('of Child 3')")
+            add_draft(db, '{"name": "of Child 3"}')
         office.parts.end.today = lambda: DAY
         head.press("ask", name=NAME)
         digest = office.parts.end.get().digest

@@ -53,8 +53,9 @@ class Outbox(Generic[It]):
 
     kind: str
     item: type[It]
-    # what a request is whose command the register has refused
+    # what a request is whose command the register has refused, and the states in which one stays
     refused = FAILED
+    stays: tuple[str, ...] = (WAITS, SENDING, DONE, FAILED)
 
     def __init__(self, store: Store, desk: Desk, jobs: Jobs) -> None:
         self.store, self.desk, self.jobs = store, desk, jobs
@@ -103,6 +104,14 @@ class Outbox(Generic[It]):
             db.execute("INSERT INTO sending (kind, batch, place, about, seen, state, said)"
                        " VALUES (?, ?, ?, ?, ?, ?, ?)",
                        (self.kind, str(batch), place, json.dumps(about), seen, state, said))
+
+    def revise(self, it: It, about: Mapping[str, Any], seen: str | None = None) -> bool:
+        """Gives a request that waits another meaning; whether it was done."""
+        with self.store.writing() as db:
+            return db.execute(
+                "UPDATE sending SET about=?, seen=?, said='' WHERE number=? AND batch=?"
+                " AND state=?",
+                (json.dumps(about), seen, it.number, it.batch, WAITS)).rowcount > 0
 
     def is_running(self, batch: object) -> bool:
         """Whether a batch is being sent."""
@@ -157,10 +166,13 @@ class Outbox(Generic[It]):
                     sent.number if sent else None)
 
     def change(self, it: It, state: str, said: str, sent: int | None = None) -> None:
-        """Keeps what came of a request."""
+        """Keeps what came of a request, or removes it."""
         with self.store.writing() as db:
-            db.execute("UPDATE sending SET state=?, said=?, sent=? WHERE number=?",
-                       (state, said, sent, it.number))
+            if state in self.stays:
+                db.execute("UPDATE sending SET state=?, said=?, sent=? WHERE number=?",
+                           (state, said, sent, it.number))
+            else:
+                db.execute("DELETE FROM sending WHERE number=?", (it.number,))
 
     def settle(self, batch: object) -> None:
         """Finds out what came of requests that were being sent when the application ended, or of
@@ -176,6 +188,11 @@ class Outbox(Generic[It]):
             sent = self.sent(it)
             state, said = self.came(sent, ends)
             self.change(it, state, said, sent.number if sent else None)
+
+    def look(self, batch: object) -> None:
+        """The same for who looks at a batch: not while it is being sent."""
+        if not self.is_running(batch):
+            self.settle(batch)
 
     def sent(self, it: It) -> Entry | None:
         """The last entry of the history that sent a request, as the same person and wholly equal,

@@ -21,6 +21,7 @@ from .list_moves import OfCopies
 from .notes import Notes
 from .people import People
 from .restores import Restores
+from .school_drafts import Draft
 from .season_end import SeasonEnd
 from .store import Store
 from .trials import Trials
@@ -66,6 +67,7 @@ class Parts:
         sender.called = "the register"
         self.desk = Desk(sender, self.history)
         self.copies = Copies(config.folder / "requests", config.copies, self.store, self.desk)
+        self.schools = Draft(self.store, self.desk, self.jobs, self.copies)
         self.positions = OfCopies(self.copies)
         self.draws = Draws(self.store, self.history, self.desk, self.copies)
         self.lots = Drafts(self.draws)

@@ -104,11 +104,7 @@ class Piles(Outbox[Entry]):
         """Gives an entry that waits another meaning: a child that was chosen, or a name that is
         right.
         """
-        about = json.dumps(dataclasses.asdict(meant))
-        with self.store.writing() as db:
-            db.execute("UPDATE sending SET about=?, seen=?, said='' WHERE number=? AND batch=?"
-                       " AND state=?", (about, seen_in(register, meant), entry.number, entry.batch,
-                                        WAITS))
+        self.revise(entry, dataclasses.asdict(meant), seen_in(register, meant))
 
     def shown(self, person: str, register: Register) -> list[Shown]:
         """The entries of a person that are not recorded, with what speaks against them."""
@@ -182,11 +178,6 @@ class Piles(Outbox[Entry]):
         super().ended(it, result)
         done, count = self.recorded.get(it.batch, (0, 0))
         self.recorded[it.batch] = done + result.is_done, count
-
-    def settle(self, batch: object) -> None:
-        """Finds out what came of answers, unless they are being sent now."""
-        if not self.is_running(batch):
-            super().settle(batch)
 
 
 def seen_in(register: Register, meant: Meant) -> str:

@@ -13,8 +13,9 @@ from office.rules import LIMITS
 
 from . import schools
 from .copies import Copies
-from .desk import DIFFERS, DONE, LOST, UNSENT, Desk, Result, seen_of
-from .flags import Words
+from .desk import DIFFERS, DONE, Desk, Result
+from .jobs import Jobs
+from .outbox import SENDING, WAITS, Item, Outbox, Request
 from .people import Person
 from .safeguard import copied
 from .schools import Cells, Line
@@ -25,6 +26,8 @@ PURPOSE = "before schools are stored"
 THERE = Result(DONE, "The register has it already, with the same data.")
 CHANGED = Result(DIFFERS, "The line was changed or removed since it was shown. Nothing was stored"
                           " for it.")
+# the batch, which all officers share; and what a school rests on that is to be added: there is none
+DRAFT, NONE = "draft", json.dumps(None)
 
 
 @dataclasses.dataclass(frozen=True)
@@ -36,49 +39,132 @@ class Outcome:
     result: Result
 
 
-class Draft:
-    """The draft of one application, which its officers share."""
+class Draft(Outbox[Item]):
+    """The draft of one application. A line that is stored leaves it, and one that is refused stays.
+    The number of a line is that of no line before it.
+    """
 
-    def __init__(self, store: Store) -> None:
-        self.store = store
+    kind, item, refused, stays = "school", Item, WAITS, (WAITS, SENDING)
+
+    def __init__(self, store: Store, desk: Desk, jobs: Jobs, copies: Copies) -> None:
+        super().__init__(store, desk, jobs)
+        self.copies = copies
+        # what came of the lines that were confirmed last, by their numbers
+        self.results: dict[int, Result] = {}
+
+    def request(self, it: Item) -> Request:
+        """What the history has of a line. (One that is sent names no flag by its words.)"""
+        return {"command": schools.read(it.about, {})[0]}
 
     def rows(self) -> list[tuple[int, Cells]]:
         """The cells of its lines, by their numbers."""
-        rows = self.store.rows("SELECT number, cells FROM school_draft ORDER BY number")
-        return [(row["number"], json.loads(row["cells"])) for row in rows]
+        return [(it.place, it.about) for it in self.left(DRAFT)]
+
+    def came_of(self) -> dict[int, str]:
+        """What came of its lines that were to be stored, by their numbers."""
+        return {it.place: it.said for it in self.left(DRAFT) if it.said}
+
+    def line(self, number: int) -> Item | None:
+        """A line, if it is there."""
+        return next((it for it in self.left(DRAFT) if it.place == number), None)
 
     def cells(self, number: int) -> Cells | None:
         """The cells of a line, if it is there."""
-        row = self.store.row("SELECT cells FROM school_draft WHERE number=?", number)
-        return dict(json.loads(row["cells"])) if row else None
+        found = self.line(number)
+        return found.about if found else None
 
     def add(self, given: Iterable[Cells]) -> None:
         """Adds lines, all or none."""
         with self.store.writing() as db:
-            db.executemany("INSERT INTO school_draft (cells) VALUES (?)",
-                           [(json.dumps(it),) for it in given])
-            count = db.execute("SELECT count(*) FROM school_draft").fetchone()[0]
-            if count > MOST:
+            for it in given:
+                self.put(DRAFT, 0, it)
+            db.execute("UPDATE sending SET place=number WHERE kind=? AND place=0", (self.kind,))
+            if (count := len(self.left(DRAFT))) > MOST:
                 raise Refused(f"a register has at most {MOST} schools, and the draft would have"
                               f" {count}")
 
-    def change(self, number: int, cells: Cells, seen: str) -> None:
+    def correct(self, number: int, cells: Cells, seen: str) -> None:
         """Replaces a line that is still as it was seen."""
-        with self.store.writing() as db:
-            present = self.cells(number)
+        with self.store.writing():
+            present = self.line(number)
             if present is None:
                 raise Refused("this line is not in the draft any more: it was stored or removed"
                               " meanwhile")
-            if seen_line(present) != seen:
+            if seen_line(present.about) != seen:
                 raise Refused("somebody else has changed this line since it was shown. Nothing was"
                               " changed: compare what you typed with the line above")
-            db.execute("UPDATE school_draft SET cells=? WHERE number=?",
-                       (json.dumps(cells), number))
+            if not self.revise(present, cells):
+                raise Refused("this line is being stored. Nothing was changed")
 
     def remove(self, *numbers: int) -> None:
-        """Removes lines."""
+        """Removes lines that are not being stored."""
         with self.store.writing() as db:
-            db.executemany("DELETE FROM school_draft WHERE number=?", [(it,) for it in numbers])
+            db.executemany("DELETE FROM sending WHERE kind=? AND place=? AND state=?",
+                           [(self.kind, it, WAITS) for it in numbers])
+
+    def store_all(
+        self, who: Person, words: Mapping[int, str], shown: str, wait: float,
+    ) -> list[Outcome]:
+        """Begins to store the draft as it was shown, and waits for the end for some seconds; what
+        came of its lines until then.
+        """
+        lines = lines_shown(self.desk.now().schools, self, words, shown)
+        if not self.jobs.run(
+                self.job(DRAFT), who.name, lambda: self.send_all(who, lines), wait):
+            raise Refused("the draft is being stored already")
+        return self.outcomes(lines)
+
+    def send_all(self, who: Person, lines: list[Line]) -> None:
+        """Stores lines as they were shown, in their order, after a copy of the register, until the
+        end or until nothing can be sent.
+        """
+        self.results = {}
+        if not all(it.is_there for it in lines):
+            copied(self.desk, self.copies, PURPOSE, who)
+        self.send(who, self.confirmed(lines))
+
+    def confirmed(self, lines: Iterable[Line]) -> list[Item]:
+        """The lines that are still as they were shown and that the register has not: as they are
+        sent, whatever the words of flags become. Those that it has are stored.
+        """
+        found = []
+        with self.store.writing():
+            for it in lines:
+                assert it.command is not None
+                present = self.line(it.number)
+                if present is None or present.about != it.cells:
+                    self.results[it.number] = CHANGED
+                elif it.is_there:
+                    self.ended(present, THERE)
+                elif self.revise(present, schools.cells_of_command(it.command), NONE):
+                    found.append(self.line(it.number) or present)
+        return found
+
+    def begin(self, who: Person, it: Item) -> Item | None:
+        """Marks a line as being sent, unless it was changed or removed meanwhile."""
+        begun = super().begin(who, it)
+        if begun is None:
+            self.results[it.place] = CHANGED
+        return begun
+
+    def ended(self, it: Item, result: Result) -> None:
+        """Keeps what came of a line. A school that came meanwhile is compared with it."""
+        self.results[it.place] = found = self.compared(it) if result.outcome == DIFFERS else result
+        super().ended(it, found)
+
+    def compared(self, it: Item) -> Result:
+        """What a line comes to whose school is in the register."""
+        command = self.request(it)["command"]
+        there = self.desk.now().schools[command["school"]]
+        if other := schools.differences(there, command):
+            return Result(DIFFERS, f"The register has this school with other data: {other}. Nothing"
+                          " was stored for it.")
+        return THERE
+
+    def outcomes(self, lines: Iterable[Line]) -> list[Outcome]:
+        """What came of lines that were confirmed, as far as they were sent."""
+        return [Outcome(it.command["school"], it.command["name"], self.results[it.number])
+                for it in lines if it.command and it.number in self.results]
 
 
 def seen_line(cells: Cells) -> str:
@@ -103,7 +189,7 @@ def is_ready(lines: list[Line]) -> bool:
 
 
 def lines_shown(
-    known: Mapping[str, School], draft: Draft, words: Words, shown: str,
+    known: Mapping[str, School], draft: Draft, words: Mapping[int, str], shown: str,
 ) -> list[Line]:
     """The lines of a draft as it was shown, each of which can be stored."""
     lines = schools.lines_of(draft.rows(), known, words)
@@ -114,42 +200,3 @@ def lines_shown(
         raise Refused("the draft has lines that are not right. Nothing was stored")
     schools.see_count(lines, known)
     return lines
-
-
-def store_all(
-    desk: Desk, copies: Copies, who: Person, draft: Draft, words: Words, shown: str,
-) -> list[Outcome]:
-    """Stores the schools of a draft as it was shown, in its order, after a copy of the register.
-    One that is stored leaves the draft, so that after an interruption the others go on; one that
-    the register has with the same data is stored.
-    """
-    lines = lines_shown(desk.now().schools, draft, words, shown)
-    if not all(it.is_there for it in lines):
-        copied(desk, copies, PURPOSE, who)
-    found = []
-    for line in lines:
-        assert line.command is not None
-        is_shown = draft.cells(line.number) == line.cells
-        result = store_one(desk, who, line) if is_shown else CHANGED
-        found.append(Outcome(line.command["school"], line.command["name"], result))
-        if result.is_done:
-            draft.remove(line.number)
-        if result.outcome in (UNSENT, LOST):
-            break
-    return found
-
-
-def store_one(desk: Desk, who: Person, line: Line) -> Result:
-    """Stores a school, unless the register has it."""
-    assert line.command is not None
-    register = desk.compared(line.command)
-    there = register.schools.get(line.command["school"])
-    if there is None:
-        result = desk.send(who, line.command, seen_of(register, line.command))
-        if result.outcome != DIFFERS:
-            return result
-        there = desk.now().schools[line.command["school"]]
-    if other := schools.differences(there, line.command):
-        return Result(DIFFERS, f"The register has this school with other data: {other}. Nothing"
-                      " was stored for it.")
-    return THERE

@@ -108,7 +108,11 @@ def read(cells: Cells, words: Mapping[int, str]) -> tuple[Command | None, dict[s
 
 def cells_of(school: School) -> Cells:
     """A school of a register as cells."""
-    command = persons.command_of_school(school)
+    return cells_of_command(persons.command_of_school(school))
+
+
+def cells_of_command(command: Command) -> Cells:
+    """A school that is to be added as cells, of which each is read alike whatever flags mean."""
     return {it: texts.cell_of(command[it]) for it in COLUMNS}
 
 

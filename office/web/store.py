@@ -236,6 +236,19 @@ STEPS = (
     ALTER TABLE staged_row ADD COLUMN before TEXT NOT NULL DEFAULT '';
     ALTER TABLE staged_file ADD COLUMN replaces INTEGER REFERENCES staged_file (id);
     """,
+    # lines of the draft of schools are sent in rows too; their numbers stay, and no later line has
+    # one of them
+    """
+    INSERT INTO sqlite_sequence SELECT 'sending', 0
+        WHERE NOT EXISTS (SELECT 1 FROM sqlite_sequence WHERE name='sending');
+    INSERT INTO sending (kind, batch, place, about, state, said)
+        SELECT 'school', 'draft', number, cells, 'waits', '' FROM school_draft ORDER BY number;
+    UPDATE sqlite_sequence SET seq=max(seq, coalesce((SELECT max(seq) FROM sqlite_sequence
+        WHERE name='school_draft'), 0)) WHERE name='sending';
+    DROP TABLE school_draft;
+    CREATE VIEW school_draft AS SELECT place AS number, about AS cells, state, said, who, after
+        FROM sending WHERE kind='school';
+    """,
 )
 # the disk, or the limit of a file of the system, is reached
 FULL = "SQLITE_FULL"

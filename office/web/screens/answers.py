@@ -44,7 +44,7 @@ def page(said: str = "", status: int = 200, pasted: str = "", typed: str = "") -
     register: Register | None = None
     try:
         register = parts().desk.register()
-        found.settle(who)
+        found.look(who)
     except Refused as error:
         said, status = f"{said} {sentence(str(error))}".strip(), max(status, 503)
     shown = found.shown(who, register) if register else []
@@ -219,7 +219,7 @@ def ask() -> Answer:
 def ready_in(register: Register, digest: str) -> list[Shown] | str:
     """What can be recorded of the batch, which is what was shown; or why nothing is."""
     found, who = all_piles(), person().name
-    found.settle(who)
+    found.look(who)
     ready = [it for it in found.shown(who, register) if it.is_ready]
     if digest_of(ready) != digest:
         return ("The batch has changed since it was shown. Nothing was recorded: look at it"

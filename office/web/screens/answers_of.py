@@ -19,7 +19,7 @@ Answer = str | Response | tuple[str, int]
 def page(owner: str, said: str = "") -> Answer:
     """The batch of somebody."""
     found = all_piles()
-    found.settle(owner)
+    found.look(owner)
     register = parts().desk.register()
     shown = found.shown(owner, register)
     body = flask.render_template(

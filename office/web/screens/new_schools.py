@@ -12,18 +12,20 @@ from .. import flags, guard, school_drafts, schools, uploads
 from ..desk import DONE
 from ..guard import needs, parts, person
 from ..people import RECORD
-from ..school_drafts import Draft, Outcome
+from ..school_drafts import DRAFT, Draft, Outcome
 from ..schools import COLUMNS, Cells, Line
 from ..wording import Order, classes, label, sentence
 
 screen = flask.Blueprint("new_schools", __name__, url_prefix="/schools/new")
 Answer = str | Response | tuple[str, int]
 NONE = {it: "" for it in COLUMNS}
+# so long the answer to 'Store' waits for the end; after it the page shows how far it is
+WAIT_SECONDS = 20.0
 
 
 def draft() -> Draft:
     """The draft of this application."""
-    return Draft(parts().store)
+    return parts().schools
 
 
 def order_of(line: Line, words: flags.Words) -> list[tuple[str, str]]:
@@ -41,9 +43,11 @@ def page(
     words, known, is_away = flags.present(), {}, False
     try:
         known = parts().desk.register().schools
+        draft().look(DRAFT)
     except Refused as error:
         said, status, is_away = f"{said} {sentence(str(error))}".strip(), 503, True
     lines = schools.lines_of(draft().rows(), known, words)
+    is_running = draft().is_running(DRAFT)
     shown = schools.chosen((cells or NONE).get("criteria", ""), words)
     rows = shown + [("", "")] * (LIMITS["criteria"].most - len(shown))
     order = {it.number: order_of(it, words) for it in lines}
@@ -51,7 +55,8 @@ def page(
         "new_schools.html", lines=lines, order=order, digest=school_drafts.digest(lines),
         is_ready=school_drafts.is_ready(lines) and not is_away, cells=cells or NONE,
         wrong=wrong or {}, said=said, is_bad=status != 200, rows=rows, forms=schools.menu(words),
-        outcomes=outcomes or [], number=number, label=label, columns=COLUMNS, limits=LIMITS,
+        outcomes=outcomes or [], is_running=is_running, came=draft().came_of(), number=number,
+        label=label, columns=COLUMNS, limits=LIMITS,
         seen=seen,
     ), status
 
@@ -158,7 +163,7 @@ def change(number: int) -> Answer:
                     number=number, seen=seen)
     try:
         guard.record("changed the draft of schools", before=draft().cells(number), now=cells)
-        draft().change(number, cells, seen)
+        draft().correct(number, cells, seen)
     except Refused as error:
         present = draft().cells(number)
         if present is None:
@@ -219,10 +224,12 @@ def store() -> Answer:
     """Stores what was shown and confirmed."""
     shown = flask.request.form.get("digest", "")
     try:
-        found = school_drafts.store_all(
-            parts().desk, parts().copies, person(), draft(), flags.present(), shown)
+        draft().look(DRAFT)
+        found = draft().store_all(person(), flags.present(), shown, WAIT_SECONDS)
     except Refused as error:
         return page(said=sentence(str(error)), status=409)
+    if draft().is_running(DRAFT):
+        return flask.redirect(flask.url_for("new_schools.show"), 303)
     done = sum(it.result.outcome == DONE for it in found)
     left = len(draft().rows())
     said = f"{texts.count(done, 'school is', 'schools are')} stored."
