@@ -9,7 +9,7 @@ from typing import Any, cast
 import pytest
 from conftest import make
 from served import served
-from test_desk import APPLIED, CHILDREN, JANE, ROUND, ROW, SCHOOLS, about
+from test_desk import APPLIED, CHILDREN, JANE, ROUND, ROW, ROWS, SCHOOLS, about
 
 from office import senders
 from office.web import desk, kinds, schools
@@ -20,6 +20,9 @@ from office.web.jobs import Jobs
 from office.web.outbox import DONE, FAILED, WAITS, Item, Outbox
 from office.web.people import Person
 from office.web.school_drafts import DRAFT, Draft
+from office.web.staging import Staging
+from office.web.staging_commit import Imports
+from office.web.staging_rows import COMMITTED, OPEN
 from office.web.store import Store
 
 BATCH = "a batch"
@@ -42,6 +45,11 @@ class Copied:
 def draft(store: Store, found: desk.Desk, jobs: Jobs) -> Draft:
     """The draft of schools."""
     return Draft(store, found, jobs, cast(Copies, Copied()))
+
+
+def imports(store: Store, found: desk.Desk, jobs: Jobs) -> Imports:
+    """The imports of the staging table."""
+    return Imports(Staging(store, found.history), found, jobs)
 
 
 class Killed(BaseException):
@@ -85,16 +93,18 @@ def alive(
     """An application, of which each write and each request is an event of its life."""
     record, store, sender = (History(str(folder / "history.jsonl")),
                              Store(str(folder / "office.db")), senders.Http(address))
-    send = sender.send
 
-    def sent(line: bytes) -> bytes:
-        if lines is not None:
-            lines.append(line)
-        return send(line)
+    def counted(real: Callable[[bytes], bytes]) -> Callable[[bytes], bytes]:
+        def found(line: bytes) -> bytes:
+            if lines is not None:
+                lines.append(line)
+            return real(line)
+        return found
 
     with pytest.MonkeyPatch.context() as patch:
         patch.setattr(record, "write", life.around(record.write))
-        patch.setattr(sender, "send", life.around(sent))
+        for way in ("send", "imported"):
+            patch.setattr(sender, way, life.around(counted(getattr(sender, way))))
         found = kind(store, desk.Desk(sender, record), Jobs())
         for name in ("begin", "change", "revise"):
             patch.setattr(found, name, life.around(getattr(found, name)))
@@ -168,6 +178,34 @@ def test_each_school_of_a_draft_is_stored_once_whenever_the_application_is_kille
         assert at > 5 and box.of(DRAFT) == []
         assert lines == [desk.line_of(it) for it in wanted if it] and len(lines) == 2
         assert all(it and kinds.is_done(register, it) for it in wanted)
+
+
+def test_the_rows_of_an_import_are_stored_once_whenever_the_application_is_killed(
+    address: str, tmp_path: pathlib.Path
+) -> None:
+    """They are in the table or stored, and never both."""
+    lines: list[bytes] = []
+    with alive(tmp_path, address, Life(), kind=imports) as box, box.store.writing() as db:
+        db.execute("INSERT INTO staged_file VALUES (1, 'a.csv', '', 0, 0, '[]', '', '', NULL)")
+        db.executemany(
+            "INSERT INTO staged_row (file, number, cells, others, notes, state, who, added,"
+            " changed_by, changed) VALUES (1, ?, '{}', '{}', '[]', ?, '', '', '', '')",
+            [(at, OPEN) for at in (1, 2)])
+    for at, is_after in moments():
+        with alive(tmp_path, address, Life(at, is_after), lines, imports) as box:
+            try:
+                for it in box.open():
+                    box.settle(it)
+                if rows := box.staging.rows(OPEN):
+                    box.store_rows(JANE, rows, ROWS.encode(), {})
+                break
+            except Killed:
+                continue
+    with alive(tmp_path, address, Life(), kind=imports) as box:
+        entries = [it.number for it in box.desk.history.done() if "import" in it.about]
+        found = box.store.rows("SELECT state, entry FROM staged_row")
+        assert at > 4 and lines == [ROWS.encode()] and len(entries) == 1 and box.open() == []
+        assert [tuple(it) for it in found] == [(COMMITTED, entries[0])] * 2
 
 
 @pytest.mark.parametrize("is_after", [False, True])

@@ -1,6 +1,7 @@
 """The staging table: files in, each fault at its cell and corrected there, duplicates, forms; and
 one import, of what was shown and nothing else.
 """
+import contextlib
 import datetime
 import io
 import pathlib
@@ -771,12 +772,22 @@ class Crash(BaseException):
     """The end of the application."""
 
 
+def as_before(path: pathlib.Path) -> None:
+    """The application's file as a version before imports were in the outbox left it."""
+    before = next(at for at, it in enumerate(store.STEPS) if "staged_import" in it)
+    with contextlib.closing(sqlite3.connect(path)) as db:
+        db.executescript("DROP VIEW staged_import; DELETE FROM sending WHERE kind='import';"
+                         f"PRAGMA user_version={before}")
+
+
+@pytest.mark.parametrize("is_earlier", [False, True])
 @pytest.mark.parametrize("when", ["before", "asked", "answered"])
 def test_a_crash_while_it_is_stored(
-    tmp_path: pathlib.Path, monkeypatch: pytest.MonkeyPatch, when: str
+    tmp_path: pathlib.Path, monkeypatch: pytest.MonkeyPatch, when: str, is_earlier: bool
 ) -> None:
     """Before the sending nothing is stored, and the rows are there again; after it they are found
-    to be in the register. Nothing is sent twice, and nothing is lost.
+    to be in the register. Nothing is sent twice, and nothing is lost. Also where the crash was that
+    of an earlier version.
     """
     make(tmp_path / "reg.db", TOWN)
 
@@ -794,15 +805,17 @@ def test_a_crash_while_it_is_stored(
             digest, desk = screens.digest(), office.parts.desk
             real = desk.sender.imported
             if when == "before":
-                patch.setattr(desk, "send_import", crash)
+                patch.setattr(desk, "request", crash)
             elif when == "asked":
                 patch.setattr(desk.sender, "imported", asked)
             else:
-                patch.setattr(staging_commit.Committing, "ended", crash)
+                patch.setattr(staging_commit.Imports, "change", crash)
             with pytest.raises(Crash):
                 screens.store(digest)
             assert states(office) == {SENDING: 12}
-            passwords = office.passwords
+            passwords, own = office.passwords, office.parts.config.folder
+        if is_earlier:
+            as_before(own / "office.db")
         with site(tmp_path, address) as office:
             office.passwords = passwords
             screens = Screens(office.browser("jane"))
@@ -840,7 +853,7 @@ def test_a_crash_after_a_restore(tmp_path: pathlib.Path, monkeypatch: pytest.Mon
             screens = Screens(office.browser("jane"))
             assert screens.add(("a.csv", lines(GOOD))).status_code == 303
             digest = screens.digest()
-            patch.setattr(office.parts.desk, "send_import", crash)
+            patch.setattr(office.parts.desk, "request", crash)
             with pytest.raises(Crash):
                 screens.store(digest)
         with site(tmp_path, address) as office:
@@ -1039,14 +1052,14 @@ def test_a_table_that_cannot_be_written(
     assert found.status_code == 409 and not imports(office)
     assert "Nothing was stored: the table cannot be written: database or disk is full" in found.text
     monkeypatch.setattr(office.parts.store, "writing", real)
-    ended = tools.committing.ended
+    change = tools.committing.imports.change
 
     def late(*_: object) -> None:
         raise Refused("the table cannot be written")
 
-    monkeypatch.setattr(tools.committing, "ended", late)
+    monkeypatch.setattr(tools.committing.imports, "change", late)
     assert screens.store(digest).status_code == 303 and states(office) == {SENDING: 2}
-    monkeypatch.setattr(tools.committing, "ended", ended)
+    monkeypatch.setattr(tools.committing.imports, "change", change)
     assert screens.see().rows() == [] and states(office) == {COMMITTED: 2}
     assert len(imports(office)) == 1
 

@@ -1,8 +1,9 @@
 """Storing the staging table in the register: what would be stored, shown whole before; one import,
 which is stored wholly or not at all; and what became of it.
 
-The rows are marked before they are sent. Where the application ends before they are marked again,
-the history and the register say what became of them, and nothing is sent a second time.
+The rows are marked before they are sent, as a request of the outbox. Where the application ends
+before they are marked again, the history and the register say what became of them, and nothing is
+sent a second time.
 """
 import collections
 import contextlib
@@ -18,8 +19,11 @@ from office import commands, days, fields, persons, rules, sheet, texts
 from office.check import values_of
 from office.model import PLAN, Register
 
+from . import outbox
 from .desk import DONE, REFUSED, Desk, Result
-from .history import SENDS, Entry, History
+from .history import SENDS, Entry
+from .jobs import Jobs
+from .outbox import Item, Outbox, Request
 from .people import Person
 from .staging import Staging
 from .staging_check import Checked, Checker, Differences, Table, too_many
@@ -129,15 +133,94 @@ class Outcome:
     row: Staged | None = None
 
 
+class Imports(Outbox[Item]):
+    """The imports of one application: each is the one request of a batch, whose name its rows are
+    marked with, until it is known whether they are stored.
+    """
+
+    kind, item, stays = "import", Item, (outbox.SENDING,)
+
+    def __init__(self, staging: Staging, desk: Desk, jobs: Jobs) -> None:
+        super().__init__(staging.store, desk, jobs)
+        self.staging = staging
+        # what is sent now, and what came of it with its entry of the history, by batches
+        self.requests: dict[str, Request] = {}
+        self.results: dict[str, tuple[Result, Entry | None]] = {}
+
+    def request(self, it: Item) -> Request:
+        """The rows of an import, with where the points of their homes came from."""
+        return self.requests[it.batch]
+
+    def store_rows(
+        self, who: Person, rows: list[Staged], csv: bytes, points: dict[str, str],
+    ) -> tuple[Result, Entry | None]:
+        """Stores rows, all or none: what came of it, and the entry of the history."""
+        digest = digest_of(csv)
+        # (an earlier entry may have sent the same rows, to a register that was restored since)
+        batch = f"{len(self.desk.history.entries)} {digest}"
+        self.requests[batch] = {
+            "import": csv.decode(), **({"points": points} if points else {})}
+        with self.staging.writing() as db:
+            db.executemany("UPDATE staged_row SET state=?, sent=?, version=version+1 WHERE id=?",
+                           [(SENDING, batch, it.id) for it in rows])
+            self.put(batch, 0, {"digest": digest})
+        try:
+            self.send(who, self.of(batch))
+        except Refused:
+            # (where the rows cannot be marked it is found out later that they are stored)
+            if batch not in self.results:
+                raise
+        finally:
+            del self.requests[batch]
+        return self.results.pop(batch)
+
+    def ended(self, it: Item, result: Result) -> None:
+        """Keeps what came of an import."""
+        self.results[it.batch] = result, self.sent(it)
+        super().ended(it, result)
+
+    def change(self, it: Item, state: str, said: str, sent: int | None = None) -> None:
+        """Marks the rows of an import as stored, or gives them back to the table."""
+        is_done = state == DONE
+        with self.staging.writing() as db:
+            super().change(it, state, said, sent)
+            db.execute("UPDATE staged_row SET state=?, entry=?, version=version+1 WHERE state=?"
+                       " AND sent=?", (COMMITTED if is_done else OPEN, sent if is_done else None,
+                                       SENDING, it.batch))
+
+    def open(self) -> list[str]:
+        """The batches of which it is not known yet what came of them."""
+        rows = self.store.rows("SELECT batch FROM sending WHERE kind=?", self.kind)
+        return [it["batch"] for it in rows]
+
+    def settle(self, batch: object) -> None:
+        """Finds out whether the rows of an import are stored."""
+        for it in self.of(batch):
+            if it.state == outbox.WAITS:
+                # (the application ended before it was begun)
+                self.change(it, outbox.WAITS, "")
+        super().settle(batch)
+
+    def sent(self, it: Item) -> Entry | None:
+        """The last entry of the history that sent the rows of an import since it was marked, and
+        that no restore has undone. After a restore somebody else may have sent them.
+        """
+        history = self.desk.history
+        there = history.lineage()
+        return next((one for one in reversed(history.entries[it.after:])
+                     if one.what == SENDS and one.number in there and "import" in one.about
+                     and digest_of(one.about["import"].encode()) == it.about["digest"]), None)
+
+
 class Committing:
     """Stores the table of one application in its register."""
 
     def __init__(
-        self, staging: Staging, checker: Checker, desk: Desk, record: History,
+        self, staging: Staging, checker: Checker, imports: Imports,
         copy: Callable[[str, str], object],
     ) -> None:
-        self.staging, self.checker, self.desk, self.history = staging, checker, desk, record
-        self.copy = copy
+        self.staging, self.checker, self.imports = staging, checker, imports
+        self.desk, self.copy = imports.desk, copy
 
     def found(self, register: Register) -> Commit:
         """What would be stored now."""
@@ -149,7 +232,7 @@ class Committing:
         changes the table or sends anything else meanwhile.
         """
         with self.staging.lock, self.desk.lock:
-            if said := self.settle():
+            if said := self.unknown():
                 return Outcome(False, said)
             found = self.found(self.desk.now())
             if found.digest != digest:
@@ -157,25 +240,19 @@ class Committing:
             if found.why_not:
                 return Outcome(False, f"Nothing was stored: {found.why_not}.")
             if not found.rows:
-                self.mark(found.equal, COMMITTED)
+                self.take_out(found.equal)
                 return Outcome(True, "", None, len(found.equal))
             self.copy(PURPOSE, who.name)
-            # (an earlier entry may have sent the same rows, to a register that was restored since)
-            sent = f"{len(self.history.entries)} {digest_of(found.csv)}"
-            self.mark([it.staged for it in found.rows], SENDING, sent)
-            return self.came(found, sent, self.desk.send_import(who, found.csv, found.points))
+            rows = [it.staged for it in found.rows]
+            return self.came(
+                found, *self.imports.store_rows(who, rows, found.csv, found.points))
 
-    def came(self, found: Commit, sent: str, result: Result) -> Outcome:
-        """What the sending came to. Where nothing was stored the rows come back at the next look,
-        as they do after a crash.
-        """
+    def came(self, found: Commit, result: Result, entry: Entry | None) -> Outcome:
+        """What the sending came to."""
         if result.outcome == DONE:
-            number = self.entries_of(sent)[-1].number
-            # (where this fails the rows stay marked, and are found to be in the register later)
             with contextlib.suppress(Refused):
-                self.ended(sent, number)
-                self.mark(found.equal, COMMITTED)
-            return Outcome(True, result.said, number, len(found.equal))
+                self.take_out(found.equal)
+            return Outcome(True, result.said, entry.number if entry else None, len(found.equal))
         if result.outcome != REFUSED:
             return Outcome(False, result.said)
         value = commands.read(result.answer)
@@ -186,59 +263,30 @@ class Committing:
         return Outcome(False, f"Nothing was stored: the register does not take {row.where}:"
                        f" {why}.", row=row)
 
-    def settle(self) -> str:
+    def unknown(self) -> str:
         """Finds out what became of rows that were being sent when the application ended. What is
         said where that is not known yet, or "".
         """
-        if not self.pending():
+        if not self.imports.open():
             return ""
         with self.staging.lock, self.desk.lock:
-            for sent, many in self.pending().items():
-                if any(it in self.history.open_requests() for it in self.entries_of(sent)):
-                    try:
-                        self.desk.settle()
-                    except Refused as error:
-                        return (f"Whether {texts.count(many, 'application')} of this table are"
-                                f" stored is not known yet: {error}.")
-                # (a restore may have undone it meanwhile, and it may have been sent again since)
-                there = {it.number for it in self.history.done()}
-                found = [it.number for it in self.entries_of(sent) if it.number in there]
-                if found:
-                    self.ended(sent, found[-1])
-                else:
-                    self.reopened(sent)
+            for batch in self.imports.open():
+                try:
+                    self.imports.settle(batch)
+                except Refused as error:
+                    return (f"Whether {self.sending()} of this table are stored is not known yet:"
+                            f" {error}.")
         return ""
 
-    def pending(self) -> dict[str, int]:
-        """What is being sent, each with the number of its rows."""
-        found = self.staging.store.rows(
-            "SELECT sent, count(*) AS many FROM staged_row WHERE state=? GROUP BY sent", SENDING)
-        return {it["sent"]: it["many"] for it in found}
+    def sending(self) -> str:
+        """How many rows are being sent, in words."""
+        return texts.count(self.staging.count(SENDING), "application")
 
-    def entries_of(self, sent: str) -> list[Entry]:
-        """The entries of the history that sent rows which were marked so."""
-        after, digest = sent.split()
-        return [it for it in self.history.entries[int(after):]
-                if it.what == SENDS and "import" in it.about
-                and digest_of(it.about["import"].encode()) == digest]
-
-    def mark(self, rows: list[Staged], state: str, sent: str = "") -> None:
-        """Marks rows in one step."""
+    def take_out(self, rows: list[Staged]) -> None:
+        """Marks rows as stored that the register has already."""
         with self.staging.writing() as db:
-            db.executemany("UPDATE staged_row SET state=?, sent=?, version=version+1 WHERE id=?",
-                           [(state, sent, it.id) for it in rows])
-
-    def ended(self, sent: str, entry: int | None) -> None:
-        """Marks the rows that were sent as stored."""
-        with self.staging.writing() as db:
-            db.execute("UPDATE staged_row SET state=?, entry=?, version=version+1 WHERE state=?"
-                       " AND sent=?", (COMMITTED, entry, SENDING, sent))
-
-    def reopened(self, sent: str) -> None:
-        """Gives the rows back that were not stored."""
-        with self.staging.writing() as db:
-            db.execute("UPDATE staged_row SET state=?, version=version+1 WHERE state=? AND sent=?",
-                       (OPEN, SENDING, sent))
+            db.executemany("UPDATE staged_row SET state=?, sent='', version=version+1 WHERE id=?",
+                           [(COMMITTED, it.id) for it in rows])
 
     def note(self, row: Staged, why: str) -> None:
         """Keeps with a row why the register does not take it, until it is saved again."""

@@ -13,7 +13,7 @@ from .gazetteer import Gazetteer
 from .guard import parts
 from .staging import Staging
 from .staging_check import Checker, Table
-from .staging_commit import Committing
+from .staging_commit import Committing, Imports
 from .staging_points import Points
 from .staging_rows import OPEN
 
@@ -33,7 +33,8 @@ def begin(state: Any) -> None:
     found = state.app.extensions["office"]
     staging = Staging(found.store, found.history)
     checker = Checker(lambda: flags.words_of(found.store))
-    committing = Committing(staging, checker, found.desk, found.history, found.copies.make)
+    imports = Imports(staging, found.desk, found.jobs)
+    committing = Committing(staging, checker, imports, found.copies.make)
     gazetteer = Gazetteer(found.config.folder / "gazetteer", found.store, found.history)
     points = Points(staging, gazetteer, found.history)
     state.app.extensions["staging"] = Tools(staging, checker, committing, points)
@@ -55,7 +56,7 @@ def register_now() -> tuple[Register | None, str]:
 
 def table_now() -> tuple[Table, str]:
     """The table as it is, and what is to be said of it."""
-    unknown = tools().committing.settle()
+    unknown = tools().committing.unknown()
     register, reason = register_now()
     return tools().checker.table(tools().staging.rows(OPEN), register), unknown or reason
 

@@ -249,6 +249,16 @@ STEPS = (
     CREATE VIEW school_draft AS SELECT place AS number, about AS cells, state, said, who, after
         FROM sending WHERE kind='school';
     """,
+    # an import of rows of the staging table is sent so as well: what it is about is the digest of
+    # its rows, which have the name of its batch
+    """
+    INSERT INTO sending (kind, batch, place, about, state, said, after)
+        SELECT DISTINCT 'import', sent, 0, json_object('digest',
+            substr(sent, instr(sent, ' ') + 1)), 'sending', '', CAST(sent AS INTEGER)
+        FROM staged_row WHERE state='sending';
+    CREATE VIEW staged_import AS SELECT number, batch AS sent, about ->> 'digest' AS digest, state,
+        said, who, after FROM sending WHERE kind='import';
+    """,
 )
 # the disk, or the limit of a file of the system, is reached
 FULL = "SQLITE_FULL"

@@ -18,7 +18,7 @@ Answer = str | Response | tuple[str, int]
 
 def page(text: str = "", refused: Staged | None = None) -> Answer:
     """What would be stored, with what came of an attempt."""
-    unknown, found, said = tools().committing.settle(), None, [text] if text else []
+    unknown, found, said = tools().committing.unknown(), None, [text] if text else []
     try:
         found = tools().committing.found(parts().desk.now())
     except Refused as error:
