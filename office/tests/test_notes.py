@@ -17,7 +17,8 @@ from register_files import Refused
 
 from office.web import notes
 from office.web.people import Person
-from office.web.store import STEPS, Store
+from office.web.schema import STEPS
+from office.web.store import Store
 
 ADD, UPLOAD = "Add the note to child {}", "Add the file to child {}"
 

@@ -308,7 +308,7 @@ def see_two_are_needed(office: Site, head: Person, jane: Person) -> None:
 def see_forgotten(office: Site, digest: str, children: int = 5) -> dict[str, Any]:
     """Nothing of the season is with the application, but the record, which is returned."""
     assert not list(archive.folder_of(office.parts).iterdir())
-    for it in archive.tables(office.parts.store):
+    for it in archive.tables():
         assert office.parts.store.rows(f"SELECT * FROM {it}") == [], it
     first = office.parts.history.entries[0]
     assert (first.number, first.who, first.what) == (1, "jane", "deleted the season")

@@ -26,7 +26,9 @@ from werkzeug.datastructures import FileStorage
 from office import apart, fields, inputs, sheet, sheet_apart, turns
 from office.model import Register
 from office.senders import Ended
-from office.web import draws_sheet, staging_check, staging_commit, staging_form, store, uploads
+from office.web import (
+    draws_sheet, schema, staging_check, staging_commit, staging_form, store, uploads,
+)
 from office.web.people import Person
 from office.web.staging_rows import COMMITTED, OPEN, SENDING, WITHDRAWN
 
@@ -774,7 +776,7 @@ class Crash(BaseException):
 
 def as_before(path: pathlib.Path) -> None:
     """The application's file as a version before imports were in the outbox left it."""
-    before = next(at for at, it in enumerate(store.STEPS) if "staged_import" in it)
+    before = next(at for at, it in enumerate(schema.STEPS) if "staged_import" in it)
     with contextlib.closing(sqlite3.connect(path)) as db:
         db.executescript("DROP VIEW staged_import; DELETE FROM sending WHERE kind='import';"
                          f"PRAGMA user_version={before}")
@@ -1200,7 +1202,7 @@ def test_a_store_of_the_first_version_is_taken_on(tmp_path: pathlib.Path) -> Non
     """The tables are added to a file that has people alone."""
     path = str(tmp_path / "office.db")
     with sqlite3.connect(path) as db:
-        db.executescript(store.STEPS[0] + "PRAGMA user_version=1;")
+        db.executescript(schema.STEPS[0] + "PRAGMA user_version=1;")
     found = store.Store(path)
     assert found.rows("SELECT * FROM staged_row") == []
     found.close()

@@ -15,8 +15,10 @@ import pytest
 from applications import ROUND, SCHOOLS, Browser, Site, child, office_over, town
 from pages import Page, press
 
-from office.web import history, subject
+from office.web import history
+from office.web.outbox import Outbox
 from office.web.people import Person
+from office.web.schema import IN_LINES, OF_CHILD, OF_NOBODY, TABLES
 from office.web.store import Store
 
 NAMES_OF_OTHERS = ("Ben Bell", "Cole", "Dare", "OTHERS")
@@ -257,15 +259,32 @@ def test_only_who_may_see_notes_gets_it(office: Site) -> None:
 
 
 def test_each_table_of_the_application_is_known(tmp_path: pathlib.Path) -> None:
-    """A new table must be said to have something of a child, or nothing."""
+    """A new table must be said to have something of a child, or nothing; and a view to be one."""
     store = Store(str(tmp_path / "office.db"))
-    names = {it["name"] for it in store.rows(
-        "SELECT name FROM sqlite_master WHERE type IN ('table', 'view')"
+    names = {it["name"]: it["type"] == "view" for it in store.rows(
+        "SELECT name, type FROM sqlite_master WHERE type IN ('table', 'view')"
         " AND name NOT LIKE 'sqlite%'")}
-    known = [*subject.OF_CHILD, *subject.IN_LINES, *subject.BY_ITSELF, *subject.OF_NOBODY]
-    assert sorted(known) == sorted(names)
-    for table in names:
+    assert {name: it.is_view for name, it in TABLES.items()} == names
+    for table, it in TABLES.items():
         query_of = f"SELECT name FROM pragma_table_info('{table}')"
-        columns = {it["name"] for it in store.rows(query_of)}
-        assert ("child" in columns) == (table in (*subject.OF_CHILD, "lot"))
+        columns = {row["name"] for row in store.rows(query_of)}
+        assert ("child" in columns) == (it.whose == OF_CHILD or table == "lot"), table
+        assert bool(it.lines) == (it.whose == IN_LINES), table
+        assert {*it.lines, *it.changing} <= columns, table
+        assert it.is_of_season or it.whose == OF_NOBODY, table
+    store.close()
+
+
+def test_what_is_sent_in_rows_is_shown_by_views(tmp_path: pathlib.Path) -> None:
+    """Of each kind: what an archive has in place of the table."""
+    store = Store(str(tmp_path / "office.db"))
+    kinds = {"answer": "answer", "notice": "notice", "again": "again", "school": "school_draft",
+             "import": "staged_import"}
+    own = [it for it in Outbox.__subclasses__() if it.__module__.startswith("office.")]
+    assert {it.kind for it in own} == kinds.keys()
+    with store.writing() as db:
+        for kind in kinds:
+            waits(db, kind, "1", 1)
+    for view in kinds.values():
+        assert TABLES[view].is_view and len(store.rows(f"SELECT * FROM {view}")) == 1, view
     store.close()

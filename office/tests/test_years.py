@@ -17,7 +17,8 @@ from register_files import Refused
 from office import model
 from office.web import history
 from office.web.history import ANSWER, SENDS, History
-from office.web.store import STEPS, Store
+from office.web.schema import STEPS
+from office.web.store import Store
 
 # registers as a program of the first version of the file has left them; one was killed
 FIRST = pathlib.Path(__file__).resolve().parents[2] / "crates/desk_runs/data"

@@ -25,20 +25,13 @@ from office.register_lists import Rows
 from . import history
 from .draws_lots import sheet_of
 from .draws_terms import Draw
+from .schema import TABLES
 from .store import Store
 
 if TYPE_CHECKING:
     from .parts import Parts
 
 FOLDER, START, DIGESTS = "archive", "start-here.html", "digests.txt"
-# what of the application's own file is no part of a season: secrets, and what it is set up with
-SECRET = ("person", "session", "setting")
-# what has its rows in views
-BY_VIEWS = "sending"
-# what says nothing of a family: copies with their tests, and what is on its way to the history
-PASSING = ("copy", "told")
-# and what the application changes by itself, as when it removes the file of letters that were made
-BY_ITSELF = {"letter_set": ("state", "said", "seen", "ended", "taken")}
 # where the rows of a table are
 LINES = "office/{}.jsonl"
 # the lists of a draw, of which each is a sheet
@@ -143,14 +136,12 @@ def people_rows(store: Store) -> Rows:
     return [list(names), *([it[name] for name in names] for it in rows)]
 
 
-def tables(store: Store, is_shown: bool = True) -> list[str]:
+def tables(is_shown: bool = True) -> list[str]:
     """The tables of the application's own file that are of a season: as they are shown, with views
     in place of what is sent in rows; or as they are.
     """
-    rows = store.rows("SELECT name, type FROM sqlite_master WHERE type IN ('table', 'view')"
-                      " AND name NOT LIKE 'sqlite%' ORDER BY name")
-    return [it["name"] for it in rows if it["name"] not in SECRET
-            and (it["name"] != BY_VIEWS if is_shown else it["type"] == "table")]
+    return [name for name, it in sorted(TABLES.items()) if it.is_of_season
+            and not (it.is_hidden if is_shown else it.is_view)]
 
 
 def source_of(name: str) -> str:
@@ -165,7 +156,7 @@ def of_store(store: Store) -> Iterator[tuple[str, str, bytes]]:
     """What the application keeps of the season, by its tables: each row a line of JSON, and what is
     a file beside it.
     """
-    for name in tables(store):
+    for name in tables():
         lines, files = [], []
         for at, row in enumerate(store.rows(f"SELECT * FROM {source_of(name)}"), 1):
             cells: dict[str, Any] = {}
@@ -186,13 +177,13 @@ def lacks(store: Store, path: pathlib.Path) -> list[str]:
     found = []
     with zipfile.ZipFile(path) as made:
         there = set(made.namelist())
-        for name in tables(store):
+        for name in tables():
             columns = compared(store, name)
             lines = made.read(LINES.format(name)) if LINES.format(name) in there else b""
             kept = {packed(json.loads(it), columns) for it in lines.splitlines()}
             marks = ", ".join(f'"{it}"' for it in columns)
             asked = f"SELECT {marks} FROM {source_of(name)}"
-            rows = store.rows(asked) if name not in PASSING else []
+            rows = store.rows(asked) if not TABLES[name].is_passing else []
             if {packed(dict(it), columns) for it in rows} - kept:
                 found.append(name)
     return found
@@ -204,7 +195,7 @@ def compared(store: Store, name: str) -> list[str]:
     """
     rows = store.rows("SELECT name, type FROM pragma_table_info(?)", name)
     return [it["name"] for it in rows
-            if it["type"] != "BLOB" and it["name"] not in BY_ITSELF.get(name, ())]
+            if it["type"] != "BLOB" and it["name"] not in TABLES[name].changing]
 
 
 def packed(row: Mapping[str, Any], columns: Iterable[str]) -> str:

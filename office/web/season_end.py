@@ -28,6 +28,7 @@ from .draws_second import Case
 from .history import now
 from .people import Person
 from .outbox import DONE
+from .schema import TABLES
 from .staging_rows import OPEN, SENDING
 
 if TYPE_CHECKING:
@@ -39,14 +40,6 @@ DELETING, DELETED = "deleting", "deleted"
 # what the machine is asked for, by the number of a day
 DAY, DELETE = "deletion-day", "delete"
 SET_DAY, DELETED_SEASON = "set the day of deletion", "deleted the season"
-# what is counted by a name of its own before it is deleted, by its table
-CALLED = {
-    "staged_row": "rows of files of applications", "answer": "answers that wait in batches",
-    "note": "notes of children", "child_file": "files of children", "letter": "letters",
-    "letter_template": "templates of letters", "notice": "reminders and withdrawals",
-    "lot": "lots that were typed or sealed", "figures": "figures that were made",
-}
-OTHERS = "other entries of the application"
 
 
 class WrongField(Refused):
@@ -318,12 +311,10 @@ class SeasonEnd:
             "copies made here": len(self.parts.copies.listed()),
             "entries of the history": len(self.parts.history.entries),
         }
-        for it in archive.tables(store):
-            # (a recorded answer stays in its list, and is counted in the history)
-            waits = f" WHERE state<>'{DONE}'" if it == "answer" else ""
-            if many := store.rows(f"SELECT count(*) FROM {it}{waits}")[0][0]:
-                name = CALLED.get(it, OTHERS)
-                found[name] = found.get(name, 0) + many
+        for it in archive.tables():
+            called, counted = TABLES[it].called, TABLES[it].counted or "true"
+            if many := store.rows(f"SELECT count(*) FROM {it} WHERE {counted}")[0][0]:
+                found[called] = found.get(called, 0) + many
         return found
 
     def see_due(self, found: End) -> None:
@@ -335,7 +326,7 @@ class SeasonEnd:
             raise Refused(f"the day of deletion is {days.in_words(date)}: it has not come")
         self.see_unchanged(found)
         if lacks := archive.lacks(self.parts.store, self.see_archive(found)):
-            named = texts.listed(sorted({CALLED.get(it, OTHERS) for it in lacks}))
+            named = texts.listed(sorted({TABLES[it].called for it in lacks}))
             raise Refused(f"the archive lacks what was recorded here since it was made ({named}):"
                           " make it again, and take it")
 
@@ -409,7 +400,7 @@ class SeasonEnd:
             store.db.execute("PRAGMA secure_delete=ON")
             with store.writing() as db:
                 db.execute("PRAGMA defer_foreign_keys=ON")
-                for it in archive.tables(store, False):
+                for it in archive.tables(False):
                     db.execute(f"DELETE FROM {it}")
             # (a log and free pages would keep what was deleted)
             store.db.execute("VACUUM")

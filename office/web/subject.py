@@ -16,20 +16,8 @@ from office.model import Register
 from .draws_terms import ENDED
 from .history import ANSWER, SENDS, SETTLED, Entry
 from .records import came_of, ends_of, points_in, row_in
+from .schema import IN_LINES, OF_CHILD, tables_of
 
-# the tables of the application's file: those of which a row is of the child in its column of this
-# name; those whose texts may name children in their lines; those that are read by a way of their
-# own; and those that say nothing of a child
-OF_CHILD = ("note", "child_file", "letter", "notice", "answer", "letter_address")
-IN_LINES = {
-    "draw": ("rehearsal", "audit", "trouble"), "draw_step": ("said",), "restore_step": ("said",),
-    "letter_audit": ("said",), "notice_row": ("said",),
-}
-BY_ITSELF = ("staged_row", "letter_set", "again", "lot", "sending")
-OF_NOBODY = (
-    "setting", "person", "session", "copy", "staged_file", "school_draft", "told", "restore",
-    "letter_template", "letter_version", "letter_picture", "letter_sender", "list_view", "figures",
-)
 # what is not in this, and where it is
 ELSEWHERE = (
     "Copies of the register and of the application's file have what these had on their day.",
@@ -221,7 +209,7 @@ def values(row: Mapping[str, Any]) -> dict[str, Any]:
 def of_tables(store: Rows, known: Known, entries: Iterable[int]) -> dict[str, list[Any]]:
     """The rows of the application's file that are of the child, by tables."""
     found: dict[str, list[Any]] = {}
-    for table in OF_CHILD:
+    for table in tables_of(OF_CHILD):
         rows = store.rows(f"SELECT * FROM {table} WHERE child=? ORDER BY 1, 2", known.number)
         found[table] = [values(row) for row in rows]
     found["lot"] = [values(row) for row in store.rows(
@@ -232,8 +220,8 @@ def of_tables(store: Rows, known: Known, entries: Iterable[int]) -> dict[str, li
     found["answer"] += of_answers(store, known)
     found["staged_row"] = [values(row) for row in staged(store)
                            if is_staged(row, known.number)]
-    for table, columns in IN_LINES.items():
-        found[table] = list(of_lines(store, table, columns, known))
+    for table, it in tables_of(IN_LINES).items():
+        found[table] = list(of_lines(store, table, it.lines, known))
     found["letter_set"] = [of_set(row) for row in store.rows("SELECT * FROM letter_set ORDER BY id")
                            if row["id"] in known.sets]
     chosen = set(entries)
