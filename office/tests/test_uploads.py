@@ -61,6 +61,48 @@ def test_a_file_of_a_child_has_at_most_five_million_bytes(jane: Browser) -> None
         assert jane.post("/children/1/files", given).status_code == status, size
 
 
+class Endless(io.RawIOBase):
+    """A body that does not end."""
+
+    def __init__(self) -> None:
+        self.taken = 0
+
+    def readable(self) -> bool:
+        """It can be read."""
+        return True
+
+    def seekable(self) -> bool:
+        """For the client of tests, which asks for its length."""
+        return True
+
+    def seek(self, *_: int) -> int:
+        """It has no end."""
+        return 0
+
+    def readinto(self, room: Any) -> int:
+        """A megabyte more of a field, up to a size by which all is said."""
+        assert self.taken < 50_000_000, "it is read on and on"
+        begin = b"" if self.taken else b'--b\r\nContent-Disposition: form-data; name="a"\r\n\r\n'
+        room[:] = begin + b"x" * (len(room) - len(begin))
+        self.taken += len(room)
+        return len(room)
+
+
+@pytest.mark.parametrize("path", ["/sign-in", "/people/", "/answers/several", "/command"])
+@pytest.mark.parametrize("kind", ["multipart/form-data; boundary=b", "application/json"])
+def test_a_body_that_does_not_say_how_long_it_is_is_not_read(
+    office: Site, jane: Browser, path: str, kind: str
+) -> None:
+    """As one in chunks, of which the site makes one with a length: nobody's and an officer's."""
+    for client in (office.app.test_client(), jane.client):
+        body = Endless()
+        found = client.post(
+            path, base_url=ORIGIN, headers={"Origin": ORIGIN, "Transfer-Encoding": "chunked"},
+            input_stream=body, content_type=kind,
+            environ_overrides={"wsgi.input_terminated": True, "CONTENT_LENGTH": ""})
+        assert (found.status_code, body.taken) == (411, 0)
+
+
 @pytest.mark.parametrize("role, path, most", [
     ("officer", "/applications/gazetteer/file", (64 << 20) + 65_536),
     ("officer", "/answers/several", 16 << 20),

@@ -246,6 +246,9 @@ def see() -> AnyResponse | None:
     """Lets a request pass, or answers it."""
     turns.SERVES.set(True)
     request = flask.request
+    # (the site says of each body how long it is, by which it is bounded)
+    if "Transfer-Encoding" in request.headers:
+        flask.abort(411)
     view = flask.current_app.view_functions.get(request.endpoint or "")
     if view is None:
         # (for the menu of the page that says so)
