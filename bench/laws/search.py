@@ -3,7 +3,7 @@
 
 outcomes  prints what crates/match_runs must print: of each block of problems how many there are, how many children have a place, how many
           entries of their lists are gone through, and a checksum of what each child has; and the same of every list of the two schools that
-          a child of a small problem could hand in, and of changes of the drawn ones.
+          a child of a small problem could hand in.
 laws      tries each law of a round on these problems: with more places, without a child, with a shorter list, with another list, with lists
           stated by a group, beside all other allocations, and with each child as tenant of what it has. It prints how often, and ends with
           status 1 where one does not hold or was not tried. It takes some minutes.
@@ -415,19 +415,6 @@ def print_lists(block, found, given_by):
     print(f"small {block}, other lists: {len(answers) - refused}, refused {refused}, checksum {checksum(answers)}")
 
 
-def print_changes(kind, block, found):
-    """How many the first school of each problem has, and what is given with a place more there, without the first child, and where that
-    child lists its first school alone: as a tenant of none, within a group, and by ending its list there, which a tenant may not."""
-    numbers = []
-    for entrants, quotas in found:
-        own, (school, quota) = entrants[0], quotas[0]
-        alone = replaced(entrants, 0, Entrant((own.list[:1], "", own.ranks)))
-        changes = [(entrants, with_quota(quotas, school, quota + 1)), (replaced(entrants, 0, None), quotas)]
-        changes += [(alone, quotas)] * (2 if own.tenant else 3)
-        numbers += [best(entrants, quotas).count(school), *(number_of(best(*it)) for it in changes)]
-    print(f"{kind} {block}, changes: {len(numbers)}, checksum {checksum(numbers)}")
-
-
 def outcomes():
     given_by = {}
     blocks: list[list] = [[] for _ in range(SMALL)]
@@ -445,7 +432,6 @@ def outcomes():
         for block in range(DRAWN // BLOCK):
             found = posed[BLOCK * block : BLOCK * (block + 1)]
             print_block(kind, block, [(entrants, best(entrants, quotas)) for entrants, quotas in found])
-            print_changes(kind, block, found)
     return 0
 
 

@@ -987,7 +987,7 @@ def test_each_rule_of_the_code_has_its_paragraphs(promises: typing.Any) -> None:
     ("    adm_command_laws::no_better_list\n", "", "no clause, or 'limit'"),
     ("    adm_command_laws::no_better_list\n", "    adm_command_laws::no_best_list\n",
      "there is no clause adm_command_laws::no_best_list"),
-    ("    adm_laws::no_loss_by_raise\n", "    adm_schema::insert: text\n", "there is no clause"),
+    ("    adm_fairness::no_loss_by_raise\n", "    adm_schema::insert: text\n", "there is no clause"),
     ("Round.AreOutcomes, Stability.IsBest\n", "Round.AreOutcome\n",
      "reaches no definition Round.AreOutcome"),
 ])

@@ -1,5 +1,5 @@
 -- Each envy since the season began has a cause, as nobody waited then.
-use Rattle.std.proofs.Common.{◌≡◌, ◌∙◌, sym, ℕ, inl, inr}
+use Rattle.std.proofs.Common.{◌∙◌, sym, ℕ, inl, inr}
 use Rattle.std.specs.Ordering.{nat_cmp}
 use Rattle.std.specs.FinMap.{get-empty}
 use Rattle.std.proofs.lemmas.Option.{none-some}

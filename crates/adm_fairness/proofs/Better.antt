@@ -21,7 +21,7 @@ use Rattle.adm_match.proofs.RanksAndBlocks.{at_All, All_at, guest_from, guest_gi
 use Rattle.adm_match.proofs.FoundWishes.{rank_within}
 use Rattle.adm_match.proofs.Placed.{full_if_unblocked}
 use Rattle.adm_match_laws.specs.AnyList.{MayHandIn}
-use Rattle.adm_laws.specs.Groups.{HandsIn, IsHandedInBy, NoGroupGains}
+use Rattle.adm_match_laws.specs.Groups.{HandsIn, IsHandedInBy, NoGroupGains}
 use Rattle.adm_fairness.specs.Optimal.{NotAllBetter}
 use Rattle.adm_fairness.proofs.Codes.{at_index}
 use Rattle.adm_fairness.proofs.Fairer.{at_least}

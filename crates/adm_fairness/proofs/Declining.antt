@@ -18,7 +18,7 @@ use Rattle.adm_types.specs.declared.commands.Command.TheVariants.{Decline}
 use Rattle.adm_types.specs.declared.commands.Refusal.TheVariants as refusal
 use Rattle.adm_match.specs.Market.{Code}
 use Rattle.adm_match.specs.Stability.{IsStable}
-use Rattle.adm_laws.specs.Groups.{NoGroupGains}
+use Rattle.adm_match_laws.specs.Groups.{NoGroupGains}
 use Rattle.adm_round.specs.declared.applicants.Applicant.{Applicant}
 use Rattle.adm_round.specs.Outcomes.{AllotmentFits}
 use Rattle.adm_register.specs.State.{State, is_plan}

@@ -44,7 +44,6 @@ use Rattle.adm_round.specs.Outcomes.{is_fresh, HasListedSchool, AllotmentFits}
 use Rattle.adm_round.proofs.Faultless.{its_schools, faultless}
 use Rattle.adm_round.proofs.ListedSchools.{code_self, code_swap, site_known, school_of_wish, on_list, none_any}
 use Rattle.adm_register.specs.State.{State, is_plan}
-use Rattle.adm_register.specs.Change.{after}
 use Rattle.adm_register.specs.Wanted.{has_left, own_school}
 use Rattle.adm_register.specs.Wanted as register
 use Rattle.adm_register.proofs.Maps.{code_cmp-IsAntisymmetric}
@@ -794,9 +793,6 @@ module _ {old : State} {numbers : List ℕ} {outcomes : List Outcome} (facts : I
   are_refusals = record { each = each_refused; only = only_refused; once = once_refused }
 
 module _ (old new : State) (draw day : ℕ) (numbers : List ℕ) (kept : KeptByRound day numbers) (found : RoundFacts old new draw day numbers) where
-  after_round : new ≡ after old (round.change_of old draw day numbers found.outcomes)
-  after_round = found.now
-
   pub explained : IsExplained old new draw numbers
   unfolding round.change_of
   explained =

@@ -35,7 +35,7 @@ use Rattle.adm_register.proofs.RoundLemmas.{in_listed}
 use Rattle.adm_commands.specs.Commands.Round.{round_applicants, round_lots, round_market, sites}
 use Rattle.adm_commands.specs.Problem.{lots_fault}
 use Rattle.adm_commands.proofs.Posed.{posed}
-use Rattle.adm_laws.specs.Groups.{HandsIn, IsHandedInBy, NoGroupGains}
+use Rattle.adm_match_laws.specs.Groups.{HandsIn, IsHandedInBy, NoGroupGains}
 use Rattle.adm_fairness.specs.Rounds.{key_in}
 use Rattle.adm_fairness.specs.Honesty.{KeepsCommonLots}
 use Rattle.adm_fairness.proofs.Codes.{at_index}

@@ -4,7 +4,7 @@ use Rattle.std.specs.Prelude.{All, Any}
 use Rattle.std.specs.List.{AllZip}
 use Rattle.std.specs.FinMap.{get}
 use Rattle.std.proofs.lemmas.Option.{same_Some, slice_get-get_or}
-use Rattle.adm_laws.proofs.Zips.{zip_any}
+use Rattle.adm_fairness.proofs.Zipped.{zip_any}
 use Rattle.adm_lists.proofs.Members.{In, in_All, in_map, from_map}
 use Rattle.adm_types.specs.declared.rows.Child.{Child}
 use Rattle.adm_types.specs.declared.draws.Outcome.{Outcome}

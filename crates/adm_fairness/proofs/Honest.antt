@@ -19,7 +19,7 @@ use Rattle.adm_types.specs.declared.commands.Command.TheVariants.{Apply}
 use Rattle.adm_types.specs.declared.commands.Refusal.TheVariants as refusal
 use Rattle.adm_match.specs.Market.{Candidate, assigned_rank}
 use Rattle.adm_match.specs.Stability.{IsBest, IsStable}
-use Rattle.adm_laws.specs.Groups.{NoGroupGains}
+use Rattle.adm_match_laws.specs.Groups.{NoGroupGains}
 use Rattle.adm_round.specs.declared.applicants.Applicant.{Applicant}
 use Rattle.adm_round.specs.Round.{number_of}
 use Rattle.adm_round.specs.Ranks.{site_of, lot_at, candidate_of}

@@ -25,6 +25,10 @@ pub mod Group
 pub mod Declining
 pub mod Fairer
 pub mod Better
+pub mod MoreQuotas
+pub mod MorePlaces
+pub mod ShorterList
+pub mod AppliedLists
 pub mod Zipped
 pub mod Settled
 pub mod Resumed

@@ -8,7 +8,7 @@ use Rattle.std.specs.FinMap.{FinMap, get, insert, entries, values, put, entries-
 use Rattle.std.specs.List as list
 use Rattle.std.proofs.lemmas.Option.{same_Some}
 use Rattle.std.proofs.lemmas.Slice.Eq.{bytes_eq-Decides}
-use Rattle.adm_laws.proofs.Zips.{put_zip}
+use Rattle.adm_fairness.proofs.Zipped.{put_zip}
 use Rattle.adm_lists.proofs.Members.{In, in_All, from_map, from_filter_map, find_gives}
 use Rattle.adm_types.specs.declared.rows.School.{School}
 use Rattle.adm_types.specs.declared.rows.Child.{Child}

@@ -7,6 +7,8 @@ pub mod Cutoffs
 pub mod Explained
 pub mod Improvements
 pub mod Honesty
+pub mod Raises
+pub mod ShorterLists
 pub mod Optimal
 pub mod Lattice
 pub mod Anew

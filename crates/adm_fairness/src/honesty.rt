@@ -1,8 +1,7 @@
 // Applications and places: what a child may gain by another application or a declined place, and what others may by one.
 ghost use Rattle.adm_fairness.specs.Honesty.{NoApplicationHelps, NoApplicationsHelp, NoLossByNotApplying, NoGainByDeclining};
 
-use adm_laws::no_group_gains;
-use adm_match_laws::{kinds_of_generosity, no_loss};
+use adm_match_laws::{kinds_of_generosity, no_group_gains, no_loss};
 use adm_round::allotment_fits;
 
 /// By no other application does a child get in the next round a school that it truly wants more: of

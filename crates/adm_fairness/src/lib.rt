@@ -8,8 +8,10 @@ mod honesty;
 mod improvements;
 mod lattice;
 mod optimal;
+mod raises;
 mod rounds;
 mod season;
+mod shorter_lists;
 
 pub use anew::{later_rounds_anew, one_round_anew, rounds_anew};
 pub use code::{
@@ -23,7 +25,9 @@ pub use honesty::{
 pub use improvements::{no_loss_by_amend, no_loss_by_rank};
 pub use lattice::{best_is_last_choice, join_is_stable, meet_is_stable};
 pub use optimal::{none_fairer, not_all_better};
+pub use raises::{no_loss_by_quotas, no_loss_by_raise};
 pub use rounds::{round_is_fair, same_lots_same_places, same_order_same_places};
 pub use season::{
     envy_has_cause, every_envy_has_cause, no_new_envy, place_ends_fairly, plan_is_kept,
 };
+pub use shorter_lists::{no_loss_by_shorter_application, no_loss_by_shorter_list};

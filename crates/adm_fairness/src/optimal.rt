@@ -1,8 +1,7 @@
 // What no other allocation of a problem does better than the best stable one.
 ghost use Rattle.adm_fairness.specs.Optimal.{NoneFairer, NotAllBetter};
 
-use adm_laws::no_group_gains;
-use adm_match_laws::{kinds_of_generosity, no_loss};
+use adm_match_laws::{kinds_of_generosity, no_group_gains, no_loss};
 
 /// No feasible allocation is better for each child, not even one by which some children envy others
 /// with reason (Roth 1982).

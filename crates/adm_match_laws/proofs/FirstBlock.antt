@@ -1,11 +1,11 @@
 -- The first block: of one list, and among the entrants before an index.
-use Rattle.std.proofs.Common.{◌≡◌, ℕ, zero, suc, ◌+◌, ◌<◌, ◌≤◌, List, [], ◌∷◌, length, Option, None, Some, Bool, true, false, cond, not, leb, MatchOption, IfSome, IfNone, inl, inr, refl, sym, ap, ◌∙◌, subst, arith}
-use Rattle.std.specs.Prelude.{All, bytes_eq, option_map, find}
+use Rattle.std.proofs.Common.{◌≡◌, ℕ, zero, suc, ◌+◌, ◌<◌, ◌≤◌, List, [], ◌∷◌, length, Option, None, Some, Bool, true, false, cond, leb, MatchOption, IfSome, IfNone, inl, inr, refl, sym, ap, ◌∙◌, subst, arith}
+use Rattle.std.specs.Prelude.{All, option_map, find}
 use Rattle.std.specs.List.{slice_get}
 use Rattle.std.proofs.lemmas.Bool.{cases_Bool, cases_lt, and_parts, ltb-true, leb-true, leb-false}
 use Rattle.std.proofs.lemmas.Option.{none-some, same_Some, slice_get_within, get_or_from_slice_get}
 use Rattle.adm_match.specs.declared.problem.Wish.{Wish}
-use Rattle.adm_match.specs.Market.{Code, Candidate, Market, preference_rank, assigned_rank}
+use Rattle.adm_match.specs.Market.{Code, Candidate, Market, preference_rank}
 use Rattle.adm_match.specs.Stability.{Allocation, prefers, blocks, IsContent, IsFirstOfList, IsFirstBlock}
 use Rattle.adm_match_laws.specs.Blocks.{earlier}
 use Rattle.adm_match.proofs.RanksAndBlocks.{wish_at_rank, All_at}

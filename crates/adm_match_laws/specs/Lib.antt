@@ -3,3 +3,4 @@ pub mod Generous
 pub mod FullSchools
 pub mod AnyList
 pub mod Children
+pub mod Groups

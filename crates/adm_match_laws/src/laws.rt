@@ -1,7 +1,8 @@
-// The laws of stable allocations: no gain, the same placed, one best, no loss, the same schools full.
+// The laws of stable allocations: no gain, not by a group either, the same placed, one best, no loss, the same schools full.
 ghost use Rattle.adm_match.specs.Relisting.{NoGain, OneBest};
 ghost use Rattle.adm_match_laws.specs.AnyList.{NoListHelps};
 ghost use Rattle.adm_match_laws.specs.FullSchools.{SamePlaced, SameSchoolsFill};
+ghost use Rattle.adm_match_laws.specs.Groups.{NoGroupGains};
 ghost use Rattle.adm_match_laws.specs.Generous.{KindsOfGenerosity, NoLoss, NoLossByLeaving, NoLossByCutting, NoLossByPlaces};
 
 /// A child never gains by listing its wanted schools in another order, or by leaving some out.
@@ -50,6 +51,16 @@ pub fn no_loss_by_cutting()
 /// does not truly list (Roth 1982; Dubins and Freedman 1981).
 pub fn no_list_helps()
     ensures { NoListHelps }
+{}
+
+/// No group of children gains: by whatever lists they hand in together, some child of the group has
+/// no school that it truly wants more than the one that the true lists get it.
+///
+/// It is false that none of a group gains while none of it loses: two places at A and one at B, and no
+/// tenants; children 0 and 2 list B, A, and 1 and 3 list A, B; A ranks them 2, 3, 1, 0, and B 1, 3, 0,
+/// 2. Children 0, 1 and 3 agree: 0 lists none, 1 lists A alone, and 3 lists A, B.
+pub fn no_group_gains()
+    ensures { NoGroupGains }
 {}
 
 /// Each school has equally many entrants in every stable allocation, and one with room has the same

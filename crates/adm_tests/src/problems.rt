@@ -1,6 +1,6 @@
 // Problems, from short tables.
 use adm_match::{BadProblem, Entrant, Offers, Problem, Seats, Wish, offers};
-use adm_match_laws::{first_block, offers_by_scan};
+use adm_match_laws::first_block;
 use adm_rank::RankKey;
 use adm_types::{ChildNo, SchoolCode};
 use std::alloc::Global;
@@ -94,16 +94,12 @@ pub fn problem(alloc: Global, table: Table) -> Result<Problem, Fail> {
     }
 }
 
-/// What both bodies give, where they agree on the count and no pair blocks.
+/// What is given, where no pair blocks.
 pub fn allot(alloc: Global, table: Table) -> Result<Offers, Fail> {
     let problem = problem(alloc, table)?;
     let given = offers(alloc, &problem)?;
-    let scanned = offers_by_scan(alloc, &problem)?;
-    if first_block(&problem, &given).is_some() || first_block(&problem, &scanned).is_some() {
+    if first_block(&problem, &given).is_some() {
         return Err(Fail::from("a pair blocks"));
-    }
-    if given.proposals() != scanned.proposals() {
-        return Err(Fail::from("the bodies differ"));
     }
     Ok(given)
 }

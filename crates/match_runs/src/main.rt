@@ -1,13 +1,13 @@
 // Allots the places of all small problems and of drawn ones, or those of one market.
-// Without arguments it prints what `offers` and `what_if` give, as counts and checksums of blocks. With a size as its arguments
-// (entrants, wishes, schools) it allots that market alone, and prints the microseconds that it took.
+// Without arguments it prints what `offers` and `what_if` give, as counts and checksums of blocks, and where a plain scan gives anything
+// else. With a size as its arguments (entrants, wishes, schools) it allots that market alone, and prints the microseconds that it took.
 #![tactic(auto)]
 
-mod changes;
 mod drawn;
 mod market;
 mod outcomes;
 mod posed;
+mod scan;
 mod small;
 mod tables;
 

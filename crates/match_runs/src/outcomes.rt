@@ -1,7 +1,7 @@
 // What `offers` gives in each family of problems, and what a child would have by each list: counts and checksums of blocks.
-use crate::changes::no_changes;
 use crate::drawn::{Numbers, opposed_table, some_table};
 use crate::posed::{Names, given_by, make_names, number_of, pose};
+use crate::scan::scan;
 use crate::small::{BLOCK, CHOICES, table_of};
 use crate::tables::{Given, Table, mixed, number_at, placed};
 use adm_match::{BadProblem, Problem, offers, what_if};
@@ -20,6 +20,8 @@ struct Outcomes {
     problems: u64,
     placed: u64,
     proposals: u128,
+    /// How many of them a scan gives otherwise.
+    otherwise: u64,
     checksum: u64,
 }
 
@@ -28,6 +30,7 @@ fn no_outcomes() -> Outcomes {
         problems: 0,
         placed: 0,
         proposals: 0,
+        otherwise: 0,
         checksum: 0,
     }
 }
@@ -40,6 +43,14 @@ impl Outcomes {
         self.checksum = mixed(self.checksum, number_at(given));
     }
 
+    /// Counts a table that a scan gives otherwise.
+    fn compare(&mut self, table: &Table, given: Given, proposals: u128) {
+        let scanned = scan(table);
+        if scanned.given != given || scanned.proposals != proposals {
+            self.otherwise = self.otherwise.wrapping_add(1);
+        }
+    }
+
     /// Allots a table, and hands out its problem.
     fn allot(
         &mut self,
@@ -48,8 +59,10 @@ impl Outcomes {
         table: &Table,
     ) -> Result<Problem, BadProblem> {
         let problem = pose(alloc, names, table)?;
-        let given = offers(alloc, &problem)?;
-        self.count(given_by(names, &given), given.proposals());
+        let offers = offers(alloc, &problem)?;
+        let given = given_by(names, &offers);
+        self.count(given, offers.proposals());
+        self.compare(table, given, offers.proposals());
         Ok(problem)
     }
 
@@ -58,8 +71,12 @@ impl Outcomes {
             problems,
             placed,
             proposals,
+            otherwise,
             checksum,
         } = self;
+        if *otherwise != 0 {
+            println!(rt; "{kind} {block}: {otherwise} are given otherwise by a scan")?;
+        }
         println!(rt;
             "{kind} {block}: problems {problems}, placed {placed}, proposals {proposals}, checksum {checksum}"
         )
@@ -163,16 +180,13 @@ fn drawn(rt: &HostRuntime, names: &Names, kind: &str, opposed: bool) -> io::Resu
     let mut numbers = Numbers::new(11);
     for block in 0..DRAWN {
         let mut outcomes = no_outcomes();
-        let mut changes = no_changes();
         for number in 0..DRAWN_BLOCK {
             let table = next_table(&mut numbers, opposed);
-            let allotted = outcomes.allot(alloc, names, &table);
-            if allotted.is_err() || changes.try_table(alloc, names, &table).is_err() {
+            if outcomes.allot(alloc, names, &table).is_err() {
                 println!(rt; "{kind} {block}: problem {number} is refused")?;
             }
         }
         outcomes.print(rt, kind, block)?;
-        changes.print(rt, kind, block)?;
     }
     Ok(())
 }

@@ -73,7 +73,7 @@ fn key_at(school: u32, rank: u32) -> RankKey {
 }
 
 /// The wishes of a list, with a row's rank at each school.
-pub fn wishes_of(
+fn wishes_of(
     alloc: Global,
     names: &Names,
     list: List,
@@ -104,11 +104,7 @@ fn entrant_of(
     })
 }
 
-pub fn entrants_of(
-    alloc: Global,
-    names: &Names,
-    table: &Table,
-) -> Result<Vec<Entrant>, AllocError> {
+fn entrants_of(alloc: Global, names: &Names, table: &Table) -> Result<Vec<Entrant>, AllocError> {
     let mut entrants = Vec::new(alloc);
     for index in 0..5 {
         if table.rows[index].takes_part {
@@ -119,7 +115,7 @@ pub fn entrants_of(
     Ok(entrants)
 }
 
-pub fn seats_of(alloc: Global, names: &Names, table: &Table) -> Result<Vec<Seats>, AllocError> {
+fn seats_of(alloc: Global, names: &Names, table: &Table) -> Result<Vec<Seats>, AllocError> {
     let mut seats = Vec::new(alloc);
     for index in 0..4 {
         seats.push(Seats {

@@ -39,12 +39,6 @@ pub fn at(school: u32) -> usize
     (school.wrapping_sub(1) % 4) as usize
 }
 
-/// The first school of a list alone.
-pub fn first_school(list: List) -> List {
-    let [first, _, _, _] = list;
-    [first, 0, 0, 0]
-}
-
 /// The place of a school on a list, from 0; 4 where it is not on it, and for none.
 pub fn place_on(list: List, school: u32) -> u32 {
     let mut place: u32 = 0;

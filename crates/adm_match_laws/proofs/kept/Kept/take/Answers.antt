@@ -1,8 +1,7 @@
 -- It considers by numbers, which are those of children.
-use Rattle.std.proofs.Common.{ℕ, ◌≤◌, Option, Some, Bool, sym, subst, rules, arith}
-use Rattle.adm_rank.specs.declared.keys.RankKey.{RankKey}
+use Rattle.std.proofs.Common.{ℕ, ◌≤◌, Option, sym, subst, arith}
 use Rattle.adm_types.specs.Numbers.{highest_child}
-use Rattle.adm_match.specs.Holding.{Holding, Considers}
+use Rattle.adm_match.specs.Holding.{Considers}
 use Rattle.adm_match_laws.proofs.HeldChildren.{still_children, rejects_child, considers_child}
 use Rattle.adm_match_laws.proofs.kept.Kept.take.Goals as goal
 

@@ -1,7 +1,0 @@
-pub mod Changed
-pub mod Sites
-pub mod Registers
-pub mod AfterCommand
-pub mod Raised
-pub mod Applied
-pub mod Groups
