@@ -17,7 +17,7 @@ const keyOf = (it) => (it.type === "checkbox" ? `${it.name} ${it.value}` : it.na
 
 /** @param {HTMLFormElement} form */
 function begin(form) {
-  const place = `form ${document.getElementById("who")?.textContent} ${location.pathname} ${form.id}`;
+  const place = `form ${document.getElementById("signed-in")?.textContent} ${location.pathname} ${form.id}`;
   const all = /** @type {any[]} */ ([...form.elements]);
   const fields = all.filter((it) => it.name && it.tagName !== "BUTTON" && !SKIPPED.includes(it.type));
   const seen = all.filter((it) => it.type === "hidden" && isSeen(it.name));

@@ -10,7 +10,7 @@ const several = /** @type {HTMLTextAreaElement} */ (document.getElementById("pas
 const status = /** @type {HTMLElement} */ (document.getElementById("said"));
 const notAdded = /** @type {HTMLElement} */ (document.getElementById("not-added"));
 const severalForm = /** @type {HTMLFormElement} */ (document.getElementById("several"));
-const KEY = `answers that were not added ${document.getElementById("who")?.textContent}`;
+const KEY = `answers that were not added ${document.getElementById("signed-in")?.textContent}`;
 
 let adding = Promise.resolve();
 // The entries that have no answer yet, in their order; and how many had none that says that they are added

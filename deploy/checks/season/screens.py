@@ -121,8 +121,17 @@ return stops.length;
 WITHOUT_TAB = COMMON + """
 const to = (it) => it.getAttribute("href");
 const reached = all("a[href]").filter((it) => isShown(it) && it.tabIndex >= 0).map(to);
-// (a mark of a picture leads where a link of the page does)
-const isMark = (it) => it.matches("svg a") && reached.includes(to(it));
+// (a mark of a picture leads where a link of the page does, or one of the lists on its tabs)
+const linked = (href) => {
+    const asked = new XMLHttpRequest();
+    asked.open("GET", href, false);
+    asked.send();
+    const page = new DOMParser().parseFromString(asked.responseText, "text/html");
+    return [...page.querySelectorAll("main a[href]")].map(to);
+};
+const isLeft = all("svg a").some((it) => !reached.includes(to(it)));
+const listed = isLeft ? all(".tabs a").flatMap((it) => linked(to(it))) : [];
+const isMark = (it) => it.matches("svg a") && [...reached, ...listed].includes(to(it));
 return all("a[href], button, input, select, textarea, summary, [tabindex]").filter(
     (it) => isShown(it) && (it.tabIndex > 0 || (
         it.tabIndex < 0 && !it.matches("h1, h2, [role=status]") && !isMark(it)))).map(named);

@@ -52,7 +52,7 @@ let turn = 0;
 // Loads the page, with what it has in the field for several
 async function load(more = {}) {
   page = {
-    entries: new Part({ action: "/answers/" }), entry: new Part(), pasted: new Part({ value: more.pasted ?? "" }), said: new Part(), who: new Part({ textContent: "jane" }),
+    entries: new Part({ action: "/answers/" }), entry: new Part(), pasted: new Part({ value: more.pasted ?? "" }), said: new Part(), "signed-in": new Part({ textContent: "jane" }),
     "not-added": new Part(), several: new Part({ id: "several", dataset: more.dataset ?? {} }), pile: new Part(), "record-part": new Part(),
   };
   globalThis.document = Object.assign(new Part(), {
