@@ -6,14 +6,17 @@ import importlib
 import io
 import re
 import textwrap
+import threading
 from collections.abc import Iterable, Sequence
 from types import ModuleType
 from typing import Any
 
 from register_files import Refused
 
-from . import days, libraries, texts
+from . import days, libraries, texts, turns
 
+# an Excel file takes much time of the processor, which all threads share: so many are made at once
+AT_ONCE = turns.Turn(threading.BoundedSemaphore(2), "other Excel files are being made")
 # what a cell has, as it is given; a text of the form YYYY-MM-DD is a day
 Value = str | int | float | datetime.date | None
 
@@ -129,8 +132,14 @@ def lined(styles: Any) -> Any:
 
 
 def data(pages: list[Page], title: str) -> bytes:
-    """The bytes of an Excel file of these pages. Where there are several, the first sheet lists
-    them."""
+    """An Excel file of these pages, once it is its turn. Where there are several, the first sheet
+    lists them."""
+    with AT_ONCE:
+        return written(pages, title)
+
+
+def written(pages: list[Page], title: str) -> bytes:
+    """The bytes of an Excel file of these pages."""
     library_ = library()
     made = library_.Workbook()
     made.remove(made.active)

@@ -16,10 +16,11 @@ from collections.abc import Callable, Iterator
 from concurrent.futures import ThreadPoolExecutor
 
 import pytest
-from applications import Form, town
+from applications import Form, office_over, town
 from conftest import ROOT, make
 from served import served
 
+from office import book, turns
 from office.web import authority, people, uploads
 from office.web.store import Store
 
@@ -179,6 +180,39 @@ def test_a_copy_that_hangs_holds_few_threads(tmp_path: pathlib.Path) -> None:
         assert {status for status, _, _ in pages} == {503}
         assert all("being copied" in text and "try again in a minute" in text
                    for _, text, _ in pages)
+
+
+def test_many_excel_files_at_once_hold_few_threads(
+    tmp_path: pathlib.Path, monkeypatch: pytest.MonkeyPatch
+) -> None:
+    """Each takes much time of the processor, and any reader asks for as many as they like."""
+    with office_over(tmp_path, town()) as office:
+        rita = office.browser("rita", "reader")
+        monkeypatch.setattr(turns, "SECONDS", 0.5)
+        lock, present, most, go_on = threading.Lock(), 0, 0, threading.Event()
+        written = book.written
+
+        def slow(pages: list[book.Page], title: str) -> bytes:
+            nonlocal present, most
+            with lock:
+                present += 1
+                most = max(most, present)
+            assert go_on.wait(60)
+            with lock:
+                present -= 1
+            return written(pages, title)
+
+        monkeypatch.setattr(book, "written", slow)
+        with ThreadPoolExecutor(MANY) as threads:
+            asked = [threads.submit(rita.get, "/lists/children/workbook") for _ in range(MANY)]
+            while sum(it.done() for it in asked) < MANY - 2:
+                time.sleep(0.01)
+            go_on.set()
+            pages = [it.result() for it in asked]
+        assert most == 2
+        assert sorted(it.status_code for it in pages) == [200] * 2 + [503] * (MANY - 2)
+        said = "Other Excel files are being made: try again in a minute"
+        assert all(said in it.text for it in pages if it.status_code == 503)
 
 
 @pytest.mark.parametrize("name, value, many", [("field", "x", 501), ("field", "x" * 1000, 100)])
