@@ -45,9 +45,10 @@ OF_SCREENS = {
     "letter_sender": "the-office-on-its-letters", "letter_templates": "templates-of-letters",
     "letter_addresses": "addresses-for-letters", "season_end": "end-of-the-season",
 }
-# what is no word of a text of Markdown
-MARKS = re.compile(r"!\[.*?\]\(.*?\)|\]\([^)]*\)|^\|[-|]+\|$|^#+ |[*`\[|]", re.MULTILINE)
-SENTENCE = re.compile(r"(?<=[.?!:])\s+|\n\s*\n|\n(?=\s*(?:- |[0-9]+\. ))")
+# what is no word of a text of Markdown; a row of a table; the end of a sentence
+MARKS = re.compile(r"!\[.*?\]\(.*?\)|\]\([^)]*\)|^\|[-|]+\|$|[*`\[]", re.MULTILINE)
+ROW, CELL = re.compile(r"^\| (.*)\|$", re.MULTILINE), re.compile(r"\s*\|\s*")
+SENTENCE = re.compile(r"(?<=[.?!])\s+|\n\s*\n|\n(?=\s*(?:- |[0-9]+\. ))")
 
 
 @dataclasses.dataclass(frozen=True)
@@ -63,8 +64,10 @@ class Topic:
     @property
     def sentences(self) -> list[str]:
         """Its sentences, without marks."""
-        found = SENTENCE.split(MARKS.sub(" ", self.text))
-        return [said for it in found if (said := " ".join(it.split()).removeprefix("- "))]
+        text = ROW.sub(lambda it: f"\n{': '.join(filter(None, CELL.split(it[1])))}\n",
+                       MARKS.sub("", self.text))
+        found = (" ".join(it.split()).removeprefix("- ") for it in SENTENCE.split(text))
+        return [it for it in found if it]
 
 
 def name_of(title: str) -> str:
@@ -102,8 +105,8 @@ def of_screen(view: str, name: str) -> str:
 
 
 def having(text: str) -> list[tuple[Topic, str]]:
-    """The topics that have each word of a text, those with more of them in the title first; and of
-    each the sentence that has most of them.
+    """The topics that have each word of a text, or a word that begins with it: those with more of
+    them in the title first; and of each the sentence that has most of them.
     """
     words = texts.plain(text).split()
     found = [(it, count(words, it.title), best(words, it.sentences)) for it in topics().values()
@@ -114,7 +117,7 @@ def having(text: str) -> list[tuple[Topic, str]]:
 def count(words: Sequence[str], text: str) -> int:
     """How many of the words a text has."""
     folded = texts.plain(text)
-    return sum(it in folded for it in words)
+    return sum(re.search(rf"(?<!\w){re.escape(it)}", folded) is not None for it in words)
 
 
 def best(words: Sequence[str], sentences: Sequence[str]) -> str:

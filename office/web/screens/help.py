@@ -1,6 +1,7 @@
 """Help: a topic for each screen and task, a search over them, and what each refusal of the register
 means.
 """
+import itertools
 import re
 
 import flask
@@ -19,8 +20,8 @@ screen = flask.Blueprint("help", __name__)
 # serve; and its pictures
 LINK = re.compile(r"(?<!!)\[([^]]*)\]\(([^)]*)\)")
 REFUSALS, PICTURE = "ERRORS.md#refusals", "(../pictures/"
-TABLE = '<div class="region" role="region" aria-label="{0}" tabindex="0"><table>' \
-        '<caption class="unseen">{0}</caption>'
+TABLE = re.compile("<table>(.*?)</table>", re.DOTALL)
+HEAD, CELL = re.compile("<th>(.*?)</th>"), re.compile("<td>")
 
 
 def linked(found: re.Match[str]) -> str:
@@ -39,10 +40,17 @@ def page_of(topic: Topic) -> markupsafe.Markup:
     text = LINK.sub(linked, topic.text).replace(PICTURE, f"({pictures}/")
     made = markdown.markdown(text, extensions=["tables"])
     title = str(markupsafe.escape(topic.title))
-    made = made.replace("<table>", TABLE.format(title)).replace(
-        "</table>", "</table></div>").replace("<th>", '<th scope="col">')
     # (it comes from the product itself, and from nobody who uses it)
-    return markupsafe.Markup(made)
+    return markupsafe.Markup(TABLE.sub(lambda it: table_of(it[1], title), made))
+
+
+def table_of(rows: str, title: str) -> str:
+    """A table that scrolls by itself, and is a list on a narrow screen."""
+    names = itertools.cycle(HEAD.findall(rows))
+    cells = CELL.sub(lambda _: f'<td data-name="{next(names)}">', rows)
+    return (f'<div class="region fold" role="region" aria-label="{title}" tabindex="0">'
+            f'<table class="data"><caption class="unseen">{title}</caption>'
+            f'{cells.replace("<th>", "<th scope=col>")}</table></div>')
 
 
 @screen.get("/help/")
