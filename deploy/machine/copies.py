@@ -51,6 +51,15 @@ def next_name(folder: pathlib.Path) -> str:
     return f"nightly-{newest + 1:06}-{datetime.datetime.now().strftime(TIME)}.db"
 
 
+def moment(copy: pathlib.Path) -> datetime.datetime:
+    """When a copy was made, at the latest: by its name, as this machine reads its hour, and by its
+    file. What was sent before is in it: nothing is sent while a copy is made."""
+    written = datetime.datetime.fromtimestamp(copy.stat().st_mtime)
+    found = NAME.fullmatch(copy.name)
+    named_at = datetime.datetime.strptime(found[2], TIME) if found else written
+    return min(written, named_at).astimezone()
+
+
 def settings_of(copy: pathlib.Path) -> pathlib.Path:
     """The archive of the users and settings that belong to a copy."""
     return copy.with_suffix(".tar")

@@ -153,6 +153,16 @@ def closing(handle: int) -> typing.Iterator[int]:
         os.close(handle)
 
 
+def put_aside(path: pathlib.Path, folder_: pathlib.Path, name: str) -> None:
+    """Moves a file of somebody else into a folder of root beside it, which is made, under a name
+    that is free there; no link is followed."""
+    folder(folder_, 0o700)
+    with closing(opened(folder_)) as into, closing(opened(path.parent)) as above:
+        if name in os.listdir(into):
+            raise Refused(f"{folder_ / name} is there already")
+        os.rename(path.name, name, src_dir_fd=above, dst_dir_fd=into)
+
+
 def link(path: pathlib.Path, target: str) -> bool:
     """Makes a symbolic link, if it is not there. Returns whether it was not."""
     if path.is_symlink() and os.readlink(path) == target:

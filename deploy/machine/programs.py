@@ -1,5 +1,6 @@
 """The programs that the commands of a machine run: those of this installation, and Debian's."""
 import os
+import pathlib
 import shutil
 import subprocess
 import sys
@@ -20,6 +21,11 @@ def program(name: str) -> str:
     if found := shutil.which(name):
         return found
     raise Refused(f"{name} is not installed")
+
+
+def of_unit(name: str) -> str:
+    """A program that a unit runs, below the prefix of this installation."""
+    return str(pathlib.Path(__file__).resolve().parents[3] / "lib/admissions" / name)
 
 
 def tool(name: str, package: str) -> str:

@@ -5,39 +5,24 @@ import ssl
 
 from register_files import Refused
 
-from . import copies, histories, history_copies, office_store
+from . import copies, histories, office_store
 from .programs import call, tool
 from .registers import Register, stored
 
 
 def register_line(register: Register) -> str:
-    """What brings back the newest nightly copy of a register that cannot be read. The office stays
-    closed then: what was sent since is sent again first."""
-    made = register.nightly_copies()
-    if not made:
-        return f"admissions-admin takeover {register.name}"
-    name = register.name
-    units = " ".join(f"admissions-{it}" for it in (
-        f"backup@{name}.timer", f"office@{name}.socket", f"office@{name}.service"))
-    # (a server that has given up can be started at once then)
-    return (f"systemctl reset-failed admissions@{name}; [ ! -e /run/again/{name} ] &&"
-            f" systemctl stop {units} admissions@{name} && cd {register.folder} &&"
-            f" setpriv --reuid=admissions --regid=admissions --clear-groups"
-            f" admissions-restore {made[-1]} {register.file.name}")
+    """What brings back the newest nightly copy of a register that cannot be read."""
+    verb = "restore" if register.nightly_copies() else "takeover"
+    return f"admissions-admin {verb} {register.name}"
 
 
 def people_line(register: Register) -> str:
     """What brings back the people of the newest nightly copy that has them, where the file of the
-    application cannot be read. That stays in the folder aside."""
-    name, path = register.name, office_store.path_of(register)
+    application cannot be read."""
     made = [it for it in register.nightly_copies() if copies.settings_of(it).exists()]
-    given = f"--copy {made[-1]}" if made else "--user NAME --role head"
-    take = f"admissions-admin setup {name} {given}"
-    if not path.exists():
-        return take
-    aside = register.office / "aside"
-    return (f"systemctl stop admissions-office@{name}.socket admissions-office@{name}.service &&"
-            f" mkdir -m 700 {aside} && mv {path}* {aside} && {take}")
+    if made:
+        return f"admissions-admin restore {register.name} {made[-1].name} --people-alone"
+    return f"admissions-admin setup {register.name} --user NAME --role head"
 
 
 def unit_line(register: Register, unit: str, has_failed: bool = True) -> str:
@@ -56,8 +41,7 @@ def desk_line(register: Register) -> str:
 
 def office_line(register: Register) -> str:
     """What brings back an application that does not run."""
-    units = " ".join(f"admissions-office@{register.name}.{it}" for it in ("socket", "service"))
-    return cause(register) or f"systemctl reset-failed {units}; systemctl start {units}"
+    return cause(register) or f"admissions-admin open {register.name}"
 
 
 def site_line(register: Register, error: Exception) -> str:
@@ -89,7 +73,5 @@ def cause(register: Register) -> str:
         return people_line(register)
     with contextlib.suppress(OSError, Refused):
         if histories.of_register(register).problem:
-            # (which of its copies are whole: nothing is printed below their names)
-            return (f"for it in {register.copies / history_copies.FOLDER}/*.gz; do echo $it;"
-                    " admissions-sent --history $it 2999-01-01; done")
+            return f"admissions-admin history {register.name} --mend"
     return ""

@@ -8,8 +8,11 @@ was sent is kept beside the first copies, and what is there is compared with it.
 import contextlib
 import hashlib
 import json
+import os
 import pathlib
 import re
+import tempfile
+import typing
 
 from register_files import Refused
 
@@ -19,6 +22,8 @@ from .registers import SETTINGS, Register
 
 RECIPIENT, IDENTITY, END = "second-copy-recipient", "second-copy-identity", ".age"
 SENT = "second-copy.sent"
+# a folder that is in memory
+MEMORY = pathlib.Path("/run")
 KEY = re.compile(r"age1[0-9a-z]{58}|ssh-(?:ed25519|rsa) [A-Za-z0-9+/=]+(?: .*)?")
 
 
@@ -85,6 +90,16 @@ def identity() -> pathlib.Path | None:
         raise Refused(f"{path} must be of the user {USER}, and nobody else may read it:"
                       f" chown {USER}: {path} && chmod 400 {path}")
     return path
+
+
+@contextlib.contextmanager
+def lent(file: pathlib.Path) -> typing.Iterator[pathlib.Path]:
+    """An identity file for the user of the copies, in memory, and only meanwhile."""
+    with tempfile.TemporaryDirectory(dir=MEMORY) as room:
+        os.chown(room, *files.numbers(USER, USER))
+        path = pathlib.Path(room, IDENTITY)
+        files.write(path, file.read_bytes(), 0o400, USER, USER)
+        yield path
 
 
 def digest(path: pathlib.Path) -> str:

@@ -309,9 +309,10 @@ def to_copy(register: Register) -> list[pathlib.Path]:
     return [*sorted(nightly), *history_copies.made(register.copies / HISTORY)]
 
 
-def sizes(there: str) -> dict[str, int]:
+def sizes(there: str, as_user: str | None = None) -> dict[str, int]:
     """The files of a folder of the second place, with their bytes."""
-    listed = rsync("--list-only", "--recursive", "--no-human-readable", there)
+    words = ("--list-only", "--recursive", "--no-human-readable", there)
+    listed = rsync(*words, as_user=as_user)
     found = re.findall(r"(?m)^-\S+ +(\d+) \S+ \S+ (.+)$", listed)
     return {name: int(size) for size, name in found}
 

@@ -1,6 +1,7 @@
 """What serves a register: its folders, its units, and whether they answer; and what must be
 installed for that."""
 import importlib.util
+import os
 import pathlib
 import sys
 import time
@@ -24,6 +25,8 @@ NEEDED = {
 # what the office's application imports
 MODULES = ("argon2", "authlib", "flask", "gunicorn", "markdown", "requests")
 WAIT = 60
+# where systemd finds what starts no more
+MASKS = pathlib.Path("/etc/systemd/system")
 # what the application asks for
 REQUESTS = ("copy", "restore", "deletion-day", "delete")
 
@@ -120,6 +123,22 @@ def start(register: Register) -> bool:
     answers_of(register.office_socket, (401,), "the office's application",
                application(register)[1])
     return True
+
+
+def stop(register: Register) -> None:
+    """Stops all that has a register open, and the nightly backup, which starts the server at its
+    end."""
+    name = register.name
+    systemctl("stop", f"admissions-backup@{name}.timer", f"admissions-backup@{name}.service")
+    systemctl("stop", *application(register), desk(register))
+    # (one that has given up starts anew)
+    systemctl("reset-failed", desk(register), may_fail=True)
+
+
+def is_closed(register: Register) -> bool:
+    """Whether an administrator has closed the office, so that nothing starts it."""
+    path = MASKS / desk(register)
+    return path.is_symlink() and os.readlink(path) == os.devnull
 
 
 def answers_of(socket: pathlib.Path, wanted: tuple[int, ...], what: str, unit: str) -> None:

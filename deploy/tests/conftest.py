@@ -8,6 +8,7 @@ import json
 import os
 import pathlib
 import pkgutil
+import subprocess
 import sys
 import typing
 
@@ -18,7 +19,9 @@ ROOT = pathlib.Path(__file__).resolve().parents[2]
 sys.path[:0] = [str(ROOT), str(ROOT / "deploy"), str(ROOT / "tools")]
 
 import machine as package  # noqa: E402
-from machine import admin, files, people, registers, second_copy  # noqa: E402
+from machine import (  # noqa: E402
+    admin, files, people, programs, registers, second_copy, serving,
+)
 
 # the modules, of which some name a folder of the machine by a constant of registers
 MODULES = [importlib.import_module(it.name)
@@ -133,4 +136,49 @@ def told(register: registers.Register) -> list[tuple[str, dict[str, str]]]:
     for _, about in found:
         done_at = datetime.datetime.fromisoformat(about.pop("done_at"))
         assert now - datetime.timedelta(hours=1) < done_at <= now
+    return found
+
+
+class Systemd:
+    """In place of systemd: it keeps what it was given, and does what a test has it do then."""
+
+    def __init__(self) -> None:
+        self.calls: list[str] = []
+        self.does: dict[str, typing.Callable[[], None]] = {}
+
+    def call(self, *words: object, may_fail: bool = False) -> "subprocess.CompletedProcess[str]":
+        """What systemctl does."""
+        line = " ".join(map(str, words))
+        self.calls.append(line)
+        for what, work in self.does.items():
+            if line.startswith(what):
+                work()
+        return subprocess.CompletedProcess([], 0, "", "")
+
+    def lines(self, *verbs: str) -> list[str]:
+        """What it was given of these kinds, since this was asked last."""
+        found = [it for it in self.calls if it.split()[0] in verbs]
+        self.calls.clear()
+        return found
+
+
+@pytest.fixture(name="systemd")
+def systemd_fixture(monkeypatch: pytest.MonkeyPatch) -> Systemd:
+    """A machine that systemd runs, with this one in its place."""
+    found, real, real_tool = Systemd(), programs.call, programs.tool
+
+    def call(*words: object, **more: typing.Any) -> "subprocess.CompletedProcess[str]":
+        if words[0] == "systemctl":
+            return found.call(*words[1:], may_fail=bool(more.get("may_fail")))
+        return real(*words, **more)
+
+    def tool(name: str, package: str) -> str:
+        return name if name == "systemctl" else real_tool(name, package)
+
+    for module in MODULES:
+        for name, it in (("call", call), ("tool", tool), ("is_booted", lambda: True)):
+            if hasattr(module, name):
+                monkeypatch.setattr(module, name, it)
+    monkeypatch.setattr(serving, "status_of", lambda _: None)
+    monkeypatch.setattr(serving, "answers_of", lambda *_: None)
     return found

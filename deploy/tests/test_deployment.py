@@ -1,6 +1,5 @@
 """The lines of docs/DEPLOYMENT.md: that bash reads them, that each command has the options that are
 named, and those that need neither root nor systemd, run in a folder in place of the machine."""
-import datetime
 import os
 import pathlib
 import re
@@ -98,7 +97,7 @@ def test_bash_reads_each_block_of_lines() -> None:
     """Those of commands, which are those without a word behind the fence, and others that end at
     the first command that fails."""
     found = [lines for _, label, lines in parts() if not label or "set -e" in lines]
-    assert len(found) > 30
+    assert len(found) > 20
     for it in found:
         done = subprocess.run(["bash", "-n"], input=it, text=True, capture_output=True, check=False)
         assert (done.returncode, done.stderr) == (0, ""), it
@@ -144,7 +143,8 @@ def test_each_command_has_the_options_that_the_page_names(helps: dict[str, str])
     assert {("admissions-admin setup", "--copy"), ("admissions-admin takeover", "--copy"),
             ("admissions-admin people", "--new-password"), ("admissions-sent", "--history"),
             ("admissions-sent", "--rows"), ("admissions-admin retire", "--early"),
-            ("admissions-audit", "--later"), ("admissions-drill", "--identity")} <= seen
+            ("admissions-audit", "--later"), ("admissions-admin drill", "--identity"),
+            ("admissions-admin restore", "--people-alone")} <= seen
 
 
 def test_each_command_of_the_page_is_one(helps: dict[str, str]) -> None:
@@ -228,60 +228,6 @@ def at_fixture(tmp_path: pathlib.Path) -> Machine:
     return Machine(tmp_path)
 
 
-def test_the_room_at_the_second_place(at: Machine) -> None:
-    """By the last night: a register and what is beside it, and the history twice."""
-    at.write(f"{BACKUPS}/nightly-000011-2025-03-02T023000.db", "x" * 9_000_000)
-    at.write(f"{BACKUPS}/{COPY}", "x" * 1_000_000)
-    at.write(f"{BACKUPS}/{COPY.replace('.db', '.tar')}", "x" * 400_000)
-    at.write(f"{BACKUPS}/history/history-000001-0123456789abcdef.gz", "x" * 250_000)
-    _, lines = blocks_of("Room at the second place")
-    assert at.run(lines) == (0, "512 MB\n")
-    assert at.run(lines, NIGHTS="30") == (0, "43 MB\n")
-
-
-def test_a_copy_is_kept_under_a_name_that_is_free(at: Machine) -> None:
-    at.write(f"{BACKUPS}/nightly-000011-2025-03-02T023000.db", "older")
-    at.write(f"{BACKUPS}/{COPY}", "the register")
-    at.write(f"{BACKUPS}/{COPY.replace('.db', '.tar')}", "people")
-    [lines] = blocks_of("Keep a copy")
-    folder = at.room / BACKUPS
-    # (the time of the file is that of the nightly copy)
-    os.utime(folder / COPY, (1741000000, 1741000000))
-    status, text = at.run(lines)
-    said = f"kept: {folder}/before-round-1.db, with its people in before-round-1.tar; TIME="
-    moment = datetime.datetime.fromtimestamp(1741000000).isoformat()
-    assert (status, text) == (0, f"{said}{moment}\n")
-    kept = [folder / f"before-round-1.{it}" for it in ("db", "tar")]
-    assert [it.read_text(encoding="utf-8") for it in kept] == ["the register", "people"]
-    assert at.called() == [
-        f"start admissions-backup@{NAME}", f"start admissions-second-copy@{NAME}"]
-    # (a name that is taken is named before a backup removes the oldest night)
-    at.write(f"{BACKUPS}/{COPY}", "later")
-    for name in ("before-round-1.db", "before-round-1.tar"):
-        assert at.run(lines) == (
-            1, f"NOT KEPT: {folder}/{name} is there already: choose another name\n")
-        assert at.called() == []
-        assert kept[1].read_text(encoding="utf-8") == "people"
-        kept[0].unlink(missing_ok=True)
-    # (people that were not copied)
-    kept[1].unlink()
-    (folder / COPY.replace(".db", ".tar")).unlink()
-    status, text = at.run(lines)
-    assert (status, "kept:" in text, kept[0].exists()) == (1, False, False)
-
-
-def test_a_disk_is_the_second_place(at: Machine) -> None:
-    """If it is mounted, and not otherwise."""
-    lines = blocks_of("The second place")[0]
-    at.write("etc/admissions/second-copy", "none\n")
-    assert at.run(lines)[0] == 1 and at.called() == []
-    (at.room / "mnt/copies").mkdir()
-    assert at.run(lines)[0] == 0
-    assert at.called() == ["chown admissions: /mnt/copies"]
-    place = (at.room / "etc/admissions/second-copy").read_text(encoding="utf-8")
-    assert place == f"{at.room}/mnt/copies\n"
-
-
 OFFICE_ENDS = f"stop admissions-office@{NAME}.socket admissions-office@{NAME}.service"
 # (also what would open it in the night)
 CLOSES = [f"stop admissions-backup@{NAME}.timer admissions-backup@{NAME}.service",
@@ -292,50 +238,19 @@ NOT_ALL = "not all is sent, and the office is closed\n"
 AGAIN = f"run/again/{NAME}"
 
 
-def test_a_register_is_restored_and_what_it_lacks_sent_again(at: Machine) -> None:
-    """A nightly copy on the machine itself; the commands since it, by those of the history."""
-    register = at.write(f"var/lib/admissions/{NAME}/reg.db", "damaged")
-    at.write(f"{BACKUPS}/{COPY}", '{"child":0}\n')
+def test_what_a_restored_register_lacks_is_sent_again(at: Machine) -> None:
+    """The commands since a copy, by those of the history."""
+    register = at.write(f"var/lib/admissions/{NAME}/reg.db", '{"child":0}\n')
     at.history(f"var/lib/admissions-office/{NAME}/history.jsonl", 1, 2)
-    restore, people, back = blocks_of("Restore on this machine")
-    assert at.run(restore, COPY="nightly-x.db")[0] != 0 and at.called() == []
-    assert at.run(restore) == (0, f"{at.room}/{BACKUPS}/{COPY}\n")
-    assert at.called() == [*CLOSES, f"reset-failed admissions@{NAME}"]
     printed, send, copied = blocks_of("Send again what a copy lacks")
     status, text = at.run(printed + send)
     assert (status, text.split()[0], text.splitlines()[-1]) == (0, "2", "all are done")
     assert register.read_text(encoding="utf-8") == '{"child":0}\n' + "".join(
         f'{{"child":{it},"cmd":"accept"}}\n' for it in (1, 2))
     assert at.called()[1:] == [*CLOSES, OPENS]
-    # (pasted again it would undo that)
-    assert at.run(restore)[0] == 1 and at.called() == []
     assert at.run(copied) == (0, "")
     assert at.called() == [f"start admissions-{it}@{NAME}" for it in ("backup", "second-copy")]
     assert not (at.room / AGAIN).exists()
-    office = f"var/lib/admissions-office/{NAME}"
-    at.write(f"{office}/office.db", "people of now")
-    at.write(f"{office}/office.db-wal", "log of now")
-    assert at.run(people)[0] != 0 and at.called() == []
-    at.write(f"{BACKUPS}/{COPY.replace('.db', '.tar')}", "people of then")
-    assert at.run(people)[0] == 0
-    assert at.called() == [
-        OFFICE_ENDS, f"admissions-admin setup {NAME} --copy /{BACKUPS}/{COPY}", *CLOSES]
-    assert at.content(f"{office}/aside") == {
-        "office.db": b"people of now", "office.db-wal": b"log of now"}
-    assert not (at.room / office / "office.db").exists()
-    # (the one that was put aside stays, and nothing is closed)
-    at.write(f"{office}/office.db", "people of then")
-    assert at.run(people)[0] == 1 and at.called() == []
-    assert at.content(f"{office}/aside")["office.db"] == b"people of now"
-    # (those of now are brought back, once)
-    assert at.run(back)[0] == 0
-    assert at.content(office) == {
-        "history.jsonl": (at.room / office / "history.jsonl").read_bytes(),
-        "office.db": b"people of now", "office.db-wal": b"log of now"}
-    assert at.run(back)[0] != 0 and (at.room / office / "office.db").exists()
-    # (a set-up that fails leaves the office closed, too)
-    at.write("bin/admissions-admin", "#!/bin/bash\nexit 1\n")
-    assert (at.run(people)[0], at.called()) == (1, [OFFICE_ENDS, *CLOSES])
 
 
 def test_an_import_is_sent_again_between_the_commands(at: Machine) -> None:
@@ -588,35 +503,6 @@ def test_all_is_removed_but_not_what_cannot_be_made_again(name: str, at: Machine
     assert not list(at.room.glob("var/*/admissions*")) and not record.exists() and not apt.exists()
     assert [it.split()[0] for it in at.called()] == ["userdel", "userdel"]
     assert at.run(lines)[0] == 0
-
-
-def test_a_key_that_is_there_stays(at: Machine) -> None:
-    """And its public half is printed each time."""
-    lines = blocks_of("The second place")[1]
-    status, public = at.run(lines)
-    assert status == 0 and public.startswith("ssh-ed25519 ")
-    assert at.run(lines) == (0, public)
-
-
-def test_a_recipient_is_named_and_no_other_text(at: Machine) -> None:
-    _, lines, _, _ = blocks_of("Encrypt the second place")
-    path = at.write("etc/admissions/second-copy-recipient", "")
-    assert at.run(lines)[0] == 1 and at.run(lines, RECIPIENT="AGE-SECRET-KEY-1")[0] == 1
-    assert path.read_text(encoding="utf-8") == "" and at.called() == []
-    assert at.run(lines, RECIPIENT="age1x") == (0, "")
-    assert path.read_text(encoding="utf-8") == "age1x\n"
-    assert at.called()[-1] == f"start admissions-second-copy@{NAME}"
-
-
-@pytest.mark.parametrize("status", [0, 1])
-def test_a_drill_leaves_no_identity_file(status: int, at: Machine) -> None:
-    """Whether it succeeds or fails; meanwhile its user alone may read the file."""
-    key = at.write("media/usb/vault.key", "secret")
-    at.write("usr/lib/admissions/drill", f"""#!/bin/bash
-stat -c '%a' "$3"; cat "$3"; exit {status}
-""").chmod(0o755)
-    assert at.run(blocks_of("Encrypt the second place")[2]) == (status, "400\nsecret")
-    assert not (at.room / "run/vault.key").exists() and key.exists()
 
 
 def test_a_register_is_moved_away_and_brought_back(at: Machine) -> None:

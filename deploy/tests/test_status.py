@@ -275,7 +275,7 @@ def test_a_history_that_is_not_there_or_no_file(office: registers.Register) -> N
 @pytest.mark.parametrize(
     "answered, said",
     [
-        (502, "does not run: systemctl reset-failed admissions-office@secondary-2025.socket"),
+        (502, "does not run: admissions-admin open secondary-2025"),
         (200, "answers 200, and not 401"),
         (403, "answers 403, and not 401"),
         (ConnectionRefusedError(111, "refused"), "refused): systemctl start nginx"),

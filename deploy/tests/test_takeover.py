@@ -14,7 +14,7 @@ import typing
 
 import pytest
 from conftest import typed
-from machine import copies, files, registers, sent, serving
+from machine import copies, files, registers, sealed, sent, serving
 from machine.verbs import setup, status, takeover
 from office.web.history import ANSWER, RESTORED, SENDS, History
 from register_files import Refused
@@ -78,10 +78,12 @@ def test_what_is_fetched_from_a_disk_is_written_by_the_user_of_the_copies(
 
 def test_what_is_encrypted_is_opened_with_the_identity_of_this_machine(
     place: pathlib.Path, machine: pathlib.Path, write_as_me: None, tmp_path: pathlib.Path,
+    monkeypatch: pytest.MonkeyPatch,
 ) -> None:
-    """All of it, also the history; without the file nothing is set up, and the message says where
-    it is looked for. What was sent before the key was set is taken as it is.
+    """All of it, also the history; without the file nothing is set up, and the message says how it
+    is given. It may be lent by the line. What was sent before the key was set is taken as it is.
     """
+    monkeypatch.setattr(sealed, "MEMORY", tmp_path)
     identity = machine / "etc/second-copy-identity"
     subprocess.run(["age-keygen", "-o", tmp_path / "vault.key"], check=True, capture_output=True)
     key = subprocess.run(["age-keygen", "-y", tmp_path / "vault.key"], check=True,
@@ -92,7 +94,7 @@ def test_what_is_encrypted_is_opened_with_the_identity_of_this_machine(
     for it in names:
         subprocess.run(["age", "-r", key, "-o", there / f"{it}.age", there / it], check=True)
         (there / it).unlink()
-    with pytest.raises(Refused, match=f"is encrypted: put the identity file .* at {identity}"):
+    with pytest.raises(Refused, match="is encrypted: repeat the line with --identity FILE"):
         takeover.fetch(NAME, str(place))
     identity.write_bytes((tmp_path / "vault.key").read_bytes())
     identity.chmod(0o640)
@@ -104,10 +106,13 @@ def test_what_is_encrypted_is_opened_with_the_identity_of_this_machine(
     identity.chmod(0o400)
     with pytest.raises(Refused, match=r"\.age is encrypted for another key than that of .*\(age1"):
         takeover.fetch(NAME, str(place))
+    with pytest.raises(Refused, match=r"\.age is encrypted for another key than that of .*\(age1"):
+        takeover.fetch(NAME, str(place), identity=identity.with_name("wrong"))
     identity.chmod(0o600)
     identity.write_bytes((tmp_path / "vault.key").read_bytes())
     identity.chmod(0o400)
-    copy = takeover.fetch(NAME, str(place))
+    identity.unlink()
+    copy = takeover.fetch(NAME, str(place), identity=tmp_path / "vault.key")
     assert copy.name == COPIES[2]
     assert {it: (copy.parent / it).read_bytes() for it in names} == wanted
     found = {str(it.relative_to(copy.parent)): it.stat().st_mode & 0o777
@@ -183,10 +188,10 @@ def test_the_moment_of_a_copy(written: str, tmp_path: pathlib.Path) -> None:
     copy.touch()
     at = datetime.datetime.fromisoformat(written).timestamp()
     os.utime(copy, (at, at))
-    assert f"{takeover.moment_of(copy):%Y-%m-%dT%H%M%S}" == "2025-03-03T023000"
+    assert f"{copies.moment(copy):%Y-%m-%dT%H%M%S}" == "2025-03-03T023000"
     early = datetime.datetime(2025, 3, 3, 1, 30).timestamp()
     os.utime(copy, (early, early))
-    assert f"{takeover.moment_of(copy):%Y-%m-%dT%H%M%S}" == "2025-03-03T013000"
+    assert f"{copies.moment(copy):%Y-%m-%dT%H%M%S}" == "2025-03-03T013000"
 
 
 def written_at(register: registers.Register, at: str) -> History:

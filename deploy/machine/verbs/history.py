@@ -82,9 +82,8 @@ def mend(register: Register, given: argparse.Namespace) -> int:
     units = serving.application(register)
     serving.systemctl("stop", *units)
     if os.path.lexists(register.history):
-        files.folder(aside, 0o700)
-        now = datetime.datetime.now().strftime(copies.TIME)
-        register.history.rename(aside / f"history-{now}.jsonl")
+        now = datetime.datetime.now().strftime(f"{copies.TIME}-%f")
+        files.put_aside(register.history, aside, f"history-{now}.jsonl")
     files.write_as(OFFICE, register.history, data)
     print(f"took {register.history} from {copy}", flush=True)
     serving.systemctl("reset-failed", *units, may_fail=True)

@@ -25,7 +25,7 @@ from ..registers import Register, open_error, stored
 
 
 def arguments(reader: argparse.ArgumentParser) -> None:
-    reader.add_argument("words", nargs="+", metavar="[NAME] DAY",
+    reader.add_argument("words", nargs="+", metavar="NAME|DAY",
                         help="the name of the register, and its holidays")
     answers.add_yes(reader)
 

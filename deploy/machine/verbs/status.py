@@ -212,8 +212,20 @@ def see_taken_over(register: Register) -> None:
         raise Failed(said)
 
 
-def desk_of(register: Register) -> State:
+def closed(register: Register) -> str:
+    """What opens an office that was closed."""
+    return f"it is closed: admissions-admin open {register.name}"
+
+
+def see_open(register: Register) -> None:
+    """Fails where an administrator has closed the office, or another machine has taken it over."""
+    if serving.is_closed(register):
+        raise Failed(closed(register))
     see_taken_over(register)
+
+
+def desk_of(register: Register) -> State:
+    see_open(register)
     before = time.monotonic()
     status = status_of(register.socket)
     if status in (200, 404):
@@ -233,7 +245,7 @@ def site_of(register: Register) -> State:
         if had_site(register):
             raise Failed(f"the file of its name is gone: {site_command(register)}")
         return True, "it has none"
-    see_taken_over(register)
+    see_open(register)
     before = time.monotonic()
     try:
         status, shown = site_status_of(register.host)
@@ -285,6 +297,8 @@ def units_of(register: Register) -> State:
                        " dpkg --configure -a; apt-get install --reinstall admissions")
     if had_site(register):
         return False, f"its site is not set up: {site_command(register)}"
+    if serving.is_closed(register):
+        return False, closed(register)
     if said := second_copy.taken_over(register):
         return False, said
     backup, drill, hourly = (

@@ -15,6 +15,7 @@ example:
 """
 import argparse
 import collections
+import contextlib
 import datetime
 import json
 import os
@@ -51,6 +52,7 @@ def arguments(reader: argparse.ArgumentParser) -> None:
     add("name", metavar="NAME", help="the name of the register, as of its folder there")
     add("place", nargs="?", default="", metavar="PLACE", help="the second place")
     add("--copy", metavar="COPY", help="the name of an older copy there")
+    add("--identity", metavar="FILE", help="the identity file that opens what is encrypted there")
     add("--site", metavar="HOST", help="another name of the site than before")
     answers.add_yes(reader)
     reader.set_defaults(is_takeover=True, phase=None, year=None, holiday=[], user=None, role=None,
@@ -91,7 +93,9 @@ def begin(register: Register, copy: pathlib.Path) -> Begun:
     return found
 
 
-def fetch(name: str, place: str, wanted: str = "") -> pathlib.Path:
+def fetch(
+    name: str, place: str, wanted: str = "", identity: pathlib.Path | None = None
+) -> pathlib.Path:
     """Fetches what the second place has of a register that is not here, and returns the copy from
     which it goes on: the one that is wanted, or the last one."""
     register = named(name)
@@ -113,7 +117,7 @@ def fetch(name: str, place: str, wanted: str = "") -> pathlib.Path:
     call(tool("rsync", "rsync"), *options, "--exclude", "*",
          "--rsh", other_end() if is_local else second_copy.SSH, f"{place}/{name}/",
          f"{f'{ENV}:' if is_local else ''}{register.copies}/", as_user=None if is_local else USER)
-    decrypt_all(register)
+    decrypt_all(register, identity)
     made = register.nightly_copies()
     if not made:
         raise Refused(f"{place}/{name} has no copy of a register")
@@ -143,7 +147,7 @@ def last_on_the_way(made: list[pathlib.Path]) -> pathlib.Path:
     have what the restore has undone."""
     data = history_copies.last_whole(made[-1].parent / history_copies.FOLDER)
     record = histories.Record("the history", data)
-    found = next((it for it in reversed(made) if record.is_on_the_way(moment_of(it))), made[-1])
+    found = next((it for it in reversed(made) if record.is_on_the_way(copies.moment(it))), made[-1])
     if found != made[-1]:
         print(f"goes on from {found.name}: since {made[-1].name} the office has restored a copy,"
               " so that one has what was undone, or lacks what was brought back")
@@ -164,28 +168,23 @@ def see_place(name: str, place: str) -> None:
                       f" folders there: {there}{above}")
 
 
-def decrypt_all(register: Register) -> None:
-    """Decrypts what was fetched encrypted, with the identity file of this machine."""
+def decrypt_all(register: Register, given: pathlib.Path | None) -> None:
+    """Decrypts what was fetched encrypted, with the identity file that is given, or that of this
+    machine."""
     found = sorted(register.copies.rglob(f"*{sealed.END}"))
-    identity = sealed.identity()
-    if found and identity is None:
-        raise Refused(f"what is at the second place is encrypted: put the identity file that opens"
-                      f" it at {SETTINGS / sealed.IDENTITY}, and repeat the line")
-    # (in a folder of the user of the copies)
-    with files.as_desk():
+    if not found:
+        return
+    with contextlib.ExitStack() as stack:
+        identity = stack.enter_context(sealed.lent(given)) if given else sealed.identity()
+        if identity is None:
+            raise Refused("what is at the second place is encrypted: repeat the line with"
+                          " --identity FILE, the file that opens it")
+        # (in a folder of the user of the copies)
+        stack.enter_context(files.as_desk())
         for path in found:
-            target = sealed.decrypt(path, typing.cast(pathlib.Path, identity))
+            target = sealed.decrypt(path, identity)
             shutil.copystat(path, target)
             path.unlink()
-
-
-def moment_of(copy: pathlib.Path) -> datetime.datetime:
-    """When a copy was made, at the latest: by its name, as this machine reads its hour, and by its
-    file. What was sent before is in it: nothing is sent while a copy is made."""
-    written = datetime.datetime.fromtimestamp(copy.stat().st_mtime)
-    found = copies.NAME.fullmatch(copy.name)
-    named_at = datetime.datetime.strptime(found[2], copies.TIME) if found else written
-    return min(written, named_at).astimezone()
 
 
 def report(
@@ -194,7 +193,7 @@ def report(
     """Prints what was sent since the copy, to be sent again, and from when on nobody knows it. Only
     so many entries of the history are of the other machine. Where the copy was chosen, what was
     sent may have what it was chosen for."""
-    since = moment_of(copy)
+    since = copies.moment(copy)
     try:
         record = record_of(register, entries)
     except Refused as error:
@@ -263,7 +262,8 @@ def main(given: argparse.Namespace) -> int:
         copy = register.copies / found.copy
         print(f"goes on with the takeover of {register.name} from {copy}", flush=True)
     else:
-        copy = fetch(given.name, given.place, wanted)
+        identity = pathlib.Path(answers.file(given.identity)) if given.identity else None
+        copy = fetch(given.name, given.place, wanted, identity)
         found = begin(register, copy)
     given.copy = str(copy)
     status = setup.set_up_as_given(given)

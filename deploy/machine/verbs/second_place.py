@@ -1,0 +1,145 @@
+"""Names the second place for the copies of all registers, another disk or
+another machine, and the key for which they are encrypted there.
+
+  admissions-admin second-place
+  admissions-admin second-place --encrypt KEY
+  admissions-admin second-place --ssh-key
+  admissions-admin second-place PLACE | none
+
+The first form shows what is set. KEY is the public half of a key of age, whose
+secret half, the identity file, is made and kept on another machine and on
+paper: age-keygen -o vault.key. Set it before the place, as nothing that was
+sent before is encrypted afterwards. PLACE is a folder of another disk, which is
+mounted, or one of another machine, as copies@vault.example:copies. --ssh-key
+makes the key by which the user of the copies signs in there, and prints what is
+typed on that machine. The line `none` says that there shall be no second place.
+
+example:
+  admissions-admin second-place /mnt/copies
+"""
+import argparse
+import os
+import pathlib
+import subprocess
+
+from register_files import Refused
+
+from .. import answers, files, sealed, second_copy
+from ..programs import USER, call, tool
+from ..registers import COPIES, SETTINGS, all_registers
+
+PLACE = SETTINGS / "second-copy"
+SSH = pathlib.Path("/var/lib/admissions/.ssh")
+# on the other machine: an account for copies alone, and the folder that its key reaches
+ACCOUNT, FOLDER = "copies", "/home/copies/vault"
+
+
+def arguments(reader: argparse.ArgumentParser) -> None:
+    reader.add_argument("place", nargs="?", metavar="PLACE", help="the folder there; or none")
+    reader.add_argument("--encrypt", metavar="KEY", help="the public key for which to encrypt")
+    reader.add_argument("--ssh-key", action="store_true",
+                        help="make the key for another machine, and print what is typed there")
+    answers.add_yes(reader)
+
+
+def main(given: argparse.Namespace) -> int:
+    if given.encrypt:
+        encrypt(given.encrypt, given.yes)
+    if given.ssh_key:
+        print_key()
+    if given.place:
+        name(given.place.rstrip("/") or "/", given.yes)
+    if not (given.encrypt or given.ssh_key or given.place):
+        show()
+    return 0
+
+
+def show() -> None:
+    """Prints what is set."""
+    print(f"{PLACE}: {second_copy.line_of() or 'names no second place'}")
+    key = sealed.recipient()
+    print(f"{SETTINGS / sealed.RECIPIENT}: {key or 'names nobody, so copies are not encrypted'}")
+    if sealed.identity():
+        print(f"{SETTINGS / sealed.IDENTITY} is here: who breaks into this machine opens all copies"
+              " there")
+
+
+def encrypt(key: str, is_confirmed: bool) -> None:
+    """Sets the key for which copies are encrypted from now on."""
+    if not sealed.KEY.fullmatch(key):
+        raise Refused("that is no public key of age, as age-keygen -y prints it (age1..): nothing"
+                      " was changed", 2)
+    sealed.age()
+    before = sealed.recipient() if (SETTINGS / sealed.RECIPIENT).exists() else None
+    if before not in (None, key):
+        answers.confirm(f"copies are encrypted for {key} and no longer for {before}: what is at the"
+                        " second place still needs the identity file of that one", is_confirmed)
+    if files.write(SETTINGS / sealed.RECIPIENT, key + "\n", 0o644):
+        print(f"copies are encrypted for {key} from now on. What is at the second place from before"
+              " stays as it is: remove it there, or give the folders there another name, and the"
+              " next copy sends all that this machine has", flush=True)
+
+
+def print_key() -> None:
+    """Makes the key of the user of the copies, unless there is one, and prints what is typed on the
+    other machine."""
+    generate = tool("ssh-keygen", "openssh-client")
+    files.folder(SSH, 0o700, USER, USER)
+    key = SSH / "id_ed25519"
+    if not key.exists():
+        call(generate, "-q", "-t", "ed25519", "-N", "", "-f", key, as_user=USER)
+    public = files.content_as(USER, pathlib.Path(f"{key}.pub")).decode("ascii").strip()
+    print(f"""On the other machine, once, as root (it needs rsync, python3 and an ssh server):
+  useradd --create-home --shell /bin/sh {ACCOUNT}
+  install -d -m 700 -o {ACCOUNT} -g {ACCOUNT} {FOLDER}/copies /home/{ACCOUNT}/.ssh
+and for each machine that copies or may take over, in /home/{ACCOUNT}/.ssh/authorized_keys:
+  restrict,command="/usr/bin/rrsync -no-del {FOLDER}" {public}
+Then here, with the name of that machine: admissions-admin second-place {ACCOUNT}@MACHINE:copies""")
+
+
+def name(place: str, is_confirmed: bool) -> None:
+    """Names the second place, which must be there."""
+    if place == second_copy.NONE:
+        warned = "all copies are lost with this machine"
+    elif second_copy.is_local(place):
+        warned = see_folder(place)
+    else:
+        warned = see_machine(place)
+    before = second_copy.line_of()
+    if before not in ("", place):
+        warned = f"copies go no longer to {before}{'; ' if warned else ''}{warned}"
+    if warned and before != place:
+        answers.confirm(f"the second place is {place}: {warned}", is_confirmed)
+    lines = PLACE.read_text(encoding="utf-8").splitlines() if PLACE.exists() else []
+    remarks = [it for it in lines if it.startswith("#")]
+    files.write(PLACE, "".join(f"{it}\n" for it in (*remarks, place)), 0o644)
+    print(f"the second place is {place}")
+    if place != second_copy.NONE:
+        for it in all_registers():
+            print(f"next: admissions-admin copy {it.name}")
+
+
+def see_folder(place: str) -> str:
+    """Gives a folder of this machine to the user of the copies. Returns what may be wrong."""
+    path = pathlib.Path(place)
+    if not path.is_absolute() or not path.is_dir():
+        raise Refused(f"{place} is no folder of this machine: is the disk mounted?", 2)
+    if path.stat().st_uid != files.numbers(USER, USER)[0]:
+        if any(path.iterdir()) and not path.is_mount():
+            raise Refused(f"{place} has files of others: name a folder of its own")
+        os.chown(path, *files.numbers(USER, USER))
+        print(f"gave {place} to the user {USER}")
+    is_same = COPIES.is_dir() and path.stat().st_dev == COPIES.stat().st_dev
+    return "it is on the disk of the first copies, and lost with it" if is_same else ""
+
+
+def see_machine(place: str) -> str:
+    """Looks whether the user of the copies reaches a folder of another machine. ssh asks on the
+    terminal whether the key of that machine is right."""
+    words = [tool("rsync", "rsync"), "--list-only", f"{place}/"]
+    done = subprocess.run(words, check=False, cwd="/", user=USER, group=USER, extra_groups=[],
+                          stdout=subprocess.DEVNULL)
+    if done.returncode:
+        raise Refused(f"{place} cannot be reached by the user {USER}: admissions-admin second-place"
+                      " --ssh-key prints what that machine needs")
+    return ""
