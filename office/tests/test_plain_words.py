@@ -193,11 +193,11 @@ def test_what_holds_a_round_again_is_said_plainly(
     with pytest.raises(Refused) as error, held_again.turn():
         pass
     assert is_plain(str(error.value)) and plain.ADVICE in str(error.value), error.value
-    run = Run(1, "jane", "", [], mock.MagicMock())
+    run = Run(1, [], mock.MagicMock())
     said = "it was not made: /tmp/admissions-trial-x/plain.db is no register"
     monkeypatch.setattr(trials, "Trial", mock.MagicMock(side_effect=Refused(said)))
     trials.work(run, asked)
-    assert run.is_over.is_set() and run.refused == "it was not made: a file is no register"
+    assert run.refused == "it was not made: a file is no register"
 
 
 @pytest.mark.parametrize("error", [
