@@ -70,7 +70,7 @@ def keep(register: Register, number: int) -> datetime.date:
     day, last = day_of(number), stored(register.file).days[2]
     if day < today() + DELETION_NOTICE:
         raise Wrong("TooSoon", f"the day of deletion must be {DELETION_NOTICE.days} days ahead at"
-                    " least, so that whoever runs the machine can object")
+                    " least, so that IT support can object")
     if day <= last:
         raise Wrong("ListsOpen", f"the lists of the register end on {last.isoformat()}: the day of"
                     " deletion must be later")
