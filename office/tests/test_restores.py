@@ -279,12 +279,16 @@ def test_rows_whose_import_is_undone_are_in_the_table_again(small: Machine, is_a
     with small.office() as office:
         room, parts = Room(office), office.parts
         room.copy_now()
-        mark = f"{len(parts.history.entries)} {hashlib.sha256(ROWS.encode()).hexdigest()}"
+        after, digest = len(parts.history.entries), hashlib.sha256(ROWS.encode()).hexdigest()
         assert parts.desk.send_import(JANE, ROWS.encode()).is_done
         first = room.since()["import"]
         staged_by(office, first)
         with parts.store.writing() as db:
+            mark = f"{after} {digest}"
             db.execute("UPDATE staged_row SET state='sending', entry=NULL, sent=?", (mark,))
+            db.execute("INSERT INTO sending (kind, batch, place, about, state, said, after) VALUES"
+                       " ('import', ?, 0, json_object('digest', ?), 'sending', '', ?)",
+                       (mark, digest, after))
         number = room.begin(1)
         ticked = (first,) if is_again else ()
         assert room.press(room.hal, number, "ask", ticked).status_code == 303

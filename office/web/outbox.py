@@ -53,9 +53,10 @@ class Outbox(Generic[It]):
 
     kind: str
     item: type[It]
-    # what a request is whose command the register has refused, and the states in which one stays
+    # what a request is whose command the register has refused, and the states in which one is
+    # removed
     refused = FAILED
-    stays: tuple[str, ...] = (WAITS, SENDING, DONE, FAILED)
+    gone: tuple[str, ...] = ()
 
     def __init__(self, store: Store, desk: Desk, jobs: Jobs) -> None:
         self.store, self.desk, self.jobs = store, desk, jobs
@@ -168,11 +169,11 @@ class Outbox(Generic[It]):
     def change(self, it: It, state: str, said: str, sent: int | None = None) -> None:
         """Keeps what came of a request, or removes it."""
         with self.store.writing() as db:
-            if state in self.stays:
+            if state in self.gone:
+                db.execute("DELETE FROM sending WHERE number=?", (it.number,))
+            else:
                 db.execute("UPDATE sending SET state=?, said=?, sent=? WHERE number=?",
                            (state, said, sent, it.number))
-            else:
-                db.execute("DELETE FROM sending WHERE number=?", (it.number,))
 
     def settle(self, batch: object) -> None:
         """Finds out what came of requests that were being sent when the application ended, or of

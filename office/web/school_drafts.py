@@ -15,7 +15,7 @@ from . import schools
 from .copies import Copies
 from .desk import DIFFERS, DONE, Desk, Result
 from .jobs import Jobs
-from .outbox import SENDING, WAITS, Item, Outbox, Request
+from .outbox import WAITS, Item, Outbox, Request
 from .people import Person
 from .safeguard import copied
 from .schools import Cells, Line
@@ -44,7 +44,7 @@ class Draft(Outbox[Item]):
     The number of a line is that of no line before it.
     """
 
-    kind, item, refused, stays = "school", Item, WAITS, (WAITS, SENDING)
+    kind, item, refused, gone = "school", Item, WAITS, (DONE,)
 
     def __init__(self, store: Store, desk: Desk, jobs: Jobs, copies: Copies) -> None:
         super().__init__(store, desk, jobs)

@@ -138,7 +138,8 @@ class Imports(Outbox[Item]):
     marked with, until it is known whether they are stored.
     """
 
-    kind, item, stays = "import", Item, (outbox.SENDING,)
+    kind, item = "import", Item
+    gone = (outbox.WAITS, outbox.DONE, outbox.FAILED)
 
     def __init__(self, staging: Staging, desk: Desk, jobs: Jobs) -> None:
         super().__init__(staging.store, desk, jobs)
