@@ -9,6 +9,7 @@ import pytest
 from applications import Browser, Site, office_over, town
 from conftest import ROOT
 from pages import plain
+from test_plain_words import texts_of
 
 from office import rules
 from office.web import topics, wording
@@ -18,6 +19,9 @@ from office.web.people import Person
 # their own without the frame
 NO_SCREENS = ("file", "icon", "health", "register", "help", "static")
 LINK, IMAGE = re.compile(r"(?<!!)\[[^]]*\]\(([^)]*)\)"), re.compile(r"!\[[^]]*\]\(([^)]*)\)")
+# the words of a button or a link, and what they have of one season
+PRESSED = re.compile(r"(?:\b[Pp]ress(?:es)?|\b[Ff]ollows?)\s+(?:\*\*([^*]+)\*\*|'([^']+)')")
+NAMES = re.compile(r"[0-9][0-9,]*|\bround\b|\boak\b")
 MACHINE = re.compile(r"admissions-\w+|/var/|/etc/|\broot\b|\bsudo\b|\.db\b|systemctl")
 ADDRESS, SOURCE = re.compile(r'href="(/help[^"]*)"'), re.compile(r'<img [^>]*src="([^"]*)"')
 
@@ -91,6 +95,19 @@ def test_each_link_and_picture_of_a_topic_is_there(jane: Browser) -> None:
         assert ".md" not in text and "](" not in text, it.name
         linked |= set(SOURCE.findall(text))
     assert linked == {f"/help/pictures/{it.name}" for it in (ROOT / "docs/pictures").glob("*.png")}
+
+
+def test_each_button_and_link_that_a_topic_names_is_on_a_screen() -> None:
+    """By its words, but for numbers and names of one season."""
+    folder = ROOT / "office" / "web"
+    shown = " ".join(" ".join(text.split()) for path in (
+        *folder.rglob("*.py"), *folder.rglob("*.html")) for text in texts_of(path)).lower()
+    named = [(it.name, " ".join("".join(words).split())) for it in topics.topics().values()
+             for words in PRESSED.findall(it.text)]
+    assert len(named) > 60
+    for name, words in named:
+        for part in NAMES.split(words.lower()):
+            assert part.strip(" .:?") in shown, (name, words)
 
 
 def test_no_topic_names_a_command_a_path_or_a_user_of_the_machine() -> None:
