@@ -1,19 +1,22 @@
 """Turns at what few can use at once: the register, a process that reads a file. A thread that
 serves a screen waits for one some seconds, and most of these threads wait for none: so nothing slow
-keeps the sign-in and the other screens from being answered.
+keeps the sign-in and the other screens from being answered. Nor does one person take all places.
 """
+import collections
+import contextlib
 import contextvars
 import threading
+from collections.abc import Iterator
 from types import TracebackType
 from typing import Protocol
 
 from register_files import Refused
 
-# so long a thread that serves a screen waits, and so many of them at once
-SECONDS, MOST_WAITING = 10.0, 16
-WAITING = threading.BoundedSemaphore(MOST_WAITING)
-# whether this thread serves a screen; another one, as that of a draw, waits until its turn comes
-SERVES: contextvars.ContextVar[bool] = contextvars.ContextVar("SERVES", default=False)
+# so long a thread that serves a screen waits, and so many at once: of all, and of one person
+SECONDS, MOST_WAITING, MOST_OF_ONE = 10.0, 16, 6
+# whom this thread serves a screen, or "" while nobody is known; another thread, as that of a draw,
+# serves None and waits until its turn comes
+SERVES: contextvars.ContextVar[str | None] = contextvars.ContextVar("SERVES", default=None)
 
 
 class Busy(Refused):
@@ -26,6 +29,31 @@ class Lock(Protocol):
     def acquire(self, blocking: bool = True, timeout: float = -1) -> bool: ...
 
     def release(self) -> None: ...
+
+
+class Waiting:
+    """Whose threads wait now."""
+
+    def __init__(self) -> None:
+        self.lock = threading.Lock()
+        self.counts: collections.Counter[str] = collections.Counter()
+
+    @contextlib.contextmanager
+    def one_more(self, who: str, said: str) -> Iterator[None]:
+        """A place among those that wait, or a refusal where there is none."""
+        with self.lock:
+            if self.counts.total() >= MOST_WAITING or self.counts[who] >= MOST_OF_ONE:
+                raise Busy(said)
+            self.counts[who] += 1
+        try:
+            yield
+        finally:
+            with self.lock:
+                self.counts[who] -= 1
+                self.counts = +self.counts
+
+
+WAITING = Waiting()
 
 
 class Turn:
@@ -57,13 +85,10 @@ class Turn:
 
     def wait(self) -> None:
         """Waits for the turn, or refuses."""
-        if not SERVES.get():
+        who = SERVES.get()
+        if who is None:
             self.lock.acquire()
             return
-        if not WAITING.acquire(False):
-            raise Busy(self.said)
-        try:
+        with WAITING.one_more(who, self.said):
             if not self.lock.acquire(timeout=SECONDS):
                 raise Busy(self.said)
-        finally:
-            WAITING.release()

@@ -291,7 +291,7 @@ def test_a_sheet_waits_for_others_and_not_for_ever(monkeypatch: pytest.MonkeyPat
     """The threads that serve all screens do not all wait for two files, of whatever kind."""
     monkeypatch.setattr(turns, "SECONDS", 0.01)
     with apart.AT_ONCE, apart.AT_ONCE:
-        turns.SERVES.set(True)
+        turns.SERVES.set("jane")
         reads: list[Callable[[], object]] = [
             lambda: sheet_apart.read("a.csv", csv_of(), None, ""),
             lambda: draws_sheet.rows_of(b"OAK,1,5\n"),
@@ -299,7 +299,7 @@ def test_a_sheet_waits_for_others_and_not_for_ever(monkeypatch: pytest.MonkeyPat
         for read in reads:
             with pytest.raises(turns.Busy, match="other files are being read: try again"):
                 read()
-        turns.SERVES.set(False)
+        turns.SERVES.set(None)
     assert sheet_apart.read("a.csv", csv_of(), None, "").rows
 
 

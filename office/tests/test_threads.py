@@ -182,6 +182,25 @@ def test_a_copy_that_hangs_holds_few_threads(tmp_path: pathlib.Path) -> None:
                    for _, text, _ in pages)
 
 
+def test_one_person_takes_not_all_places_of_those_who_wait(tmp_path: pathlib.Path) -> None:
+    """A reader asks for more than is answered at once, on and on: a colleague waits beside."""
+    with office_over(tmp_path, town()) as office:
+        rita, hal = office.browser("rita", "reader"), office.browser("hal", "head")
+        with ThreadPoolExecutor(MANY) as threads:
+            with office.parts.desk.reading:
+                asked = [threads.submit(rita.get, "/children/1") for _ in range(MANY)]
+                while sum(it.done() for it in asked) < MANY - turns.MOST_OF_ONE:
+                    time.sleep(0.01)
+                beside = threads.submit(hal.get, "/children/1")
+                time.sleep(0.2)
+                assert not beside.done()
+            pages = [it.result() for it in asked]
+            assert beside.result().status_code == 200
+        assert sorted(it.status_code for it in pages) == (
+            [200] * turns.MOST_OF_ONE + [503] * (MANY - turns.MOST_OF_ONE))
+        assert turns.WAITING.counts.total() == 0
+
+
 def test_many_excel_files_at_once_hold_few_threads(
     tmp_path: pathlib.Path, monkeypatch: pytest.MonkeyPatch
 ) -> None:

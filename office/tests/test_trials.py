@@ -264,10 +264,10 @@ def test_who_waits_too_long_for_an_answer_is_asked_to_try_again(
     """The threads that serve all screens do not all wait for what two have asked for."""
     monkeypatch.setattr(turns, "SECONDS", 0.01)
     with held_again.turn(), held_again.turn():
-        turns.SERVES.set(True)
+        turns.SERVES.set("jane")
         with pytest.raises(Refused) as error, held_again.turn():
             pass
-        turns.SERVES.set(False)
+        turns.SERVES.set(None)
         assert str(error.value) == "others are being worked out: try again in a minute"
     with held_again.turn():
         pass

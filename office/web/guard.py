@@ -244,7 +244,7 @@ def typed_again(status: int, reason: str) -> AnyResponse | None:
 
 def see() -> AnyResponse | None:
     """Lets a request pass, or answers it."""
-    turns.SERVES.set(True)
+    turns.SERVES.set("")
     request = flask.request
     # (the site says of each body how long it is, by which it is bounded)
     if "Transfer-Encoding" in request.headers:
@@ -256,6 +256,7 @@ def see() -> AnyResponse | None:
         return None
     right: str = getattr(view, "right")
     flask.g.person = found = who_asks()
+    turns.SERVES.set(found.name if found else "")
     if right == PUBLIC and request.method in ("GET", "HEAD"):
         return None
     if right != PUBLIC and found is None:
@@ -281,7 +282,7 @@ def see() -> AnyResponse | None:
 
 def leave(_: BaseException | None) -> None:
     """The thread serves no screen any more."""
-    turns.SERVES.set(False)
+    turns.SERVES.set(None)
 
 
 def target() -> str:
