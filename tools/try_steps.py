@@ -84,7 +84,7 @@ class Browser:
                 raise NotMade(f"{path} runs for more than {LONGEST_WAIT:.0f} seconds")
             # (each look costs as much as a page)
             time.sleep(pause)
-            pause = min(1.0, 1.5 * pause)
+            pause = min(0.3, 1.5 * pause)
             found = self.get(path)
         return found
 

@@ -126,8 +126,7 @@ const linked = (href) => {
     const asked = new XMLHttpRequest();
     asked.open("GET", href, false);
     asked.send();
-    const page = new DOMParser().parseFromString(asked.responseText, "text/html");
-    return [...page.querySelectorAll("main a[href]")].map(to);
+    return [...asked.responseText.matchAll(/<a href="([^"]*)"/g)].map((it) => it[1]);
 };
 const isLeft = all("svg a").some((it) => !reached.includes(to(it)));
 const listed = isLeft ? all(".tabs a").flatMap((it) => linked(to(it))) : [];
