@@ -86,6 +86,14 @@ def line_of() -> str:
     return found[0] if found else ""
 
 
+def keep_line(line: str) -> None:
+    """Keeps a line that names the second place, or none, below the remarks of its file."""
+    path = SETTINGS / "second-copy"
+    lines = path.read_text(encoding="utf-8").splitlines() if path.exists() else []
+    remarks = [it for it in lines if it.startswith("#")]
+    files.write(path, "".join(f"{it}\n" for it in (*remarks, line) if it), 0o644)
+
+
 def place_of() -> str | None:
     """The second place, or None."""
     line = line_of()

@@ -188,7 +188,6 @@ def place_fixture(
     machine: pathlib.Path, write_as_me: None, monkeypatch: pytest.MonkeyPatch
 ) -> pathlib.Path:
     """A folder for copies, and a file of the setting with a remark."""
-    monkeypatch.setattr(second_place, "PLACE", machine / "etc/second-copy")
     (machine / "etc/second-copy").write_text("# a remark\n")
     monkeypatch.setattr(second_place, "COPIES", pathlib.Path("/proc"))
     (machine / "place").mkdir()

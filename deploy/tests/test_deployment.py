@@ -97,7 +97,7 @@ def test_bash_reads_each_block_of_lines() -> None:
     """Those of commands, which are those without a word behind the fence, and others that end at
     the first command that fails."""
     found = [lines for _, label, lines in parts() if not label or "set -e" in lines]
-    assert len(found) > 20
+    assert len(found) > 10
     for it in found:
         done = subprocess.run(["bash", "-n"], input=it, text=True, capture_output=True, check=False)
         assert (done.returncode, done.stderr) == (0, ""), it
@@ -397,92 +397,6 @@ def test_an_earlier_release_opens_its_office_after_all_is_sent(at: Machine) -> N
     assert (at.run(lines, **named)[0], at.called()) == (1, [OFFICE_ENDS])
 
 
-def test_a_move_makes_its_last_copy_once_the_office_is_closed(at: Machine) -> None:
-    lines = blocks_of("Move to a new machine")[0]
-    assert at.run(lines)[0] == 0
-    timers = " ".join(f"admissions-{it}@{NAME}.timer" for it in ("backup", "drill", "second-copy"))
-    assert at.called() == [
-        f"disable --now {OFFICE_ENDS.removeprefix('stop ')} {timers}",
-        f"start admissions-backup@{NAME}", f"start admissions-second-copy@{NAME}",
-        f"disable --now admissions@{NAME}"]
-
-
-def test_a_move_takes_along_what_is_not_at_the_second_place(at: Machine) -> None:
-    """And nothing that is; what the new machine has already stays as it is."""
-    office = f"var/lib/admissions-office/{NAME}"
-    beside = {f"{BACKUPS}/before-round-1.db", f"{BACKUPS}/before-round-1.tar",
-              f"{BACKUPS}/office/office-000001-2025-03-03T120000.db",
-              f"{office}/archive/season.zip", f"{office}/gazetteer/places.db"}
-    there = {f"{BACKUPS}/{COPY}", f"{BACKUPS}/history/history-000001-0123456789abcdef.gz",
-             f"{BACKUPS}/drill.report", f"{BACKUPS}/second-copy.sent", f"{office}/office.db"}
-    pair = (f"etc/admissions/{NAME}/site.{it}" for it in ("crt", "key"))
-    for it in (*beside, *there, *pair):
-        at.write(it, it)
-    _, pack, unpack = blocks_of("Move to a new machine")
-    assert at.run(pack)[0] == 1 and at.run(unpack)[0] != 0 and at.called() == []
-    (at.room / "mnt/kept").mkdir()
-    assert at.run(pack) == (0, "")
-    assert sorted(it.name for it in (at.room / "mnt/kept").iterdir()) == [
-        f"{NAME}.{it}" for it in ("crt", "key", "tar")]
-    assert {it.stat().st_mode & 0o077 for it in (at.room / "mnt/kept").iterdir()} == {0}
-    status, text = at.run(pack)
-    assert (status, "is there already" in text) == (1, True)
-    for it in ("var/backups", "var/lib/admissions-office"):
-        shutil.rmtree(at.room / it / NAME, ignore_errors=True)
-        shutil.rmtree(at.room / it)
-    at.write(f"{office}/gazetteer/places.db", "read in since")
-    assert at.run(unpack)[0] == 0
-    assert at.called() == [
-        OFFICE_ENDS, f"start admissions-backup@{NAME}", f"start admissions-second-copy@{NAME}",
-        OFFICE_ENDS.replace("stop", "start")]
-    found = {f"{it}/{name}": data.decode() for it in (BACKUPS, office)
-             for name, data in at.content(it).items()}
-    assert found == {it: it for it in beside} | {f"{office}/gazetteer/places.db": "read in since"}
-
-
-GUARDED = [("Rehearse a takeover", 0), ("Somebody has broken in", 9)]
-
-
-@pytest.mark.parametrize("heading, number", GUARDED)
-@pytest.mark.parametrize("place, register, is_done", [
-    # (a machine for trials, and pasted again; one in use, with a place, none or neither; one that
-    # is prepared to take a register over)
-    ("# a comment\n", "", True), ("none\n", "primary-2026", True),
-    ("/mnt/copies\n", NAME, False), ("# a comment\n", NAME, False), ("/mnt/copies\n", "", False),
-])
-def test_the_second_place_of_a_machine_in_use_is_not_switched_off(
-    place: str, register: str, is_done: bool, heading: str, number: int, at: Machine
-) -> None:
-    (at.room / f"var/lib/admissions/{NAME}").rmdir()
-    path = at.write("etc/admissions/second-copy", place)
-    at.write(f"mnt/copies/{NAME}/{COPY}", "a copy")
-    if register:
-        at.write(f"var/lib/admissions/{register}/reg.db", "a register")
-    status, text = at.run(blocks_of(heading)[number])
-    assert (status, "nothing was changed" in text) == (int(not is_done), not is_done)
-    assert path.read_text(encoding="utf-8") == ("none\n" if is_done else place)
-    assert is_done or at.called() == []
-
-
-def test_a_rehearsal_is_cleared_where_it_was_and_nowhere_else(at: Machine) -> None:
-    _, clear = blocks_of("Rehearse a takeover")
-    path = at.write("etc/admissions/second-copy", "/mnt/copies\n")
-    identity = at.write("etc/admissions/second-copy-identity", "secret")
-    assert at.run(clear)[0] == 1 and at.called() == [] and identity.exists()
-    path.write_text("none\n", encoding="utf-8")
-    # (a question that was not answered, and another register that was rehearsed too)
-    at.write("bin/admissions-admin", "#!/bin/bash\nexit 1\n")
-    assert at.run(clear)[0] == 1 and path.read_text(encoding="utf-8") == "none\n"
-    assert identity.exists()
-    at.write("bin/admissions-admin", f"#!/bin/bash\n{STANDS_IN['admissions-admin']}\n")
-    other = at.write("var/lib/admissions/primary-2026/reg.db", "a register")
-    assert at.run(clear)[0] == 0 and path.read_text(encoding="utf-8") == "none\n"
-    assert not identity.exists()
-    other.unlink()
-    assert at.run(clear)[0] == 0 and path.read_text(encoding="utf-8") == ""
-    assert at.called() == 2 * [f"admissions-admin retire {NAME} --early rehearsal of a takeover"]
-
-
 @pytest.mark.parametrize("name", [
     f"var/lib/admissions/{NAME}/reg.db.before-restore-1", f"{BACKUPS}/{COPY}",
     f"etc/admissions/{NAME}/site.key", "etc/admissions/second-copy-identity"])
@@ -503,42 +417,6 @@ def test_all_is_removed_but_not_what_cannot_be_made_again(name: str, at: Machine
     assert not list(at.room.glob("var/*/admissions*")) and not record.exists() and not apt.exists()
     assert [it.split()[0] for it in at.called()] == ["userdel", "userdel"]
     assert at.run(lines)[0] == 0
-
-
-def test_a_register_is_moved_away_and_brought_back(at: Machine) -> None:
-    """With all its files, also where it was begun and interrupted."""
-    names = [f"{it}/{NAME}" for it in ("var/lib/admissions", "var/lib/admissions-office",
-                                       "var/backups/admissions", "etc/admissions")]
-    for it in names:
-        at.write(f"{it}/of", it)
-    site = at.write(f"etc/nginx/sites-available/admissions-{NAME}", "site")
-    before = [at.content(it) for it in names]
-    away, back = blocks_of("Move a register away")
-    assert at.run(away)[0] == 1 and [at.content(it) for it in names] == before
-    (at.room / "mnt/kept").mkdir()
-    assert at.run(away, NAME="secondary-2052") == (
-        1, "no register secondary-2052 is here: nothing was moved\n")
-    assert at.called() == [] and not list((at.room / "mnt/kept").iterdir())
-    at.write(f"{names[2]}.moved/of", "what an interrupted run has left")
-    assert at.run(away)[0] == 0
-    assert not [it for it in names if list(at.room.glob(f"{it}*"))] and not site.exists()
-    assert at.called()[-1] == "admissions-admin sites"
-    assert at.run(back)[0] == 0
-    assert [at.content(it) for it in names] == before
-    assert at.called() == [f"admissions-admin setup {NAME}"]
-    # (interrupted, and pasted again)
-    for it in names[2:]:
-        shutil.rmtree(at.room / it)
-    at.write(f"{names[2]}.new/of", "a part")
-    assert at.run(back)[0] == 0 and [at.content(it) for it in names] == before
-    assert not list(at.room.glob("var/*/*/*.new"))
-    at.called()
-    # (what an earlier move has left there is compared with nothing)
-    status, text = at.run(away)
-    assert (status, "of a move that has ended" in text, at.called()) == (1, True, [])
-    at.write(f"{names[0]}/of", "another register")
-    assert at.run(back)[0] == 1 and at.called() == []
-    assert at.content(names[0]) == {"of": b"another register"}
 
 
 LATER = "nightly-000013-2025-03-04T023000.db"

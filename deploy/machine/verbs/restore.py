@@ -5,12 +5,12 @@
 COPY is the name of a copy, as `admissions-admin copies` lists them; the newest
 nightly one by default. What was sent since is undone in the register, and kept
 in the history: how much that is, is shown before. What was there is kept
-beside the register, as reg.db.before-restore-1. With --people also the people, notes,
-files and letters become those of the copy; the present ones are kept in the
-folder `aside` of the application, and everybody signs in anew. --people-alone
-leaves the register as it is. Where nothing
-was sent since, the office is open afterwards, and has new copies; otherwise it
-stays closed, until that was sent again or `admissions-admin open` is typed.
+beside the register, as reg.db.before-restore-1. With --people also the people,
+notes, files and letters become those of the copy; the present ones are kept in
+the folder `aside` of the application, and everybody signs in anew.
+--people-alone leaves the register as it is. Where nothing was sent since, the
+office is open afterwards, and has new copies; otherwise it stays closed, until
+that was sent again or `admissions-admin open` is typed.
 
 If the register opens, the office itself restores, on the screen Copies and
 restores: this is for a register that does not open, and for nightly copies. A

@@ -28,7 +28,6 @@ from .. import answers, files, sealed, second_copy
 from ..programs import USER, call, tool
 from ..registers import COPIES, SETTINGS, all_registers
 
-PLACE = SETTINGS / "second-copy"
 SSH = pathlib.Path("/var/lib/admissions/.ssh")
 # on the other machine: an account for copies alone, and the folder that its key reaches
 ACCOUNT, FOLDER = "copies", "/home/copies/vault"
@@ -56,7 +55,7 @@ def main(given: argparse.Namespace) -> int:
 
 def show() -> None:
     """Prints what is set."""
-    print(f"{PLACE}: {second_copy.line_of() or 'names no second place'}")
+    print(f"{SETTINGS / 'second-copy'}: {second_copy.line_of() or 'names no second place'}")
     key = sealed.recipient()
     print(f"{SETTINGS / sealed.RECIPIENT}: {key or 'names nobody, so copies are not encrypted'}")
     if sealed.identity():
@@ -110,9 +109,7 @@ def name(place: str, is_confirmed: bool) -> None:
         warned = f"copies go no longer to {before}{'; ' if warned else ''}{warned}"
     if warned and before != place:
         answers.confirm(f"the second place is {place}: {warned}", is_confirmed)
-    lines = PLACE.read_text(encoding="utf-8").splitlines() if PLACE.exists() else []
-    remarks = [it for it in lines if it.startswith("#")]
-    files.write(PLACE, "".join(f"{it}\n" for it in (*remarks, place)), 0o644)
+    second_copy.keep_line(place)
     print(f"the second place is {place}")
     if place != second_copy.NONE:
         for it in all_registers():

@@ -8,7 +8,8 @@ people, settings and history. The commands that were sent since, as far as the
 history there has them, are printed, to be sent again, and what else people did
 since is counted. COPY is the name of an older copy there, from which it is made
 in place of the last one. HOST is another name of the site. A takeover that was
-interrupted goes on when it is typed again, and prints the same.
+interrupted goes on when it is typed again, and prints the same. With
+--no-copies this machine leaves PLACE as it is, as after a break-in.
 
 example:
   admissions-admin takeover secondary-2025 /mnt/copies
@@ -30,7 +31,7 @@ from register_files import Refused
 
 from .. import answers, copies, files, histories, history_copies, sealed, second_copy, sent, serving
 from ..programs import OFFICE, USER, call, tool
-from ..registers import SETTINGS, Register, named
+from ..registers import SETTINGS, Register, all_registers, named
 from . import setup
 
 # what is fetched: copies with what is beside each, and the history
@@ -54,6 +55,8 @@ def arguments(reader: argparse.ArgumentParser) -> None:
     add("--copy", metavar="COPY", help="the name of an older copy there")
     add("--identity", metavar="FILE", help="the identity file that opens what is encrypted there")
     add("--site", metavar="HOST", help="another name of the site than before")
+    add("--no-copies", action="store_true",
+        help="copy to no second place, until one is named: refused on a machine in use")
     answers.add_yes(reader)
     reader.set_defaults(is_takeover=True, phase=None, year=None, holiday=[], user=None, role=None,
                         authority=None)
@@ -248,6 +251,8 @@ def main(given: argparse.Namespace) -> int:
     serving.see_needed()
     checked(given)
     register = named(given.name)
+    if given.no_copies:
+        copy_nowhere()
     wanted = (given.copy or "").removesuffix(sealed.END)
     found = begun(register)
     if found and wanted not in ("", found.copy):
@@ -273,6 +278,20 @@ def main(given: argparse.Namespace) -> int:
     begun_place(register).unlink()
     remind()
     return status
+
+
+def copy_nowhere() -> None:
+    """Has this machine copy to no second place, unless it is in use: then that would end its own
+    copies."""
+    line = second_copy.line_of()
+    if line == second_copy.NONE:
+        return
+    if line or all_registers():
+        raise Refused("this machine serves a register, or copies to a second place: nothing was"
+                      " changed")
+    second_copy.keep_line(second_copy.NONE)
+    print(f"{SETTINGS / 'second-copy'} has the line none: name a place where this machine stays in"
+          " use (admissions-admin second-place)", flush=True)
 
 
 def own_places(register: Register, place: str) -> None:

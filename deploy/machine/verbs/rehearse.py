@@ -1,0 +1,67 @@
+"""Rehearses a takeover on a machine for trials, and ends that.
+
+  admissions-admin rehearse NAME PLACE --site HOST [--copy COPY]
+    [--identity FILE]
+  admissions-admin rehearse NAME --end
+
+It takes the register over as `admissions-admin takeover` does, copies nowhere,
+and leaves PLACE as it is, while the machine in use goes on: mount a disk to be
+read alone. HOST is another name than that of the site in use. It prints how
+long it took; it went well if the drill counts what the office had then, and one
+of its people signs in. On a machine that serves a register or names a second
+place it changes nothing. --end deletes the register here, and nothing there.
+
+example:
+  admissions-admin rehearse secondary-2025 /mnt/copies --site trial.example
+"""
+import argparse
+import time
+
+from register_files import Refused
+
+from .. import answers, second_copy
+from ..registers import SETTINGS, all_registers, named
+from . import drill, retire, takeover
+
+WHY = "rehearsal of a takeover"
+
+
+def arguments(reader: argparse.ArgumentParser) -> None:
+    add = reader.add_argument
+    add("name", metavar="NAME", help="the name of the register, as of its folder there")
+    add("place", nargs="?", default="", metavar="PLACE", help="the second place")
+    add("--site", metavar="HOST", help="the name of the site here")
+    add("--copy", metavar="COPY", help="the name of an older copy there")
+    add("--identity", metavar="FILE", help="the identity file that opens what is encrypted there")
+    add("--end", action="store_true", help="delete what was rehearsed")
+    answers.add_yes(reader)
+    reader.set_defaults(is_takeover=True, no_copies=True, phase=None, year=None, holiday=[],
+                        user=None, role=None, authority=None)
+
+
+def main(given: argparse.Namespace) -> int:
+    if given.end:
+        return end(given)
+    if not given.place or not given.site:
+        raise Refused("PLACE and --site are missing: from where, and as which site?", 2)
+    begin = time.monotonic()
+    status = takeover.main(given)
+    print(f"it took {time.monotonic() - begin:.0f} seconds", flush=True)
+    drill.main(argparse.Namespace(name=given.name, identity=given.identity))
+    print(f"next: one of the office's people signs in at https://{given.site}/, which must lead to"
+          f" this machine; then admissions-admin rehearse {given.name} --end")
+    return status
+
+
+def end(given: argparse.Namespace) -> int:
+    """Deletes the register here; and with the last one the line by which this machine copies
+    nowhere, with which a real takeover would copy to nowhere."""
+    if second_copy.line_of() != second_copy.NONE:
+        raise Refused(f"no rehearsal was prepared on this machine, since {SETTINGS / 'second-copy'}"
+                      " does not have the line none: nothing was deleted")
+    register = named(given.name)
+    retire.main(argparse.Namespace(
+        name=register.name, second_place=False, early=WHY, yes=given.yes))
+    if not all_registers():
+        second_copy.keep_line("")
+    return 0
