@@ -181,6 +181,8 @@ def site(folder: pathlib.Path, door: str) -> Iterator[Site]:
     with mock.patch.object(Copies, "make", made):
         found = app.create(config)
         office = Site(found)
+        # (a test wants what came of a step)
+        office.parts.end.steps.wait = office.parts.restoring.wait = 600.0
         office.copied = copied
         try:
             yield office

@@ -57,6 +57,8 @@ class Machine(try_machine.Machine):
         found = app.create(self.config())
         # (a test wants what came of a step)
         found.extensions["office"].following.wait = 600.0
+        found.extensions["office"].restoring.wait = 600.0
+        found.extensions["office"].end.steps.wait = 600.0
         try:
             yield Site(found)
         finally:

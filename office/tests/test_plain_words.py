@@ -252,9 +252,6 @@ def test_no_template_and_no_script_names_anything_of_the_machine() -> None:
         assert is_plain(re.sub("[`\"]/[a-z/]+", "", path.read_text("utf-8"))), path.name
     folder = ROOT / "office" / "web" / "templates"
     for path in folder.glob("*.html"):
-        # (a page of the archive, which names the files beside it)
-        if path.name == "archive.html":
-            continue
         shown = re.sub(r"{#.*?#}|{%.*?%}|{{.*?}}|<[^>]*>", " ", path.read_text("utf-8"), flags=re.S)
         assert is_plain(shown), path.name
 
@@ -286,7 +283,7 @@ def test_no_screen_has_a_word_that_was_replaced() -> None:
     """
     folder = ROOT / "office" / "web"
     paths = [it for it in (*folder.rglob("*.py"), *(folder / "templates").glob("*.html"))
-             if it.name not in ("archive.html", "archive.py")]
+             if it.name != "archive.py"]
     assert len(paths) > 200
     found = [f"{path.name}: {text.strip()[:90]!r}: say {new}" for path in paths
              for text in texts_of(path) for part in text.split("\n")

@@ -10,6 +10,7 @@ import json
 import pathlib
 import re
 import sqlite3
+import threading
 from collections.abc import Callable, Iterator
 from types import SimpleNamespace
 from typing import Any
@@ -483,6 +484,54 @@ def next_of(at: int, is_after: bool, has_moved: bool) -> tuple[int, bool]:
     if not is_after:
         return at, True
     return (1, False) if has_moved else (at + 1, False)
+
+
+def test_a_restore_goes_on_without_its_browser(
+    small: Machine, monkeypatch: pytest.MonkeyPatch
+) -> None:
+    """Who confirms it has an answer while the copy is restored. The page says what runs, has no
+    button and is read again by itself; what follows needs nobody. What is refused after the answer
+    is said to who looks later.
+    """
+    with small.office() as office:
+        room, may_end = Room(office), threading.Event()
+        office.parts.copies.make("a try", "hal")
+        sent(office, (HAL, RAISED))
+        number = room.begin(1)
+        restored, restoring = office.parts.copies.restore, office.parts.restoring
+        room.press(room.hal, number, "ask")
+
+        def full(*_: object) -> None:
+            assert may_end.wait(600)
+            raise Refused("the disk is full")
+
+        def slow(*given: Any) -> Any:
+            assert may_end.wait(600)
+            return restored(*given)
+
+        monkeypatch.setattr(restoring, "wait", 0.05)
+        for who, by, name, work, wanted in (
+                (room.jane, "jane", "confirm", full, "restoring"),
+                (room.hal, "hal", "restore", slow, "opened")):
+            may_end.clear()
+            monkeypatch.setattr(office.parts.copies, "restore", work)
+            assert room.press(who, number, name).status_code == 303
+            while room.state(number) != "restoring":
+                assert restoring.under_way()
+            page = room.hal.get(f"/restores/{number}").text
+            assert f'data-running="/restores/{number}"' in page
+            assert f"begun by {by}: the copy is restored." in page
+            assert "Cancel the restore" not in page and "Go on with" not in page
+            found = room.press(room.hal, number, "give-up")
+            assert found.status_code == 409
+            assert f"A step is under way, which {by} began" in found.text
+            may_end.set()
+            job = restoring.last
+            assert job and job.is_over.wait(600) and room.state(number) == wanted
+            page = room.hal.get(f"/restores/{number}").text
+            assert "data-running" not in page
+            assert ("The last step was not done: The disk is full." in page) == (work is full)
+        assert room.now().schools["OAK"].pan == 1
 
 
 def test_a_restore_is_given_up_before_the_register_is_touched(small: Machine) -> None:

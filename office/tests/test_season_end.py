@@ -14,6 +14,7 @@ import pathlib
 import re
 import sqlite3
 import stat
+import threading
 import zipfile
 from collections.abc import Callable, Iterator
 from typing import Any
@@ -558,6 +559,40 @@ def served_town_fixture(tmp_path: pathlib.Path) -> Iterator[str]:
             office.add("hal", "head")
             office.add("jane", "officer")
         yield address
+
+
+def test_the_last_copy_goes_on_without_its_browser(
+    tmp_path: pathlib.Path, served_town: str, monkeypatch: pytest.MonkeyPatch
+) -> None:
+    """Who asks for it has an answer while it is made. The page says what runs, has no button and is
+    read again by itself; what is refused then is said to who looks later.
+    """
+    with ended_season(tmp_path, served_town, TODAY, monkeypatch) as office:
+        head, may_end = Person(office, "hal", "head"), threading.Event()
+        real, end = office.parts.copies.make, office.parts.end
+
+        def full(*_: object) -> int:
+            assert may_end.wait(600)
+            raise Refused("the disk is full")
+
+        def slow(*given: Any) -> int:
+            assert may_end.wait(600)
+            return real(*given)
+
+        monkeypatch.setattr(end.steps, "wait", 0.05)
+        for work in (full, slow):
+            may_end.clear()
+            monkeypatch.setattr(office.parts.copies, "make", work)
+            head.press("copy")
+            page = head.page()
+            assert 'data-running="/season-end/"' in page and "begun by hal: the last copy" in page
+            assert "Make the last copy" not in page and "Store the rule" not in page
+            may_end.set()
+            job = end.steps.last
+            assert job and job.is_over.wait(600)
+            page = head.page()
+            assert "data-running" not in page and bool(end.get().archive) == (work is slow)
+            assert ("The last step was not done: The disk is full." in page) == (work is full)
 
 
 def test_what_is_a_file_is_in_the_archive_as_it_is(tmp_path: pathlib.Path) -> None:

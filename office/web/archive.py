@@ -17,7 +17,7 @@ from typing import TYPE_CHECKING, Any
 
 from register_files import Refused
 
-from office import book, texts, worklists
+from office import book, days, pages, texts, worklists
 from office.book import Page
 from office.model import Register
 from office.register_lists import Rows
@@ -224,9 +224,18 @@ def content(parts: Parts, copy: int, day: datetime.date) -> Iterator[tuple[str, 
     yield from of_store(parts.store)
 
 
-def make(
-    parts: Parts, copy: int, day: datetime.date, page: Callable[[list[Item]], str]
-) -> Made:
+def start_page(
+    parts: Parts, copy: int, day: datetime.date, by: str, items: Iterable[Item]
+) -> str:
+    """The page of an archive that says what is what."""
+    register = parts.desk.register()
+    return pages.render("archive.html", {
+        "register_name": parts.config.name, "authority": parts.config.authority,
+        "register": register, "by": by, "today": days.in_words(day), "copy": copy,
+        "children": texts.count(len(register.children), "child", "children"), "items": items})
+
+
+def make(parts: Parts, copy: int, day: datetime.date, by: str) -> Made:
     """Makes the archive of a copy: wholly, read again and compared, or not at all."""
     folder = folder_of(parts)
     folder.mkdir(mode=0o700, exist_ok=True)
@@ -236,7 +245,8 @@ def make(
     handle, new = tempfile.mkstemp(prefix=".new-", dir=folder)
     os.close(handle)
     try:
-        items = list(written(new, content(parts, copy, day), page))
+        items = list(written(new, content(parts, copy, day),
+                             lambda found: start_page(parts, copy, day, by, found)))
         see_whole(new, items)
         digest, size = digest_of(new), os.path.getsize(new)
     except BaseException:

@@ -9,50 +9,19 @@ from collections.abc import Callable
 
 from register_files import Refused
 
-from .desk import local
 from .draws import Draws, held_in, see_goes_on
 from .draws_terms import AUDITED, CLOSED, COPIED, FOLLOWED, SEALED, SENDING, Draw
-from .jobs import BROKEN, Job, Jobs
+from .jobs import BROKEN, Jobs
 from .people import Person
-
-# a request waits so long for the end of what it has begun, and then says that it runs
-WAIT_SECONDS = 4.0
-# the job of a draw, of which there is one at a time
-DRAW = "draw"
+from .step_jobs import StepJobs
 
 
-class Following:
+class Following(StepJobs):
     """What follows by itself in the draws of one application."""
 
     def __init__(self, draws: Draws, jobs: Jobs) -> None:
-        self.draws, self.jobs = draws, jobs
-        self.wait = WAIT_SECONDS
-
-    @property
-    def last(self) -> Job | None:
-        """The last job of a draw."""
-        return self.jobs.last(DRAW)
-
-    def under_way(self) -> Job | None:
-        """What runs now, if anything does."""
-        return self.last if self.jobs.is_running(DRAW) else None
-
-    def refused(self, number: int) -> str:
-        """Why the last step of a draw was not done, where its page came before its end; or ""."""
-        found = self.last
-        return found.refused if found and found.about == number else ""
-
-    def begin(self, who: Person, number: int, step: Callable[[], None] | None = None) -> None:
-        """Begins a step with what follows it, or only that, and waits some seconds for its end.
-        What is refused until then is raised here.
-        """
-        if present := self.under_way():
-            present.is_over.wait(self.wait)
-        if not self.jobs.run(DRAW, who.name, lambda: self.work(who, number, step), self.wait,
-                             about=number):
-            present = self.last
-            began = f", which {present.who} began at {local(present.at)}" if present else ""
-            raise Refused(f"a step is under way{began}. Nothing else was done")
+        super().__init__("draw", jobs)
+        self.draws = draws
 
     def work(self, who: Person, number: int, step: Callable[[], None] | None) -> None:
         """Does a step with what follows it. An error that nobody knows is kept with the draw."""

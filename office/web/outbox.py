@@ -3,10 +3,8 @@ after a crash. Each kind of them is a view of one table.
 """
 import dataclasses
 import json
-import math
 import sqlite3
-import time
-from collections.abc import Callable, Iterable, Mapping
+from collections.abc import Iterable, Mapping
 from typing import Any, Generic, TypeVar
 
 from .desk import LOST, UNSENT, Desk, Result, Seen
@@ -60,7 +58,6 @@ class Outbox(Generic[It]):
 
     def __init__(self, store: Store, desk: Desk, jobs: Jobs) -> None:
         self.store, self.desk, self.jobs = store, desk, jobs
-        self.clock: Callable[[], float] = time.monotonic
 
     def request(self, it: It) -> Request:
         """What the history has of a request that is sent: by that it is found there again."""
@@ -123,16 +120,16 @@ class Outbox(Generic[It]):
         return f"{self.kind} {batch}"
 
     def send(
-        self, who: Person, items: Iterable[It], is_closed: bool = False, end: float = math.inf,
+        self, who: Person, items: Iterable[It], is_closed: bool = False,
     ) -> Result | None:
-        """Sends those that wait, one after another, until the end, some moment, or until nothing
-        can be sent: then what came of the last. Also while recording is paused. The application
-        ends after one of them.
+        """Sends those that wait, one after another, until the end or until nothing can be sent:
+        then what came of the last. Also while recording is paused. The application ends after one
+        of them.
         """
         for it in items:
             if it.state != WAITS:
                 continue
-            if self.clock() > end or self.jobs.is_closed:
+            if self.jobs.is_closed:
                 break
             if said := self.why_not(it):
                 self.change(it, FAILED, said)

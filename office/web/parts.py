@@ -20,7 +20,7 @@ from .jobs import Jobs
 from .list_moves import OfCopies
 from .notes import Notes
 from .people import People
-from .restores import Restores
+from .restores import Restores, Restoring
 from .school_drafts import Draft
 from .season_end import SeasonEnd
 from .store import Store
@@ -74,6 +74,7 @@ class Parts:
         self.following = Following(self.draws, self.jobs)
         self.restores = Restores(
             self.store, self.history, self.desk, self.jobs, self.copies, self.draws)
+        self.restoring = Restoring(self.restores, self.jobs)
         self.copy_tests = CopyTests(self.copies, self.draws)
         self.end = SeasonEnd(self)
         self.draws.closed_by_another = lambda: self.end.closed() or self.restores.closed()

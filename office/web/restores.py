@@ -29,6 +29,7 @@ from .restores_terms import (
 )
 from .staging_commit import digest_of
 from .staging_rows import COMMITTED, OPEN
+from .step_jobs import StepJobs
 from .step_store import StepStore
 from .store import Store
 
@@ -213,7 +214,7 @@ class Restores(StepStore[Restore]):
                 restores_draws.mark(self.draws, who, register, found.copy)
 
     def send_again(self, who: Person, number: int, seen: int) -> None:
-        """Sends what was chosen, each once; the rest stays for the next request of a browser."""
+        """Sends what was chosen, each once."""
         with self.step(number, seen, RESTORED) as found:
             if not self.sending.send_chosen(who, found, True):
                 return
@@ -237,14 +238,24 @@ class Restores(StepStore[Restore]):
             with self.moving(found, who, OPENED, f"{done} of {all_of} sent again.") as db:
                 mark_staged(db, rows)
 
-    def open_whole(self, who: Person, number: int) -> None:
-        """Opens the register by itself where all that was chosen is stored: there is nothing to
-        decide. What was refused is read by somebody first.
+    def after(self, who: Person, number: int) -> None:
+        """Goes on after a step that a person has done, until somebody has to decide. What cannot be
+        done is refused: the restore is in the state before it, and its page has the button.
         """
-        found = self.get(number)
-        done, all_of = self.counts(self.sending.rows(found))
-        if found.state == SENT and done == all_of:
-            self.open(who, number, found.version)
+        follows = {CONFIRMED: self.copy, COPIED: self.restore, RESTORING: self.restore,
+                   RESTORED: self.send_again, SENT: self.open}
+        while (found := self.get(number)).state in follows and not (
+                found.state == SENT and self.is_to_read(found)):
+            follows[found.state](who, number, found.version)
+            if self.get(number).version == found.version:
+                return
+
+    def is_to_read(self, restore: Restore) -> bool:
+        """Whether something that was chosen is not stored: somebody reads that before the register
+        is opened.
+        """
+        done, all_of = self.counts(self.sending.rows(restore))
+        return done != all_of
 
     def give_up(self, who: Person, number: int, seen: int) -> None:
         """Ends a restore before the register was touched, and opens it."""
@@ -301,6 +312,18 @@ class Restores(StepStore[Restore]):
         return bool(rows) and self.store.row(
             "SELECT 1 FROM staged_row WHERE state=? AND sent LIKE ?", OPEN,
             f"% {digest_of(rows.encode())}") is not None
+
+
+class Restoring(StepJobs):
+    """The restores of one application as jobs."""
+
+    def __init__(self, restores: Restores, jobs: Jobs) -> None:
+        super().__init__("restore", jobs)
+        self.restores = restores
+
+    def after(self, who: Person, number: int) -> None:
+        """Does what follows a step by itself."""
+        self.restores.after(who, number)
 
 
 def case_of(restore: Restore) -> Case:

@@ -11,9 +11,6 @@ from .outbox import WAITS, Outbox, Request
 from .people import Person
 from .restores_terms import LATER, REFUSED, Again, Restore
 
-# so long one request of a browser waits for it; the next one goes on
-SECONDS = 20.0
-
 
 class Sending(Outbox[Again]):
     """What came since the copies of restores, in the store, in its first order."""
@@ -53,11 +50,11 @@ class Sending(Outbox[Again]):
                        " WHERE number=?", (int(is_chosen), WAITS, said, it.number))
 
     def send_chosen(self, who: Person, restore: Restore, is_closed: bool) -> bool:
-        """Sends those that are chosen and wait, and returns whether that is all; or a refusal where
-        nothing can be sent now.
+        """Sends those that are chosen and wait, and returns whether that is all, as it is unless
+        the application ends; or a refusal where nothing can be sent now.
         """
         self.settle(restore.number)
         chosen = [it for it in self.rows(restore) if it.is_chosen]
-        if left := self.send(who, chosen, is_closed, self.clock() + SECONDS):
+        if left := self.send(who, chosen, is_closed):
             raise Refused(left.said)
         return not any(it.is_chosen and it.state == WAITS for it in self.rows(restore))

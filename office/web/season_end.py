@@ -21,7 +21,6 @@ from office.model import Register
 from office.turns import Turn
 
 from . import archive, draws_second, numbers
-from .archive import Item
 from .copies import is_same
 from .draws import STEADY
 from .draws_second import Case
@@ -30,6 +29,7 @@ from .people import Person
 from .outbox import DONE
 from .schema import TABLES
 from .staging_rows import OPEN, SENDING
+from .step_jobs import StepJobs
 
 if TYPE_CHECKING:
     from .parts import Parts
@@ -163,6 +163,8 @@ class SeasonEnd:
     def __init__(self, parts: Parts) -> None:
         self.parts = parts
         self.lock = Turn(threading.RLock(), "a step of the end of the season is under way")
+        # (what lasts, as copies do)
+        self.steps = StepJobs("end of the season", parts.jobs)
         self.today: Callable[[], datetime.date] = datetime.date.today
 
     # how far it is
@@ -234,13 +236,16 @@ class SeasonEnd:
                           " it")
         return path
 
-    def make_archive(
-        self, who: Person, seen: int, page: Callable[[list[Item]], str]
-    ) -> None:
+    def copy_and_archive(self, who: Person, seen: int, read: str) -> None:
+        """Makes the last copy, and the archive with it."""
+        self.copy(who, seen, read)
+        self.make_archive(who, self.get().version)
+
+    def make_archive(self, who: Person, seen: int) -> None:
         """Makes the archive of the last copy."""
         with self.turn(seen) as found:
             self.see_unchanged(found)
-            made = archive.make(self.parts, found.copy, self.today(), page)
+            made = archive.make(self.parts, found.copy, self.today(), who.name)
             self.record(who, "made the archive", file=made.name, digest=made.digest,
                         size=made.size, copy=found.copy)
             self.store(found, archive=made.name, size=made.size, digest=made.digest,

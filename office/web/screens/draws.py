@@ -17,7 +17,6 @@ from ..draws_lots import sheet_of
 from ..draws_page import AGAIN
 from ..draws_terms import BEGUN, IN_WORDS, MOST_FILLS, OPENED, RUNS, TAGS, Draw
 from ..guard import needs, parts, person
-from ..jobs import Job
 from ..parts import Parts
 from ..people import CONFIRM, DRAW, LOTS, READ, Person
 from ..wording import day_of, sentence
@@ -123,20 +122,14 @@ def found_draw(number: int) -> Draw:
         flask.abort(404)
 
 
-def work_on(number: int) -> Job | None:
-    """What runs now of a draw, if anything does."""
-    found = parts().following.under_way()
-    return found if found and found.about == number else None
-
-
 def draw_page(number: int, reason: str = "", status: int = 200) -> Answer:
     """A draw: who has to do what now, what was checked, its outcome, and its steps."""
     # (before the draw is read: what ends meanwhile was not cut off)
-    work = work_on(number)
+    work = parts().following.work_on(number)
     draw, (register, trouble) = found_draw(number), register_now()
     outcome, changes = page.outcome_of(draw, register), page.changes_of(draw, register)
     shown = page.shown_outcome(draw, register, outcome) if outcome and register else {}
-    work = work or work_on(number)
+    work = work or parts().following.work_on(number)
     found = page.seen(draw, register, work)
     # (who saw the page before the end of a step reads here why it was not done)
     if not work and not reason and not draw.trouble and (
@@ -171,7 +164,7 @@ def draw_page(number: int, reason: str = "", status: int = 200) -> Answer:
 def cancel_page(number: int, reason: str = "", status: int = 200) -> Answer:
     """How a draw is cancelled, or undone: what that does, who takes part, and the one button."""
     draw, (register, trouble) = found_draw(number), register_now()
-    found = page.seen(draw, register, work_on(number))
+    found = page.seen(draw, register, parts().following.work_on(number))
     is_later = draws_cancel.is_undone_later(draw) and person().may(DRAW)
     return flask.render_template(
         "draw_cancel.html", draw=draw, name=found.name, title=draws_words.title_of(draw, register),

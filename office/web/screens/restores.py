@@ -3,7 +3,7 @@
 import dataclasses
 import re
 import sqlite3
-from collections.abc import Callable, Sequence
+from collections.abc import Callable
 
 import flask
 from register_files import Refused
@@ -15,7 +15,7 @@ from .. import draws_again, draws_second, numbers, restores_since, step_store
 from ..copies import words_of
 from ..draws_second import Second
 from ..guard import needs, parts, person
-from ..people import CONFIRM, DRAW, READ
+from ..people import CONFIRM, DRAW, READ, Person
 from ..restores import Restores, case_of
 from ..restores_rehearsal import WOULD
 from ..restores_since import Difference
@@ -38,6 +38,14 @@ NEXT = {
 }
 # who does a step that does not follow by itself
 DOES = {ASKED: "by a head of the office", CONFIRMED: "by a second person"}
+# what runs after a state, in words
+RUNS = {
+    CLOSED: "what is ticked is tried on a scratch copy", ASKED: "the restore is confirmed",
+    CONFIRMED: "the register is copied as it is", COPIED: "the copy is restored",
+    RESTORING: "the copy is restored", RESTORED: "what was ticked is sent again",
+    SENT: "recording is resumed", OPENED: "what was ticked is sent",
+    GIVEN_UP: "the restore is cancelled",
+}
 # what is shown of the present register until it is restored
 BEFORE = (*UNTOUCHED, RESTORING)
 
@@ -121,8 +129,15 @@ def page(
     asks_none: bool = False,
 ) -> Answer:
     """A restore with its steps; `asks_none` where nothing was ticked, which is asked once more."""
+    # (before the restore is read: what ends meanwhile was not cut off)
+    work = parts().restoring.work_on(number)
     restore = found_restore(number)
     lost, trouble = lost_in(restore)
+    # (who saw the page before the end of a step reads here why it was not done)
+    if not work and (said := parts().restoring.refused(number)):
+        trouble = f"The last step was not done: {sentence(said)}"
+    # (while something runs the register may be away for some seconds)
+    trouble = "" if work else trouble
     action, button = NEXT.get(restore.state, ("", ""))
     rows = rows_of(restore, chosen)
     draws = {it.number: it for it in parts().draws.listed()}
@@ -131,7 +146,8 @@ def page(
         lost=lost, lost_count=restores_since.count_lost(lost),
         steps=steps_of(restore),
         history=step_store.history(restore.done),
-        reason=reason or trouble, action=action, button=button.format(restore.copy),
+        reason=reason or trouble, work=work, runs=RUNS[restore.state],
+        action=action, button=button.format(restore.copy),
         why_not=why_not(restore), not_steady=not_steady(restore),
         may_choose=restore.state == CLOSED, may_give_up=restore.state in BEFORE,
         is_touched=restore.state == RESTORING, may_send_later=restore.state == OPENED,
@@ -217,46 +233,40 @@ def is_bare(number: int) -> bool:
     return not is_said and not chosen_now() and not all(map(restores_since.why_not, entries))
 
 
+# what a step is asked with: who does it, the number of the restore, the version that was seen, and
+# the entries that are ticked
+Asked = tuple[Person, int, int, set[int]]
 # the steps of who may restore; and those of who may confirm it. The second are all that an office
 # needs to end a restore when the person who began it can do nothing more
-Step = Callable[[Restores, int, int], None]
+Step = Callable[[Restores, Asked], None]
 OWN: dict[str, Step] = {
-    "ask": lambda it, number, seen: it.ask(person(), number, seen, chosen_now()),
-    "choose": lambda it, number, seen: it.choose_again(person(), number, seen),
-    "later": lambda it, number, seen: it.send_later(person(), number, seen, chosen_now()),
+    "ask": lambda it, asked: it.ask(*asked),
+    "choose": lambda it, asked: it.choose_again(*asked[:3]),
+    "later": lambda it, asked: it.send_later(*asked),
 }
 SECOND: dict[str, Step] = {
-    "confirm": lambda it, number, seen: it.confirm(person(), number, seen),
-    "copy": lambda it, number, seen: it.copy(person(), number, seen),
-    "restore": lambda it, number, seen: it.restore(person(), number, seen),
-    "send": lambda it, number, seen: it.send_again(person(), number, seen),
-    "open": lambda it, number, seen: it.open(person(), number, seen),
-    "give-up": lambda it, number, seen: it.give_up(person(), number, seen),
-}
-# what follows a step at once, as there is nothing to decide in between; and then the opening, where
-# all that was ticked is stored. Where it cannot be done, the restore is in the state before it, and
-# the page has its button
-FOLLOWING: dict[str, Sequence[str]] = {
-    "confirm": ("copy", "restore", "send"), "copy": ("restore", "send"), "restore": ("send",),
-    "send": (),
+    "confirm": lambda it, asked: it.confirm(*asked[:3]),
+    "copy": lambda it, asked: it.copy(*asked[:3]),
+    "restore": lambda it, asked: it.restore(*asked[:3]),
+    "send": lambda it, asked: it.send_again(*asked[:3]),
+    "open": lambda it, asked: it.open(*asked[:3]),
+    "give-up": lambda it, asked: it.give_up(*asked[:3]),
 }
 KEEPS_TICKS = ("ask", "later")
 
 
 def done(number: int, steps: dict[str, Step], name: str) -> Answer:
-    """Does a step with what follows it at once, and shows the restore."""
+    """Does a step with what follows it by itself, and shows the restore: as it is, or that it runs.
+    """
     found_restore(number)
     seen = numbers.read(flask.request.form.get("seen", ""))
     if name not in steps or seen < 0:
         flask.abort(404 if name not in steps else 400)
     if name == "ask" and is_bare(number):
         return page(number, "", 409, set(), True)
+    restores, step, asked = parts().restores, steps[name], (person(), number, seen, chosen_now())
     try:
-        steps[name](parts().restores, number, seen)
-        for it in FOLLOWING.get(name, ()):
-            SECOND[it](parts().restores, number, found_restore(number).version)
-        if name in FOLLOWING:
-            parts().restores.open_whole(person(), number)
+        parts().restoring.begin(person(), number, lambda: step(restores, asked))
     except (Refused, sqlite3.Error) as error:
         chosen = chosen_now() if name in KEEPS_TICKS else None
         return page(number, sentence(words_of(error)), 409, chosen)

@@ -12,7 +12,6 @@ from office import days
 from office.model import Register
 
 from .. import draws_second, numbers, season_end
-from ..archive import Item
 from ..draws_second import Second
 from ..guard import needs, parts, person
 from ..people import CONFIRM, END
@@ -43,15 +42,20 @@ def show() -> Answer:
 
 def page(said: str = "", status: int = 200, wrong: dict[str, str] | None = None) -> Answer:
     """The page of all steps."""
-    end, found = parts().end, parts().end.get()
+    # (before the state is read: what ends meanwhile was not cut off)
+    work, end, found = parts().end.steps.under_way(), parts().end, parts().end.get()
     register, trouble = register_now(found)
+    if not work and (reason := end.steps.refused(0)):
+        trouble = f"The last step was not done: {sentence(reason)}"
+    # (while the register is copied it cannot be read)
+    trouble = "" if work else trouble
     there = season_end.still_open(parts(), register, end.today()) if register else []
     date = found.date
     is_due = bool(date and end.today() >= date)
     counts = end.counts() if register and found.asked_by else {}
     proposed = end.proposed(register) if register else None
     return flask.render_template(
-        "season_end.html", end=found, open=there, read=season_end.read_of(there),
+        "season_end.html", end=found, work=work, open=there, read=season_end.read_of(there),
         is_stopped=any(it.is_stop for it in there), said=said or trouble, wrong=wrong or {},
         register=register, months=end.months(), form=flask.request.form,
         steps=steps_of(found, there),
@@ -124,31 +128,25 @@ def done(step: Callable[[], object]) -> Answer:
     return flask.redirect(flask.url_for("season_end.show"), 303)
 
 
+def lasting(step: Callable[[], None]) -> Answer:
+    """Does a step that may last, and shows how far it is, or that it runs."""
+    return done(lambda: parts().end.steps.begin(person(), 0, step))
+
+
 @screen.post("/copy")
 @needs(END)
 def copy() -> Answer:
     """Makes the last copy, and the archive with it."""
-    def both() -> None:
-        end = parts().end
-        end.copy(person(), seen(), typed("read"))
-        end.make_archive(person(), end.get().version, start_page)
-
-    return done(both)
-
-
-def start_page(items: list[Item]) -> str:
-    """The page of an archive that says what is what."""
-    register = parts().desk.register()
-    return flask.render_template(
-        "archive.html", items=items, register=register, by=person().name,
-        today=parts().end.today(), copy=parts().end.get().copy)
+    end, who, version, read = parts().end, person(), seen(), typed("read")
+    return lasting(lambda: end.copy_and_archive(who, version, read))
 
 
 @screen.post("/archive")
 @needs(END)
 def make_archive() -> Answer:
     """Makes the archive."""
-    return done(lambda: parts().end.make_archive(person(), seen(), start_page))
+    end, who, version = parts().end, person(), seen()
+    return lasting(lambda: end.make_archive(who, version))
 
 
 @screen.post("/archive/file")
