@@ -423,7 +423,9 @@ def test_a_form_of_more_fields_than_any_page_has_is_refused(tmp_path: pathlib.Pa
     """
     with site(tmp_path, "http://127.0.0.1:1") as office:
         nobody, jane = Browser(office.app), office.browser("jane")
+        rita = office.browser("rita", "reader")
         for browser, path, status, most in ((nobody, "/people/", 401, 500),
+                                            (rita, "/lists/children/save", 403, 2_000),
                                             (jane, "/answers/several", 403, 30_000)):
             for many, found in ((most - 1, status), (most, 413)):
                 answer = browser.client.post(

@@ -16,12 +16,13 @@ from collections.abc import Callable, Iterator
 from concurrent.futures import ThreadPoolExecutor
 
 import pytest
-from applications import Form, office_over, town
+from applications import ORIGIN, Form, office_over, town
 from conftest import ROOT, make
 from served import served
+from werkzeug.wrappers import Response
 
 from office import book, turns
-from office.web import authority, people, uploads
+from office.web import authority, guard, people, uploads
 from office.web.store import Store
 
 # more than the application has threads
@@ -199,6 +200,43 @@ def test_one_person_takes_not_all_places_of_those_who_wait(tmp_path: pathlib.Pat
         assert sorted(it.status_code for it in pages) == (
             [200] * turns.MOST_OF_ONE + [503] * (MANY - turns.MOST_OF_ONE))
         assert turns.WAITING.counts.total() == 0
+
+
+def test_what_many_have_typed_is_kept_for_few_at_once(
+    tmp_path: pathlib.Path, monkeypatch: pytest.MonkeyPatch
+) -> None:
+    """Each may be a long page. Who is beyond them is refused without what they typed."""
+    with office_over(tmp_path, town()) as office:
+        jane = office.browser("jane", "officer")
+        monkeypatch.setattr(turns, "SECONDS", 0.5)
+        lock, present, most, go_on = threading.Lock(), 0, 0, threading.Event()
+        typed_again = guard.typed_again
+
+        def slow(status: int, reason: str) -> Response | None:
+            nonlocal present, most
+            with lock:
+                present += 1
+                most = max(most, present)
+            assert go_on.wait(60)
+            with lock:
+                present -= 1
+            return typed_again(status, reason)
+
+        def send() -> str:
+            found = jane.client.post("/children/1/notes", base_url=ORIGIN, data={
+                "form": "another", "text": "what was typed"}, headers={
+                    "Origin": ORIGIN, "Accept": "text/html"})
+            assert found.status_code == 403
+            return str(found.text)
+
+        monkeypatch.setattr(guard, "typed_again", slow)
+        with ThreadPoolExecutor(MANY) as threads:
+            asked = [threads.submit(send) for _ in range(MANY)]
+            while sum(it.done() for it in asked) < MANY - 2:
+                time.sleep(0.01)
+            go_on.set()
+            pages = [it.result() for it in asked]
+        assert most == 2 and sum("what was typed" in it for it in pages) == 2
 
 
 def test_many_excel_files_at_once_hold_few_threads(

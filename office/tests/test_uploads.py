@@ -106,14 +106,16 @@ def test_a_body_that_does_not_say_how_long_it_is_is_not_read(
 @pytest.mark.parametrize("role, path, most", [
     ("officer", "/applications/gazetteer/file", (64 << 20) + 65_536),
     ("officer", "/answers/several", 16 << 20),
-    ("reader", "/applications/gazetteer/file", 16 << 20)])
+    ("supervisor", "/applications/gazetteer/file", 16 << 20),
+    ("reader", "/applications/gazetteer/file", 1_000_000), ("reader", "/sign-out", 1_000_000),
+    ("administrator", "/people/", 1_000_000), ("school-A", "/password", 1_000_000)])
 def test_a_body_that_is_too_long_is_refused(
     office: Site, role: str, path: str, most: int
 ) -> None:
     """A gazetteer has at most 64 MiB, with what its form has beside it, of who may send one; all
-    others 16.
+    others 16, and of who sends no files a megabyte.
     """
-    browser = office.browser(f"a-{role}", role)
+    browser = office.browser(f"a-{role.lower()}{len(path)}", role)
     for length, is_too_much in ((most + 1, True), (most, False)):
         found = browser.client.post(
             path, base_url=ORIGIN, headers={"Origin": ORIGIN}, data=bytes(length),

@@ -69,6 +69,8 @@ MOST_CONFIRMED = 300
 SECRET = ("signing.sign_in", "signing.password")
 # of those without a session one body is read at a time; another one meanwhile is not read
 NOBODY = threading.Lock()
+# of those with one, so many pages at a time are made of what they typed, of which each may be long
+KEEPING = turns.Turn(threading.BoundedSemaphore(2), "others have sent much")
 ENDED = ("Your session has ended, and nothing was done. Sign in again, and then send once more what"
          " you typed: it is below.")
 BROKEN = ("Something went wrong in the application. Look whether what you sent is done, before you"
@@ -218,7 +220,9 @@ def again(status: int, reason: str) -> AnyResponse | None:
     if not is_typed:
         return None
     if flask.g.get("person"):
-        return typed_again(status, reason)
+        with contextlib.suppress(turns.Busy), KEEPING:
+            return typed_again(status, reason)
+        return None
     if not NOBODY.acquire(False):
         return None
     try:

@@ -17,7 +17,7 @@ from office.model import Register
 from office.sheet import Row
 
 from . import gazetteer_rows, plain
-from .people import RECORD, Person
+from .people import LOTS, RECORD, Person
 
 # (what a browser says of its name is not needed, and may be anything)
 NAME = "the file"
@@ -29,9 +29,16 @@ LARGE, MOST_LARGE = "/applications/gazetteer/file", gazetteer_rows.MOST_BYTES + 
 # a form has a field for each child of a set of letters, and some more. Each costs some
 # microseconds, and a body of the size of an Excel file could have millions
 FORM, MOST_FIELDS = "application/x-www-form-urlencoded", 30_000
+# who records nothing and seals no lots sends ticks and words
+SMALL_BYTES, SMALL_FIELDS = 1_000_000, 2_000
 # somebody who is not signed in sends a name and a password, or what was typed in a session that
 # has ended
 NOBODY_BYTES, NOBODY_FIELDS = 100_000, 500
+
+
+def is_small(person: Person) -> bool:
+    """Whether somebody sends no files and no long forms."""
+    return not (person.is_program or person.may(RECORD) or person.may(LOTS))
 
 
 class Fields(FormDataParser):
@@ -61,7 +68,10 @@ class Request(flask.Request):
     @property
     def most_fields(self) -> int:
         """How many fields a form has at most."""
-        return MOST_FIELDS if flask.g.get("person") else NOBODY_FIELDS
+        found: Person | None = flask.g.get("person")
+        if not found:
+            return NOBODY_FIELDS
+        return SMALL_FIELDS if is_small(found) else MOST_FIELDS
 
     def make_form_data_parser(self) -> FormDataParser:
         """What reads a form."""
@@ -77,6 +87,8 @@ class Request(flask.Request):
         if not found:
             return NOBODY_BYTES
         # (the body is read before it is refused what the person may not do)
+        if is_small(found):
+            return SMALL_BYTES
         is_large = self.path == LARGE and found.may(RECORD)
         return MOST_LARGE if is_large else super().max_content_length
 
