@@ -125,6 +125,14 @@ def held_round(
     None if they are to be drawn here.
     """
     (make_later if before.draws else make_first)(program, path, before, schools)
+    return held_in(program, path, before, draw, lots)
+
+
+def held_in(
+    program: Program, path: str, before: Register, draw: datetime.date,
+    lots: dict[Pair, int] | None,
+) -> tuple[Register, dict[Pair, int]]:
+    """Holds the round in a register that was made of one: the register after it, and the lots."""
     lines = (it.split(" ") for it in program.run("pairs", path).splitlines())
     pairs = [(code, int(child)) for code, child in lines]
     if lots is None:

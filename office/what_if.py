@@ -1,5 +1,5 @@
-"""What a round would have given a child by another list, or by an application of another day, as
-the program itself says of a register of which nothing remains.
+"""What a round would have given a child by another list, by an application of another day, or by
+other details, as the program itself says of a register of which nothing remains.
 """
 import dataclasses
 import datetime
@@ -10,8 +10,8 @@ from collections.abc import Sequence
 
 from register_files import Refused
 
-from . import commands, rounds, trial_registers
-from .model import Pair, Register
+from . import commands, persons, rounds, trial_registers
+from .model import Child, Pair, Register
 from .trial_registers import Program
 
 # (a question that the register does not answer)
@@ -66,6 +66,19 @@ def by_day(program: Program, before: Register, after: Register, child: int,
                                                          application.preferences))
         for is_first in (True, False))
     return Span(best.outcomes[1][child], worst.outcomes[1][child])
+
+
+def by_details(program: Program, before: Register, after: Register, child: Child) -> str | None:
+    """The school that the round after a copy would have given a child of other details, by the same
+    lots, or None.
+    """
+    seen = rounds.next_round(before, after)
+    with tempfile.TemporaryDirectory(prefix="admissions-trial-") as room:
+        path = os.path.join(room, "trial.db")
+        before.source.copy_to(path)
+        trial_registers.sent(program, path, [persons.command_of("amend", child)])
+        made, _ = trial_registers.held_in(program, path, before, seen.draw.day, seen.drawn.lots)
+    return made.outcomes[seen.draw.number][child.number]
 
 
 def held(program: Program, before: Register, day: datetime.date, lots: dict[Pair, int]) -> Register:

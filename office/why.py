@@ -21,6 +21,10 @@ FOR_FAMILY = "For the family of the child: small numbers are withheld"
 SOME = "Some"
 MEANING = (f"Where this says '{SOME.lower()}', the number is withheld, because it is from 1 to"
            f" {withheld.LEAST - 1}, or because such a number could be worked out from it.")
+# and in place of a distance
+MEANING_OF_DISTANCE = (
+    "Withheld means that no family reads it. A distance is withheld if the last child admitted is"
+    " or was looked after, or has a verified reason: it could say which child that is.")
 DECIDED = {
     CLASS: "The criterion decided: the last child admitted met one that comes before any that this"
     " child meets.",
@@ -202,7 +206,8 @@ class View:
                  flags: dict[int, str] | None) -> None:
         self.school, self.is_office, self.flags = school, is_office, flags
         self.hidden = set() if is_office or found.because else hidden_of(found)
-        self.has_withheld = False
+        # whether a number is withheld, and whether a distance is
+        self.has_withheld = self.has_hidden = False
 
     def count(self, key: str, value: int, one: str, many: str) -> str:
         """A number with what follows it, at the begin of a sentence. Nothing tells whether a number
@@ -260,6 +265,7 @@ def compared(found: School, view: View) -> Iterator[str]:
     last, key, is_by_lot = found.last, found.key, found.decided == LOT
     is_hidden = last is not None and view.is_private(last)
     if last and is_hidden:
+        view.has_hidden = True
         yield f"The last child admitted: {view.words(last.number)}; its distance is withheld."
     elif last:
         lot = f", lot {last.lot:,}" if is_by_lot else ""
@@ -399,16 +405,17 @@ def sections_of(found: Why, is_office: bool = False,
     """
     yield Section([FOR_OFFICE if is_office else FOR_FAMILY, *heading(found)])
     yield Section([*opening(found), *([AMENDED] if found.is_amended else [])])
-    is_withheld, is_fill = False, bool(found.held.draw.school)
+    meanings, is_fill = dict[str, None](), bool(found.held.draw.school)
     for it in found.schools:
         school = found.register.schools[it.code]
         view = View(it, school, is_office, flags)
         made = sentences_of_fill if is_fill else sentences_of
         missing = "" if it.because or it.decided or is_fill else NO_REASON
         yield Section(list(made(it, school, view)), it.code, missing)
-        is_withheld = is_withheld or view.has_withheld
-    if is_withheld:
-        yield Section([MEANING])
+        meanings |= {text: None for text, is_said in (
+            (MEANING, view.has_withheld), (MEANING_OF_DISTANCE, view.has_hidden)) if is_said}
+    if meanings:
+        yield Section(list(meanings))
 
 
 def explain_again(held: Held, before: Register, after: Register, number: int) -> Why:

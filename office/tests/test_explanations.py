@@ -36,10 +36,11 @@ def test_the_child_leads_to_each_school_that_it_did_not_get(office: Site) -> Non
     page = Page(rita.get("/children/3").text)
     assert " ".join(page.by_id["why"].split()) == (
         "Round 1, 3 March 2025: why the place at Beta, why not Alpha;"
-        " what if it had another list or day")
+        " what if it had another list, criterion or day")
     assert 'href="/children/3/why/1/family#school-A"' in page.text
     assert " ".join(Page(rita.get("/children/1").text).by_id["why"].split()) == (
-        "Round 1, 3 March 2025: why the place at Alpha; what if it had another list or day")
+        "Round 1, 3 March 2025: why the place at Alpha;"
+        " what if it had another list, criterion or day")
     assert "why no place, why not Alpha, why not Beta;" in (
         " ".join(Page(rita.get("/children/4").text).by_id["why"].split()))
 

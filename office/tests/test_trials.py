@@ -1,6 +1,9 @@
-"""Trials in the application, and what a round would have given a child by another list or day."""
+"""Trials in the application, and what a round would have given a child by another list, criterion
+or day.
+"""
 import io
 import pathlib
+import re
 import subprocess
 import threading
 import time
@@ -240,6 +243,34 @@ def test_another_day_is_tried(
     assert said in page.said() and more in page.said()
     found = rita.get(f"/children/{number}/what-if/1?day=soon&what=day")
     assert found.status_code == 400 and "17 March 2025" in Page(found.text).error("day")
+
+
+def test_another_criterion_is_tried(
+    tmp_path: pathlib.Path, monkeypatch: pytest.MonkeyPatch,
+) -> None:
+    """Child 2 lives farther from the one place of Alpha than child 1, and meets no criterion: with
+    any of them it has the place. What it has already, and distances, are no choice.
+    """
+    monkeypatch.setattr(held_again, "MOST_SECONDS", PATIENCE)
+    order = ["flag:2", "sibling", "feeder:PRIM1", "within:50"]
+    commands = [SCHOOLS[0] | {"pan": 1, "criteria": order}, child(1, "Ada Abel", 100),
+                child(2, "Ben Bell", 200),
+                *({"cmd": "apply", "child": it, "day": "2024-10-31", "preferences": ["A"]}
+                  for it in (1, 2))]
+    held = {"cmd": "round", "draw": 1, "day": "2025-03-03", "lots": [7, 8]}
+    with after_round(tmp_path, commands, held) as office:
+        rita, before = office.browser("rita", "reader"), register(office)
+        asked = "/children/2/what-if/1?what=criterion&criterion="
+        found = rita.get(f"{asked}within:50")
+        assert found.status_code == 400
+        assert "one of the list" in Page(found.text).error("criterion")
+        choices = re.findall(r'<option value="([^"]+)"', found.text.partition('"criterion"')[2])
+        assert choices == ["care", "flag:2", "sibling:A", "present:PRIM1"]
+        for it in choices:
+            said = Page(rita.get(f"{asked}{it}").text).said()
+            assert "): a place at Alpha (A), its first preference." in said
+            assert "By its own details: no place." in said
+        assert register(office) == before
 
 
 def test_a_lot_that_was_not_drawn_leaves_it_open(

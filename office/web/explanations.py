@@ -66,7 +66,7 @@ def taken_in(parts: Parts, register: Register, draw: model.Draw, number: int,
         return Taken(draw.number, words, "why it took no part", (), other)
     above = listed[:listed.index(got)] if got in listed else listed
     return Taken(draw.number, words, place, above,
-                 "what if it had another list or day" if is_kept else "")
+                 "what if it had another list, criterion or day" if is_kept else "")
 
 
 def in_words(draw: model.Draw) -> str:

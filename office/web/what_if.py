@@ -1,5 +1,5 @@
-"""What a round that was held would have given a child by another list, or by an application of
-another day: what was typed, what is wrong with it, and the answer in words.
+"""What a round that was held would have given a child by another list, by an application of another
+day, or by another criterion: what was typed, what is wrong with it, and the answer in words.
 """
 import dataclasses
 from collections.abc import Mapping, Sequence
@@ -7,10 +7,10 @@ from collections.abc import Mapping, Sequence
 from register_files import Refused
 
 from office import texts, what_if
-from office.model import Draw, Register
+from office.model import Child, Draw, Register
 from office.why import nth
 
-from . import explanations
+from . import explanations, numbers
 from .held_again import turn
 from .parts import Parts
 from .wording import NOT_A_DAY, day_of, weekday
@@ -111,6 +111,49 @@ def by_day(found: Setting, text: str) -> tuple[list[str], str]:
     else:
         said.append("No lot that could have been drawn changes that.")
     return said, ""
+
+
+# what of a child is other, in the value of a choice: it is before the number or the code
+CARE, FLAG, SIBLING, PRESENT = "care", "flag", "sibling", "present"
+
+
+def criteria_of(found: Setting, flags: Mapping[int, str]) -> dict[str, str]:
+    """The criteria of the schools of its list that the child did not meet and that are no distance:
+    by the value of the choice, in words.
+    """
+    child = found.before.children[found.child]
+    made = {} if child.looked_after else {CARE: "looked after, or previously looked after"}
+    for code in found.wanted:
+        school = found.before.schools[code]
+        for it in school.criteria:
+            kind, _, value = it.partition(":")
+            if kind == "flag" and int(value) not in child.flags:
+                made[f"{FLAG}:{value}"] = flags.get(int(value)) or f"verified reason {value}"
+            elif kind == "sibling" and code not in child.siblings:
+                made[f"{SIBLING}:{code}"] = f"a brother or sister at {school.name}"
+            elif kind == "feeder" and value != child.present:
+                made[f"{PRESENT}:{value}"] = f"in the feeder school {value}"
+    return made
+
+
+def with_details(child: Child, choice: str) -> Child:
+    """A child that meets another criterion."""
+    kind, _, value = choice.partition(":")
+    others: dict[str, dict[str, object]] = {
+        CARE: {"looked_after": True}, FLAG: {"flags": sorted({*child.flags, numbers.read(value)})},
+        SIBLING: {"siblings": sorted({*child.siblings, value})}, PRESENT: {"present": value},
+    }
+    return child._replace(data={**child.data, **others[kind]})
+
+
+def by_criterion(found: Setting, choice: str, words: str) -> list[str]:
+    """The answer to another criterion, in sentences."""
+    with turn() as program:
+        school = what_if.by_details(program, found.before, found.after,
+                                    with_details(found.before.children[found.child], choice))
+    had = found.after.outcomes[found.draw.number][found.child]
+    return [f"By its list with this criterion ({words}): {found.got(school)}.",
+            f"By its own details: {found.got(had)}."]
 
 
 def preference(at: int) -> str:

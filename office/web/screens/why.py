@@ -1,5 +1,5 @@
 """Why a child got what a draw gave it, for the family and for the office, as a page and as PDF; and
-what a round would have given it by another list or another day.
+what a round would have given it by another list, another day or another criterion.
 """
 from collections.abc import Mapping
 
@@ -76,14 +76,15 @@ def pdf(number: int, draw: int, reader: str) -> Response:
 @screen.get("/<int:number>/what-if/<int:draw>")
 @needs(READ)
 def other(number: int, draw: int) -> Answer:
-    """What a round would have given a child by another list or by another day: the form, and the
+    """What a round would have given a child by another list, day or criterion: the forms, and the
     answer where something was typed.
     """
     register = child_in(number)
     held, given = round_of(register, draw), flask.request.args
     try:
         found = what_if.setting(parts(), held, number)
-        listed, answer, wrong = answered(found, given)
+        choices = what_if.criteria_of(found, flags.present())
+        listed, answer, wrong = answered(found, given, choices)
     except Refused as error:
         said = sentence(str(error))
         return flask.render_template(
@@ -93,16 +94,22 @@ def other(number: int, draw: int) -> Answer:
     return flask.render_template(
         "what_if.html", child=register.children[number], draw=draw, found=found, said="",
         words=explanations.in_words(held), fields=fields_of(found, listed), answer=answer,
-        wrong=wrong, day=given.get("day", "")), 400 if wrong else 200
+        wrong=wrong, day=given.get("day", ""), criterion=given.get("criterion", ""),
+        criteria=[("", "choose one"), *choices.items()]), 400 if wrong else 200
 
 
 def answered(
-    found: Setting, given: Mapping[str, str],
+    found: Setting, given: Mapping[str, str], choices: Mapping[str, str],
 ) -> tuple[Typed, list[str], dict[str, str]]:
     """The list as it is to be shown, the answer in sentences, and what is wrong at which field."""
     listed = what_if.typed(found, given)
     if listed.wrong or given.get("what") == "list":
         return listed, [] if listed.wrong else what_if.by_list(found, listed.chosen), listed.wrong
+    if given.get("what") == "criterion":
+        choice = given.get("criterion", "")
+        if choice not in choices:
+            return listed, [], {"criterion": "one of the list"}
+        return listed, what_if.by_criterion(found, choice, choices[choice]), {}
     if given.get("what") != "day":
         return listed, [], {}
     answer, said = what_if.by_day(found, given.get("day", ""))
