@@ -3,6 +3,7 @@ history.
 """
 import datetime
 import pathlib
+import re
 import tracemalloc
 from collections.abc import Callable, Iterator
 from types import SimpleNamespace
@@ -72,6 +73,30 @@ def test_a_child_is_shown_with_its_place_its_list_and_its_data(office: Site) -> 
     assert "medical need; reason 5" in page.text and "The child has no application." in page.text
     assert "&lt;i&gt;Eden" in page.text and "<i>Eden" not in page.text
     assert rita.get("/children/6").status_code == 404
+
+
+def test_a_child_has_its_state_in_tags_and_the_likely_acts_first(
+    office: Site, monkeypatch: pytest.MonkeyPatch,
+) -> None:
+    """A reminder is likely once it is due; what is rarely recorded is folded."""
+    jane = office.browser("jane", "officer")
+    open_offer, answers = "Offered, not answered", "Accept a place Decline a place"
+
+    def shown() -> tuple[list[str], str, str]:
+        page = Page(jane.get("/children/3").text)
+        found = re.findall('<strong class="tag [a-z]+">([^<]*)', page.text.partition("<h2")[0])
+        acts, others = (" ".join(page.by_id[it].split()) for it in ("actions", "others"))
+        return found, acts, others
+
+    monkeypatch.setattr(screen, "today", lambda: TODAY - datetime.timedelta(days=1))
+    assert shown() == ([open_offer, "On 1 waiting list"], answers, (
+        "More that can be recorded Record a reminder Record an EHC plan"))
+    monkeypatch.setattr(screen, "today", lambda: TODAY)
+    assert shown() == ([open_offer, "Reminder due", "On 1 waiting list"],
+                       f"{answers} Record a reminder", (
+                           "More that can be recorded Record an EHC plan"))
+    page = Page(jane.get("/children/4").text)
+    assert "No place" in page.text and "actions" not in page.by_id
 
 
 def test_a_reason_has_few_words_and_withholds_distances() -> None:

@@ -149,7 +149,7 @@ def test_children_to_look_at_are_found_by_group(town: Machine) -> None:
         assert shown.numbers("what=note") == {12}
         checked = " ".join(shown.page.by_id["checked"].split())
         assert "10 late Not in this round: they applied after the closing date" in checked
-        assert "1 by a plan" in checked and (
+        assert "1 EHC plan" in checked and (
             "119 children take part. All children, with 10 late" in checked)
         assert ("119 children take part, and 10 are late. Those offered a place come first, then no"
                 " place, then late ones; by number.") in shown.page.text
@@ -171,8 +171,8 @@ def test_children_to_look_at_are_found_by_group(town: Machine) -> None:
         assert re.search(r"You confirmed round 1 at [0-9:]{5}\. hal holds it next\.", page)
         assert "It waits for a head of the office: hal." in page and "Waits for hal." in page
         home = shown.jane.get("/").text
-        assert "Draw 1 waits for hal" in home and "Go on with draw 1" not in home
-        assert "Go on with draw 1" in office.browser("hal").get("/").text
+        assert "Round 1 waits for hal" in home and "Hold round 1" not in home
+        assert "Hold round 1" in office.browser("hal").get("/").text
         assert "What was checked" in page and "119 children take part." in page
         assert "No change since the applications were stored" in page
         assert "<details open><summary>The audit in full" in shown.at("audit=1").text

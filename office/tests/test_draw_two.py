@@ -267,10 +267,10 @@ def test_who_could_act_in_both_names_does_not_confirm(small: Machine, what: str)
         office.parts.history.add(by, whats, {"person": to, "role": "officer"})
         number = begun(office)
         why = f"{to} was (added|given another (role|password)) by {by} at"
-        assert re.search(f"May confirm it pat. Others may not: hal began this draw; {why}",
+        assert re.search(f"May confirm it pat May not confirm it hal began this draw {why}",
                          words(hal, number))
         brought(office, number, "rehearsed")
-        assert re.search(f"May confirm it pat. Others may not: hal began this draw; {why}",
+        assert re.search(f"May confirm it pat May not confirm it hal began this draw {why}",
                          words(pat, number))
         assert "Confirm round 1" not in ends(jane.browser, number)
         found = jane.step(number, "confirm")
@@ -298,7 +298,7 @@ def test_who_closed_it_does_not_confirm_it(small: Machine) -> None:
         brought(office, number, "rehearsed")
         page = words(pat, number)
         assert "pat closed the register for it. Somebody else confirms it." in page
-        assert "May confirm it jane. Others may not: hal began this draw; pat closed the" in page
+        assert "May confirm it jane May not confirm it hal began this draw pat closed the" in page
         for it in (hal, pat):
             found = it.step(number, "confirm")
             assert found.status_code == 409 and ": somebody else confirms it." in found.text

@@ -343,7 +343,7 @@ def test_a_day_on_which_letters_cannot_have_been_sent_is_refused(
         assert status == 409 and "is more than a week before today" in page
         assert "Monday, 3 March 2025" in page and "They were sent on 3 March 2025" in page
     assert count(office, "letter_set WHERE sent IS NOT NULL") == 0
-    assert hidden(jane.get(path), "day") == "2025-03-03"
+    assert hidden(jane.get(path), "day") == "3 March 2025"
     monkeypatch.setattr(screen, "today", lambda: datetime.date(2025, 3, 10))
     assert recorded(jane, path, "3 March 2025", sure_of="")[0] == 303
 

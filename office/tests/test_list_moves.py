@@ -51,12 +51,18 @@ def test_the_movement_of_a_list_is_that_of_the_copies(
                           ["4", "3"]]
         brought(office, begun(office, "OAK", 1, "2025-03-20"), "opened")
         assert in_copy(office, 3) == {3: 1, 4: 2, 5: 3} and in_copy(office, 4) == {4: 1, 5: 2}
+        steps = Page(rita.get("/children/4?part=positions").text).tables["OAK School"]
+        assert steps[1:] == [
+            ["After round 1, 3 March 2025", "3", "4"],
+            ["After fill of OAK (draw 2), 20 March 2025", "1", "2"], ["Now", "1", "2"]]
         fill = ["fill of OAK (draw 2)", "20 March 2025", "1", "3", "2", "0", "0", "1 up", "0"]
         assert moved() == [[*first, "0", "2", none, "2 up"], fill]
         assert "1 place was offered." in rita.get("/schools/OAK/moves").text
         office.parts.copies.path(2).unlink()
         unknown = "not known: no copy"
         assert moved()[0][4:] == ["no copy", "", "", unknown, unknown]
+        steps = Page(rita.get("/children/4?part=positions").text).tables["OAK School"]
+        assert steps[1] == ["After round 1, 3 March 2025", "no copy", ""]
         assert moved()[1] == fill and "is not kept here" in rita.get("/schools/OAK/moves").text
         office.parts.copies.path(4).unlink()
         assert "says who waited then: nothing is known of it." in (

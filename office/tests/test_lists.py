@@ -47,7 +47,7 @@ class Table(html.parser.HTMLParser):
         self.is_error = self.is_error or found.get("class") == "error"
         self.is_list = self.is_list or found.get("id") == "list"
         self.is_paper = self.is_paper or found.get("class") == "paper-title"
-        if not self.is_list or self.is_paper or found.get("class") == "screen-only":
+        if not self.is_list or self.is_paper or "screen-only" in (found.get("class") or ""):
             return
         if tag == "tr" and self.at == "tbody":
             self.rows.append([])

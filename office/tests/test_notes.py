@@ -306,6 +306,10 @@ def test_a_reader_sees_neither(office: Site, jane: Browser) -> None:
         for text in ("Notes", "a text of", "evidence", "Added a"):
             assert text not in page, (path, text)
     assert "Added a" not in rita.get("/activity/").text
+    for path in ("/lists/children", "/lists/unplaced"):
+        assert 'aria-label="Notes on child 1"' in jane.get(path).text
+        assert "Notes on child" not in rita.get(path).text
+    assert "Notes on child 2" not in jane.get("/lists/children").text
     assert "Added a note" in jane.get("/children/1").text
     assert "Added a note on Ada Abel (1)" in jane.get("/activity/?q=1").text
     assert jane.get("/activity/?q=2").text.count("Added a note") == of_another

@@ -18,7 +18,6 @@ from letter_site import (
 )
 from register_files import Refused
 
-from office import days
 from office.senders import Ended
 from office.web import choices, notices
 from office.web.answers import Meant
@@ -132,7 +131,7 @@ def test_the_letters_of_a_row_are_made_by_themselves(office: Site, address: str)
     jane.post(row)
     assert count(office, "letter_set") == 1
     assert jane.post(f"{path}/record", given).status_code == 303
-    said = f"sent on {days.in_words(datetime.date.fromisoformat(today))}, by jane"
+    said = f"sent on {today}, by jane"
     assert said in jane.get(row).text
     assert jane.get("/letters/whom?whom=row&value=1").text.count(said) == 2
     # those of withdrawals name the place that has ended; and a reader only sees that they are made

@@ -51,7 +51,7 @@ def test_an_application_in_time_is_asked_by_name_and_recorded_once(before: Site)
     assert PATH in Page(jane.get("/children/5").text).stops
     assert "Record an application" in Page(jane.get("/children/5").text).text
     page = Page(jane.get(PATH).text)
-    assert page.form(ASK).values["day"] == ["2024-10-31"]
+    assert page.form(ASK).values["day"] == ["31 October 2024"]
     assert sorted(set(re.findall('name="(preference-[0-9]+)"', page.text))) == [
         "preference-1", "preference-2"]
     page = typed(jane, **{"preference-1": "B", "preference-2": "A"})

@@ -38,12 +38,49 @@ def possible(register: Register, number: int) -> list[tuple[str, str]]:
                  ("lapse" if place.reminded else "remind", place.school)]
     elif place and place.kind == model.ACCEPTED:
         found = [("decline", place.school)]
-    application = register.applications.get(number)
-    listed = application.listed.items() if application else ()
-    found += [("leave", code) for code, it in listed if it.state == model.WAITS]
+    found += [("leave", code) for code in waiting(register, number)]
     if place is None or place.kind != model.PLAN:
         found.append(("plan", ""))
     return found
+
+
+def is_due(place: Place, today: datetime.date) -> bool:
+    """Whether the reminder of an offer is due, or its withdrawal if it was reminded of."""
+    since = place.reminded or place.day
+    return place.kind == model.OFFERED and since is not None and days.due_from(since) <= today
+
+
+def is_likely(name: str, place: Place | None, today: datetime.date) -> bool:
+    """Whether something that can be recorded is what is recorded most in this state."""
+    return name in ("accept", "decline") or (
+        name in ("remind", "lapse") and place is not None and is_due(place, today))
+
+
+def tags_of(register: Register, number: int, today: datetime.date) -> list[tuple[str, str]]:
+    """How a child stands, each in one to three words with the colour."""
+    place, application, found = register.places.get(number), register.applications.get(number), []
+    if place is None:
+        found += [("No place", "warn")] if register.draws else []
+    elif place.kind == model.OFFERED:
+        found.append(("Offered, not answered", "warn"))
+        if is_due(place, today):
+            found.append(("Withdrawal due" if place.reminded else "Reminder due", "bad"))
+        elif place.reminded:
+            found.append(("Reminded", "plain"))
+    else:
+        found.append(("EHC plan" if place.kind == model.PLAN else "Accepted", "good"))
+    if waits := waiting(register, number):
+        found.append((f"On {texts.count(len(waits), 'waiting list')}", "info"))
+    if application and not register.is_in_time(application.day):
+        found.append(("Late application", "plain"))
+    return found
+
+
+def waiting(register: Register, number: int) -> list[str]:
+    """The schools at which a child waits."""
+    application = register.applications.get(number)
+    return [code for code, it in application.listed.items() if it.state == model.WAITS
+            ] if application else []
 
 
 def see_possible(register: Register, number: int, name: str, code: str) -> None:

@@ -188,7 +188,7 @@ def last_in_words(
     if last is None:
         return ""
     school = register.schools[it.school]
-    words = criteria.in_words(school, last.number, flags)
+    words = criteria.in_brief(school, last.number, flags)
     said = "" if criteria.is_private(school, last.number) else f", {last.metres:,} m"
     return f"{words[:1].upper()}{words[1:]}{said}"
 

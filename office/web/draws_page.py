@@ -24,6 +24,7 @@ from .draws_terms import (
     AUDITED, BEGUN, CLOSED, CONFIRMED, COPIED, FOLLOWED, IN_ORDER, IN_WORDS, OPENED, REHEARSED,
     SEALED, SENDING, SENT, STEPS, TAGS, UNSENT_SEALED, Draw,
 )
+from .draws_terms import LOTS as LOTS_DRAWN
 from .guard import parts, person
 from .history import ANSWER, SENDS, SETTLED
 from .jobs import Job
@@ -131,6 +132,19 @@ def decision_of(found: Seen) -> Decision:
         found.name, found.register is None, found.state, action_of(draw, found.state),
         button_of(found), why_not(draw, found.state, found.register), second_of(draw),
         sealers_of(draw), tuple(who_may(DRAW))))
+
+
+def waits_for(draw: Draw) -> str:
+    """Who does the next step of a draw, by their names, or "" where it follows by itself or is
+    asked about.
+    """
+    if draw.give_up_by or draw.restore_by or draw.wrong or draw.state in FOLLOWED:
+        return ""
+    if draw.state == LOTS_DRAWN:
+        return texts.one_of(sealers_of(draw)) or "a supervisor"
+    if draw.state == REHEARSED and (second := second_of(draw)):
+        return texts.one_of(second.may) or "a second person"
+    return texts.one_of(who_may(DRAW)) or "a head of the office"
 
 
 def not_second(draw: Draw) -> str:

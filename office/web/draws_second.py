@@ -90,8 +90,10 @@ def second_of(store: Store, record: History, case: Case, right: str = CONFIRM) -
     for row in store.rows("SELECT * FROM person WHERE kind=? ORDER BY name", PERSON):
         name = row["name"]
         if not Person(name, row["role"]).may(right):
-            continue
-        if said := f"{name} is locked" if row["is_locked"] else hindered(record, name, case):
+            # (who has a part in it, and would not have the right either)
+            if name in case.others:
+                found.may_not[name] = f"{name} {case.others[name]}"
+        elif said := f"{name} is locked" if row["is_locked"] else hindered(record, name, case):
             found.may_not[name] = said
         else:
             found.may.append(name)

@@ -130,8 +130,8 @@ def taking_part(whole: Whole, register: Register) -> Iterator[Verdict]:
                       f" date, {days.in_words(register.days[0])}, and wait from then on.",
                       "Show them", "?what=late#children")
     if by_plan:
-        yield Verdict(f"{by_plan:,} by a plan", INFO, "They have a place by an EHC plan, and take"
-                      " no part.")
+        yield Verdict(texts.count(by_plan, "EHC plan"), INFO,
+                      "These children have a place by their plan, and take no part.")
 
 
 def of_lots(draw: Draw, whole: Whole) -> Verdict:

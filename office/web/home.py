@@ -47,14 +47,17 @@ class Task:
 @dataclasses.dataclass(frozen=True)
 class Known:
     """What the application knows beside the register, as far as this person may do something about
-    it: the draw in progress, its next step, in a sentence, and who does it, if only others can; how
-    many letters of each draw are not recorded as sent; how many answers wait in the person's pile,
-    and rows of applications in the table; what only a head has to do.
+    it: the draw in progress, its next step, in a sentence, who does it, if only others can, its
+    name, and what this person presses then; how many letters of each draw are not recorded as sent;
+    how many answers wait in the person's batch, and rows of applications in the table; what only a
+    head has to do.
     """
 
     draw: Draw | None = None
     next_step: str = ""
     waits_for: str = ""
+    name: str = ""
+    button: str = ""
     untold: Mapping[int, int] = dataclasses.field(default_factory=dict)
     answers: int = 0
     rows: int = 0
@@ -108,10 +111,10 @@ def of_draw(known: Known) -> Iterator[Task]:
     if known.draw:
         said = f"{sentence(known.draw.in_words)} {known.next_step}"
         if known.waits_for:
-            yield Task(f"{sentence(known.draw.terms.numbers).rstrip('.')} waits for"
-                       f" {known.waits_for}", said, "Nothing for you", LATER)
+            yield Task(f"{known.name} waits for {known.waits_for}", said, "Nothing for you", LATER)
             return
-        yield Task(f"Go on with {known.draw.terms.numbers}", said, "In progress", WAITING,
+        state = "Waits for you" if known.button else "In progress"
+        yield Task(known.button or f"See {known.draw.terms.numbers}", said, state, WAITING,
                    "draws.one", {"number": str(known.draw.number)})
 
 
@@ -181,8 +184,8 @@ def of_work(known: Known, register: Register) -> Iterator[Task]:
         yield Task(f"Send the letters of draw {number}", "They are not recorded as sent.",
                    f"{many:,} left", WAITING, "letters.whom", {"whom": whom, "draw": str(number)})
     if known.rows:
-        yield Task("Add applications to the register",
-                   "They are in the table, and not in the register yet.",
+        yield Task("Correct applications, and add them to the register",
+                   "Their rows came from files or forms, and are not in the register yet.",
                    texts.count(known.rows, "row"), WAITING, "applications.show")
     if known.withdrawn and not register.draws:
         yield Task("Look at rows that were withdrawn", "They are not in the register. Put back"

@@ -12,7 +12,7 @@ from typing import TypeAlias
 
 from register_files import Refused
 
-from office import model, texts
+from office import days, model, texts
 from office.model import Register
 
 from . import intake
@@ -190,6 +190,33 @@ def positions_of(register: Register, child: int, code: str) -> int | None:
     application = register.applications.get(child)
     it = application.at(code) if application else None
     return it.position if it and it.state == model.WAITS else None
+
+
+@dataclasses.dataclass(frozen=True)
+class Step:
+    """Where a child was on a waiting list: when, in words; its position, or none if it did not
+    wait; and how many waited, or none where no copy says it.
+    """
+
+    when: str
+    position: int | None
+    of: int | None
+
+
+def of_child(
+    register: Register, store: DrawStore, copies: OfCopies, code: str, child: int,
+) -> Iterator[Step]:
+    """The positions of a child after each of the last draws of a school, and now; nothing of a list
+    on which it has not waited.
+    """
+    found, _ = moved(register, store, copies, code)
+    present = positions(register, code)
+    steps = [Step(f"After {it.of.words}, {days.in_words(it.of.day)}",
+                  None if it.positions is None else it.positions.get(child), it.after)
+             for it in found]
+    steps.append(Step("Now", present.get(child), len(present)))
+    if any(it.position for it in steps):
+        yield from steps
 
 
 def says(found: Sequence[Moved], present: Positions) -> str:

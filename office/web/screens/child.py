@@ -8,12 +8,12 @@ import flask
 from register_files import Refused
 from werkzeug.wrappers import Response
 
-from office import criteria, texts
+from office import criteria, days, texts
 from office.model import WAITS, Register
 
 from .. import (
-    children, corrections, explanations, flags, pictures, reasons, records, staging_points, tables,
-    wording,
+    children, corrections, explanations, flags, list_moves, pictures, reasons, records,
+    staging_points, tables, wording,
 )
 from ..asked import Typed
 from ..children import FIELDS, Question
@@ -21,6 +21,7 @@ from ..desk import Seen, seen_of
 from ..entry_words import Names
 from ..guard import needs, parts, person
 from ..kinds import ACTIONS
+from ..list_moves import Step
 from ..notice_marks import UNREAD, Marks
 from ..notices import LAPSE, REMIND
 from ..people import NOTES, READ, RECORD
@@ -101,7 +102,7 @@ def show(number: int) -> Answer:
 
 
 # what is kept of a child, each at an address of its own
-HISTORY, LETTERS, KEPT = "history", "letters", "notes"
+HISTORY, LETTERS, POSITIONS, KEPT = "history", "letters", "positions", "notes"
 
 
 def child_page(number: int, said: str = "", status: int = 200) -> Answer:
@@ -110,11 +111,14 @@ def child_page(number: int, said: str = "", status: int = 200) -> Answer:
     names = Names(register, flags.present())
     if "recorded" in flask.request.args and not said:
         said = records.last_of(history, person().name, number, names)
-    actions = [(name, code, ACTIONS[name].title, register.schools[code].name if code else "")
-               for name, code in children.possible(register, number)]
+    place, day = register.places.get(number), today()
+    actions = [(name, ACTIONS[name].title, children.is_likely(name, place, day))
+               for name, _ in children.possible(register, number) if name != "leave"]
     return flask.render_template(
         "child.html", **shown(register, number), **drawn(register, number), said=said,
         is_bad=status != 200, namesakes=children.namesakes(register, register.children[number]),
+        tags=children.tags_of(register, number, day), waits=children.waiting(register, number),
+        moved=moved(register, number) if part() == POSITIONS else [],
         point=records.point_of(history, number), actions=actions,
         records=records.of_child(history, register, number, names, person().may(NOTES)),
         part=part(), rounds=explanations.taken(parts(), register, number),
@@ -124,7 +128,18 @@ def child_page(number: int, said: str = "", status: int = 200) -> Answer:
 def part() -> str:
     """Which of what is kept of the child is shown."""
     found = flask.request.args.get("part", "")
-    return found if found == LETTERS or (found == KEPT and person().may(NOTES)) else HISTORY
+    is_there = found in (LETTERS, POSITIONS) or (found == KEPT and person().may(NOTES))
+    return found if is_there else HISTORY
+
+
+def moved(register: Register, number: int) -> list[tuple[str, list[Step]]]:
+    """The positions of the child on the waiting lists of its schools: the name of each, and them.
+    """
+    application = register.applications.get(number)
+    found = [(register.schools[code].name, list(list_moves.of_child(
+        register, parts().draws, parts().positions, code, number)))
+             for code in (application.preferences if application else ())]
+    return [(name, rows) for name, rows in found if rows]
 
 
 def drawn(register: Register, number: int) -> dict[str, Any]:
@@ -180,7 +195,7 @@ def day_typed() -> tuple[datetime.date, str, str]:
     """The day of an action: as it was typed, or today; and what is wrong with what was typed."""
     text = flask.request.form.get("day", flask.request.args.get("day"))
     if text is None:
-        return today(), today().isoformat(), ""
+        return today(), days.in_words(today()), ""
     found = wording.day_of(text)
     if found is None or found > today():
         return found or today(), text, wording.NOT_YET if found else wording.NOT_A_DAY

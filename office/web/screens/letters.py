@@ -94,13 +94,13 @@ def page(said: str = "", status: int = 200) -> Answer:
         register = parts().desk.register()
     except Refused as error:
         said, status = sentence(str(error)), 503
-    draws = [(str(it.number), f"{wording.draw_in_words(it)}, {it.day}")
+    draws = [(str(it.number), f"{wording.draw_in_words(it)}, {days.in_words(it.day)}")
              for it in register.draws] if register else []
     agreed = sets().audits.agreed(register) if register else set()
     return flask.render_template(
         "letters.html", said=said, is_bad=status != 200, kinds=KINDS, draws=draws[::-1],
         given=flask.request.args, found=sets().listed(), size=sets().bytes_kept(),
-        day=flask.request.args.get("day", today().isoformat()),
+        day=flask.request.args.get("day", days.in_words(today())),
         has_sender=bool(sets().sender.number),
         unaudited=[it for it in register.draws if it.number not in agreed] if register else [],
         may_audit=person().may("draw")), status
@@ -142,7 +142,7 @@ def whom_page(given: Typed, number: int = 1, said: str = "", status: int = 200) 
         orders=[(name, words) for name, (words, _) in ORDERS.items()],
         templates=[(value_of(it), it.called) for it in sets().templates.listed()],
         usual=value_of(sets().templates.usual()),
-        day=given.get("day_of_letters", today().isoformat()),
+        day=given.get("day_of_letters", days.in_words(today())),
         wrong_day="" if typed_day(given, "day_of_letters") else wording.NOT_A_DAY,
         lacks_place=lists().withdrawal(found)[0] and not lists().withdrawal(found)[1],
         key=given.get("key") or secrets.token_urlsafe(12)), status
@@ -279,7 +279,7 @@ def recording(
         return {}
     about = collections.Counter(it["words"].partition(":")[0] for it in letters_of(found.number))
     doubled = sets().again(found.number)
-    return {"day": day or min(found.asked.date, today()).isoformat(), "wrong": wrong,
+    return {"day": day or days.in_words(min(found.asked.date, today())), "wrong": wrong,
             "sure_of": sure_of, "about": sorted(about.items()),
             "doubled": doubled, "agreed": letters_sets.digest(doubled)}
 

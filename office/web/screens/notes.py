@@ -1,6 +1,8 @@
 """The notes and files of a child: read, added, struck out, removed. Each leaves the application as
 text, or as a download of no kind that a browser shows.
 """
+from typing import Any
+
 import flask
 from register_files import Refused
 from werkzeug.wrappers import Response
@@ -21,6 +23,13 @@ SAID = {"note": "The note is stored.", "file": "The file is stored.",
 # of a file nothing is known but its bytes: no browser shows it, runs it or loads anything for it
 NEUTRAL = "application/octet-stream"
 SHUT = "default-src 'none'; frame-ancestors 'none'; sandbox"
+
+
+@screen.app_context_processor
+def shared() -> dict[str, Any]:
+    """What a list shows beside its children: of which ones there are notes, for who may see them.
+    """
+    return {"noted": lambda: parts().notes.children() if person().may(NOTES) else set()}
 
 
 @screen.get("/<int:number>/notes")

@@ -84,7 +84,7 @@ def choose_page(
     kind: str, given: Typed, number: int = 1, said: str = "", status: int = 200,
 ) -> Answer:
     """The list of a day with its boxes."""
-    typed = given.get("day", today().isoformat())
+    typed = given.get("day", days.in_words(today()))
     day, found, marks = wording.day_of(typed), [], None
     wrong = "" if day else wording.NOT_A_DAY
     if day and day > today():

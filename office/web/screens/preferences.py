@@ -6,6 +6,7 @@ import datetime
 import flask
 from werkzeug.wrappers import Response
 
+from office import days
 from office.model import Register
 
 from .. import preferences, wording
@@ -45,7 +46,7 @@ def show(number: int) -> Answer:
         return stored_page(register, number)
     if typed is not None:
         return form_page(register, number, preferences.read(register, typed), typed)
-    text = today().isoformat()
+    text = days.in_words(today())
     empty = Typed(text, today(), [""] * len(preferences.fields_of(register)), {})
     return form_page(register, number, empty, said=TYPE_AGAIN if digest else "")
 

@@ -1,4 +1,5 @@
 """The first screen: what is to be done, by when, and how the season stands."""
+import dataclasses
 import datetime
 from collections.abc import Mapping, Sequence
 from typing import Any
@@ -6,12 +7,12 @@ from typing import Any
 import flask
 from register_files import Refused
 
-from office import texts
 from office.model import Register
 
-from .. import doubts, first_screens, flags, frame, guard, home, pictures, worklists
-from ..draws_page import who_may
-from ..draws_terms import CONFIRMED, Draw
+from .. import (
+    doubts, draws_page, draws_words, first_screens, flags, frame, guard, home, pictures, worklists,
+)
+from ..draws_terms import Draw
 from ..entry_words import Names
 from ..first_screens import First
 from ..guard import SIGNED_IN, needs, parts, person
@@ -48,16 +49,24 @@ def address_of(view: str, values: Mapping[str, str]) -> str:
 
 def known(register: Register, draw: Draw | None) -> Known:
     """What the application knows that this person may do something about."""
-    said = "A step of it runs now." if parts().following.under_way() else (
-        frame.turn(draw) if draw else "")
-    # (once it is confirmed, only a head has something to do with it)
-    waits = draw is not None and draw.state == CONFIRMED and not person().may(DRAW)
-    heads = (texts.one_of(who_may(DRAW)) or "a head of the office") if waits else ""
+    found = of_draw(register, draw) if draw else Known()
     if not person().may(RECORD):
-        return Known(draw, said, heads)
-    return Known(draw, said, heads, letters.lists().untold(register),
-                 answers.all_piles().left_of(person().name), tools().staging.count(OPEN),
-                 tools().staging.count(WITHDRAWN), of_head(register))
+        return found
+    return dataclasses.replace(
+        found, untold=letters.lists().untold(register),
+        answers=answers.all_piles().left_of(person().name), rows=tools().staging.count(OPEN),
+        withdrawn=tools().staging.count(WITHDRAWN), of_head=of_head(register))
+
+
+def of_draw(register: Register, draw: Draw) -> Known:
+    """The draw in progress, and whose turn it is."""
+    name = draws_words.title_of(draw, register)
+    if parts().following.under_way():
+        return Known(draw, "A step of it runs now.", name=name)
+    decision = draws_page.decision_of(draws_page.seen(draw, register, None))
+    button = decision.button if decision.action else ""
+    return Known(draw, frame.turn(draw), "" if button else draws_page.waits_for(draw), name,
+                 button)
 
 
 def of_head(register: Register) -> tuple[Task, ...]:
@@ -94,8 +103,8 @@ def bars(rows: Sequence[tuple[Any, int, str]]) -> list[tuple[Any, str, str, Any]
 
 def page(found: Register, draw: Draw | None) -> dict[str, Any]:
     """What the page shows of a register."""
-    day = today()
-    tasks = home.tasks(found, day, known(found, draw))
+    day, now = today(), known(found, draw)
+    tasks = home.tasks(found, day, now)
     met = home.preferences_met(found)
     return {
         "tasks": [(title, [linked(it) for it in rows]) for title, rows in tasks],
@@ -113,18 +122,22 @@ def page(found: Register, draw: Draw | None) -> dict[str, Any]:
             zip(home.RANKS, (*worklists.MET, NONE), met, home.RANK_KINDS)]) if found.draws else [],
         "work": home.work(
             parts().history.entries, Names(found, flags.present())) if person().may(NOTES) else [],
-        "form": form_of(found), "acts": acts(found),
+        "form": form_of(found), "acts": acts(found, now),
     }
 
 
-def acts(found: Register) -> list[tuple[str, str]]:
-    """What is done most at this time of the season, with its screen."""
+def acts(found: Register, now: Known) -> list[tuple[str, str]]:
+    """What is done most at this time of the season, with its screen; before it what the person has
+    to do of a draw in progress.
+    """
     views = [("Add an application", "applications_add.show")]
     if found.draws:
         views.insert(0, ("Record answers", "answers.show"))
     elif found.children:
         views.append(("Record EHC plans", "answers.show"))
     links = [(words, address_of(view, {})) for words, view in views]
+    if now.draw and now.button:
+        links.insert(0, (now.button, address_of("draws.one", {"number": str(now.draw.number)})))
     return [it for it in links if it[1]]
 
 
