@@ -56,6 +56,9 @@ VERBS = {
     "rehearse": Verb("rehearse a takeover on a machine for trials, and end that"),
     "move": Verb("move a register to a new machine, or to a disk and back"),
     "takeover": Verb("go on with a register of a machine that is lost"),
+    "evidence": Verb("after a break-in: keep what is there, and look what is true"),
+    "verify": Verb("verify the folder of a release, or what is installed", looks=True),
+    "uninstall": Verb("remove what is left of all registers, before the package goes"),
     "retire": Verb("delete a register for good, when its season is over"),
 }
 

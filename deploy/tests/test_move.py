@@ -162,7 +162,6 @@ def test_a_register_is_moved_away_and_brought_back(
             raise KeyboardInterrupt
         return programs.call(*words)
 
-
     with monkeypatch.context() as patch, pytest.raises(KeyboardInterrupt):
         patch.setattr(move, "call", call)
         typed("move", NAME, "--back", str(disk))

@@ -1,0 +1,217 @@
+"""admissions-admin evidence: how a site is taken down, what is kept, and what of it is true on
+another machine."""
+import pathlib
+import subprocess
+import sys
+
+import pytest
+from conftest import Systemd, Terminal, typed
+from machine import programs, registers, sealed, serving
+from machine.verbs import evidence
+from office.web.history import ANSWER, SENDS, History
+from register_files import Refused
+
+NAME = "secondary-2025"
+COPY, LATER = "nightly-000012-2025-03-03T023000.db", "nightly-000013-2025-03-04T023000.db"
+PROGRAM = "usr/share/admissions/office.py"
+# a register is a file of lines here, to which `do` adds, and which `show` prints as JSON
+ADMISSIONS = """#!/bin/bash
+case $1 in
+    do) while read -r it; do echo "$it" >> "$2"; echo '{"done":true}'; done ;;
+    import) cat "$3" >> "$2" ;;
+    show) sed '1s/^/[/; $!s/$/,/; $s/$/]/' "$2" ;;
+esac
+"""
+
+
+def add(path: pathlib.Path, text: str) -> pathlib.Path:
+    path.parent.mkdir(parents=True, exist_ok=True)
+    path.write_text(text, encoding="utf-8")
+    return path
+
+
+def sent(path: pathlib.Path, *about: dict[str, object]) -> None:
+    """A history of requests that were done."""
+    record = History(str(path), lambda: "2025-03-03T09:00:00.000+00:00")
+    for it in about:
+        of = record.add("jane", SENDS, it).number
+        record.add("jane", ANSWER, {"of": of, "answer": {"done": True}})
+    record.close()
+
+
+@pytest.fixture(name="old")
+def old_fixture(
+    tmp_path: pathlib.Path, monkeypatch: pytest.MonkeyPatch, systemd: Systemd
+) -> pathlib.Path:
+    """The root of a machine with two nights, a register with two commands and an import since, and
+    a program; and a disk that is mounted. The new machine is the same folder."""
+    root = tmp_path / "root-of-machine"
+    for name in (it.replace(".db", end) for it in (COPY, LATER) for end in (".db", ".tar")):
+        add(root / "var/backups/admissions" / NAME / name, '{"child":0}\n')
+        add(root / "mnt/copies" / NAME / name, '{"child":0}\n')
+    add(root / "var/backups/admissions" / NAME / LATER, "changed")
+    office = root / "var/lib/admissions-office" / NAME
+    office.mkdir(parents=True)
+    commands = [{"cmd": "accept", "child": it} for it in (1, 2)]
+    sent(office / "history.jsonl", {"command": commands[0]}, {"import": '{"child":9}\n'},
+         {"command": commands[1]})
+    add(root / "var/lib/admissions" / NAME / "reg.db", '{"child":0}\n{"child":1,"cmd":"accept"}\n'
+        '{"child":9}\n{"child":2,"cmd":"accept"}\n')
+    for name in ("usr/bin/admissions", "usr/sbin/admissions-admin", "usr/lib/admissions/drill"):
+        add(root / name, "of the release")
+    add(root / PROGRAM, "of another")
+    (root / "mnt/evidence").mkdir()
+    monkeypatch.setattr("os.path.ismount", lambda path: pathlib.Path(path).name == "evidence")
+    monkeypatch.setattr(evidence, "ROOT", root)
+    monkeypatch.setattr(evidence, "ROOM", root / "root")
+    (root / "root").mkdir()
+    for name in ("REGISTERS", "OFFICES", "COPIES"):
+        real = getattr(registers, name)
+        monkeypatch.setattr(evidence, name, root / real.relative_to("/"))
+    bin_ = tmp_path / "bin"
+    add(bin_ / "journalctl", '#!/bin/sh\necho "journal: $*"\n').chmod(0o755)
+    add(bin_ / "admissions", ADMISSIONS).chmod(0o755)
+    add(bin_ / "admissions-restore", '#!/bin/sh\ncp "$1" "$2"\n').chmod(0o755)
+    (bin_ / "admissions-sent").symlink_to(
+        pathlib.Path(__file__).resolve().parents[2] / "office/command")
+    monkeypatch.setattr(evidence, "program", lambda name: str(bin_ / name))
+    monkeypatch.setattr(evidence, "tool", lambda name, package: str(
+        bin_ / name) if name == "journalctl" else programs.tool(name, package))
+    monkeypatch.setattr(evidence, "call", programs.call)
+    return root
+
+
+@pytest.fixture(name="kept")
+def kept_fixture(old: pathlib.Path, capsys: pytest.CaptureFixture[str]) -> pathlib.Path:
+    """The same, of which the evidence was kept, and unpacked where the release is installed."""
+    assert typed("evidence", "--keep", str(old / "mnt/evidence")) == 0
+    add(old / PROGRAM, "of the release")
+    written = capsys.readouterr().out.split()[-1]
+    assert typed("evidence", "--open", str(old / "mnt/evidence")) == 0
+    assert capsys.readouterr().out.splitlines() == [
+        f"compare with what you wrote down: {written}", f"{PROGRAM} differs",
+        "1 programs are not those of this release, if both machines have the same"]
+    return old
+
+
+def test_a_site_is_taken_down_after_a_yes(
+    old: pathlib.Path, systemd: Systemd, monkeypatch: pytest.MonkeyPatch
+) -> None:
+    monkeypatch.setattr(sys, "stdin", Terminal("no\nyes\n"))
+    with pytest.raises(Refused, match="nothing was changed"):
+        typed("evidence", "--stop")
+    assert systemd.calls == []
+    assert typed("evidence", "--stop") == 0
+    assert systemd.calls == [
+        "mask --now nginx", "stop admissions-*@*.timer admissions-office*@*",
+        "stop admissions-backup@*", "stop admissions*@*", "list-units --plain --no-legend"
+        " --state=active,activating,deactivating admissions*@*"]
+
+
+def test_what_still_runs_is_named(
+    old: pathlib.Path, monkeypatch: pytest.MonkeyPatch
+) -> None:
+    monkeypatch.setattr(serving, "systemctl", lambda *words, **_: (
+        f"admissions@{NAME}.service loaded active\n" if words[0] == "list-units" else ""))
+    with pytest.raises(Refused, match=f"these still run: admissions@{NAME}.service"):
+        typed("evidence", "--stop", "--yes")
+
+
+def test_evidence_is_kept_once_and_is_not_read_by_others(
+    kept: pathlib.Path, monkeypatch: pytest.MonkeyPatch
+) -> None:
+    place = kept / "mnt/evidence"
+    assert sorted(it.name for it in place.iterdir()) == [
+        "SHA256SUMS", "journal.gz", "machine.tar.gz", "people.txt"]
+    people = (place / "people.txt").read_text(encoding="utf-8")
+    assert people.count("SYSLOG_IDENTIFIER=admissions-") == 3
+    sums = (place / "SHA256SUMS").read_bytes()
+    with pytest.raises(Refused, match="has evidence already, which stays as it is"):
+        typed("evidence", "--keep", str(place))
+    with pytest.raises(Refused, match="no disk is mounted at /mnt/gone"):
+        typed("evidence", "--keep", "/mnt/gone")
+    assert (place / "SHA256SUMS").read_bytes() == sums
+    with (place / "machine.tar.gz").open("ab") as file:
+        file.write(b"X")
+    with pytest.raises(Refused, match="machine.tar.gz is not what was kept"):
+        typed("evidence", "--open", str(place))
+
+
+def test_programs_that_one_machine_alone_has_are_named(
+    kept: pathlib.Path, capsys: pytest.CaptureFixture[str]
+) -> None:
+    """Also where it is typed again."""
+    (kept / "usr/sbin/admissions-admin").unlink()
+    assert typed("evidence", "--open", str(kept / "mnt/evidence")) == 0
+    assert "usr/sbin/admissions-admin is on the seized machine alone\n" in capsys.readouterr().out
+
+
+def test_copies_that_were_changed_are_named(
+    kept: pathlib.Path, capsys: pytest.CaptureFixture[str]
+) -> None:
+    there = kept / "mnt/copies"
+    assert typed("evidence", NAME, "--compare", str(there)) == 0
+    lines = capsys.readouterr().out.splitlines()
+    assert lines[0] == f"{LATER} differs from {there / NAME / LATER}"
+    assert lines[1].startswith("3 of 4 files of nights are equal")
+    (there / NAME / COPY).unlink()
+    assert typed("evidence", NAME, "--compare", str(there)) == 0
+    assert f"{COPY} is not in {there / NAME}\n" in capsys.readouterr().out
+    for words, said in (([NAME, "--compare", "/gone"], "is not there: is the disk mounted"),
+                        (["other", "--compare", str(there)], "first admissions-admin evidence"),
+                        (["--compare", str(there)], "NAME is missing")):
+        with pytest.raises(Refused, match=said):
+            typed("evidence", *words)
+
+
+def test_encrypted_copies_are_decrypted_aside(
+    kept: pathlib.Path, capsys: pytest.CaptureFixture[str]
+) -> None:
+    """All of them: also the history, and copies from before encryption. One of another key is
+    named."""
+    there, keys = kept / "mnt/copies" / NAME, [kept / "one.key", kept / "other.key"]
+    public = []
+    for it in keys:
+        subprocess.run(["age-keygen", "-o", it], check=True, capture_output=True)
+        done = subprocess.run(["age-keygen", "-y", it], check=True, capture_output=True, text=True)
+        public.append(done.stdout.strip())
+    add(there / "history/history-000001-0123456789abcdef.gz", "who did what")
+    for path in [it for it in there.rglob("*") if it.is_file() and it.suffix != ".tar"]:
+        key = public[path.name == LATER]
+        sealed.encrypt(path, path.with_name(f"{path.name}.age"), key)
+        path.unlink()
+    with pytest.raises(Refused, match="is encrypted: repeat the line with --identity FILE"):
+        typed("evidence", NAME, "--compare", str(there.parent))
+    for _ in range(2):
+        words = ["evidence", NAME, "--compare", str(there.parent), "--identity", str(keys[0])]
+        assert typed(*words) == 0
+        said = capsys.readouterr().out
+        assert f"{LATER}.age does not open" in said and f"{LATER} is not in " in said
+        assert "3 of 4 files of nights are equal" in said
+    room = kept / "root/copies" / NAME
+    assert (room / "history/history-000001-0123456789abcdef.gz").read_text() == "who did what"
+    assert not list(room.rglob("*.age"))
+
+
+def test_a_register_is_its_copy_with_the_commands_of_the_history(
+    kept: pathlib.Path, capsys: pytest.CaptureFixture[str]
+) -> None:
+    """And with the rows of an import between them; or what was changed past the history is
+    printed."""
+    copy = kept / "mnt/copies" / NAME / COPY
+    words = ["evidence", NAME, "--check", str(copy), "--since", "2025-03-03T02:30:00"]
+    for _ in range(2):
+        assert typed(*words) == 0
+        assert "the register is that copy with the commands of the history\n" in (
+            capsys.readouterr().out)
+    room = kept / "root/check" / NAME
+    assert len((room / "commands").read_text(encoding="utf-8").splitlines()) == 2
+    assert [it.name for it in (room / "rows").iterdir()] == ["1.csv"]
+    seized = kept / "root/seized/var/lib/admissions" / NAME / "reg.db"
+    with seized.open("a", encoding="utf-8") as file:
+        file.write('{"child":7}\n')
+    with pytest.raises(Refused, match="was changed past the history"):
+        typed(*words)
+    assert '+  "child": 7' in capsys.readouterr().out
+    with pytest.raises(Refused, match="--check needs --since TIME"):
+        typed(*words[:4])
