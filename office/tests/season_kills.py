@@ -110,6 +110,11 @@ def to_schools(lived: Room) -> None:
     jane.press("Store 2 schools")
 
 
+def store_schools(lived: Room) -> None:
+    """Jane stores what is shown."""
+    lived.person("jane").press("Store ")
+
+
 def schools_go_on(lived: Room) -> None:
     """The others are stored."""
     jane = lived.person("jane").get("/schools/new/")
@@ -146,6 +151,7 @@ SENDERS = {
         "a round on a wrong day", "2025-04-28", to_restore, restore, restore_goes_on, 3),
     "applications": Sender(
         "they are corrected", "2024-11-07", to_commit, store, commit_goes_on, 1),
-    "schools": Sender("they are corrected", "2024-11-07", to_schools, store, schools_go_on, 2),
+    "schools": Sender(
+        "they are corrected", "2024-11-07", to_schools, store_schools, schools_go_on, 2),
     "draws": Sender("answers", "2025-03-18", to_fills, hold, fills_go_on, 2),
 }
