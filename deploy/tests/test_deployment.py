@@ -18,7 +18,6 @@ COMMAND = ROOT / "office/command"
 # what the lines name of a machine
 FOLDERS = ("etc", "home", "media", "mnt", "root", "run", "usr", "var")
 BACKUPS = f"var/backups/admissions/{NAME}"
-COPY = "nightly-000012-2025-03-03T023000.db"
 # in place of commands that need root, systemd or the program: a register is a file of lines here,
 # to which `do` adds, and which `show` prints as JSON
 STANDS_IN = {
@@ -370,22 +369,3 @@ def test_a_machine_that_is_opened_by_nothing_says_that_all_is_sent(at: Machine) 
     assert at.run(printed)[0] == 0
     at.write("bin/systemctl", "#!/bin/bash\n[ $1 != start ]\n")
     assert at.run(send) == (1, "all is sent, and the office is closed\n")
-
-
-def test_an_earlier_release_opens_its_office_after_all_is_sent(at: Machine) -> None:
-    """Set-up opens it, also one that fails; and it is closed at once."""
-    [lines] = blocks_of("Go back to an earlier release")
-    for end in ("db", "tar"):
-        at.write(f"mnt/kept/{NAME}/{BACKUPS}/before-0.3.0.{end}", "a copy")
-    # (none is taken that was not named)
-    assert at.run(lines) == (1, "COPY is no name of a copy: nothing was made\n")
-    assert at.run(lines, COPY="before-0.2.0.db")[0] != 0 and at.called() == []
-    named = {"COPY": "before-0.3.0.db"}
-    assert at.run(lines, **named)[0] == 0
-    setup, certificate, *closes = at.called()
-    copy = f"/mnt/kept/{NAME}/{BACKUPS}/before-0.3.0.db"
-    assert setup == f"admissions-admin setup {NAME} --copy {copy}"
-    assert certificate.startswith(f"admissions-admin certificate {NAME} /mnt/kept/{NAME}/etc/")
-    assert closes == [OFFICE_ENDS]
-    at.write("bin/admissions-admin", "#!/bin/bash\nexit 1\n")
-    assert (at.run(lines, **named)[0], at.called()) == (1, [OFFICE_ENDS])

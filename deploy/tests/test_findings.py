@@ -9,7 +9,7 @@ import socket
 import threading
 
 import pytest
-from machine import deletion, desk, findings, metrics, registers
+from machine import deletion, desk, findings, metrics, parts, registers
 from machine.findings import Finding, Level
 from machine.verbs import status
 from office_files import add_people, record
@@ -96,6 +96,23 @@ def test_what_keeps_an_office_from_working_has_failed(register: registers.Regist
     assert status.report(register)["register"].level is Level.OK
     register.file.write_text("no register", encoding="ascii")
     assert status.report(register)["register"].level is Level.FAILED
+
+
+def test_each_part_is_explained_with_how_it_is_now(
+    register: registers.Register, monkeypatch: pytest.MonkeyPatch,
+    capsys: pytest.CaptureFixture[str],
+) -> None:
+    """Each that is reported, and no other."""
+    assert [*status.report(register), "deleted"] == list(parts.PARTS)
+    monkeypatch.setattr(os, "geteuid", lambda: 0)
+    run("--explain", "second-copy")
+    first, second, now = capsys.readouterr().out.splitlines()
+    assert first.startswith("second copy: well where no other machine has taken the register over")
+    assert second.startswith("otherwise: ATTENTION; FAILED, with desk and site, if another")
+    assert now.startswith(f"{register.name}: ATTENTION: no second place is named")
+    with pytest.raises(SystemExit) as error:
+        run("--explain", "nothing")
+    assert (error.value.code, "'nothing' is no part" in capsys.readouterr().err) == (2, True)
 
 
 @pytest.mark.parametrize("place", ["", "vault:/copies/secondary-2025"])

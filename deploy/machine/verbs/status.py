@@ -2,11 +2,14 @@
 people, history, copies, disks, certificates; and which were deleted.
 
   admissions-admin status [NAME ..] [--line | --json | --metrics [--to FILE]]
+  admissions-admin status [NAME ..] --explain PART
 
 Without a NAME it reports all registers. With --line it prints one line, for a
 monitoring system that runs plugins as Nagios and Icinga do; with --json one
 object; with --metrics numbers in the text format of Prometheus, without
-personal data, which --to writes into FILE in one step. No register is opened.
+personal data, which --to writes into FILE in one step. --explain says where a
+part is well, and how it is now; a part that has failed ends with the line to
+type. No register is opened.
 The site is sent a request of nobody, which it must refuse. The people and the
 history are those of the office's application, whose files are only read.
 
@@ -46,6 +49,7 @@ from .. import (
 from ..desk import site_status_of, status_of
 from ..drill import NOT_TRIED, OPENED, REPORT as DRILL
 from ..findings import Finding, Level, Report
+from ..parts import PARTS
 from ..registers import REGISTERS, SETTINGS, Register, known, stored
 from ..programs import OFFICE, call, is_booted, tool
 from ..second_copy import NONE, REPORT as SECOND, line_of, place_of
@@ -78,6 +82,8 @@ def arguments(reader: argparse.ArgumentParser) -> None:
     form.add_argument("--line", action="store_true", help="one line for a monitoring system")
     form.add_argument("--json", action="store_true", help="one object of JSON")
     form.add_argument("--metrics", action="store_true", help="numbers, as Prometheus reads them")
+    form.add_argument("--explain", metavar="PART", type=part_named,
+                      help=f"what a part means: {', '.join(it.replace(' ', '-') for it in PARTS)}")
     reader.add_argument("--to", metavar="FILE", help="the file for the numbers")
 
 
@@ -105,6 +111,8 @@ def reported(given: argparse.Namespace) -> int:
         return 0
     if given.json:
         print(findings.as_json(reports))
+    elif given.explain:
+        explain(given.explain, reports)
     elif not registers:
         print(f"no register is set up in {REGISTERS}: type admissions-admin setup")
     elif given.line:
@@ -113,6 +121,22 @@ def reported(given: argparse.Namespace) -> int:
         print("\n".join(findings.as_text(reports)))
     level = findings.worst_of(reports)
     return level.plugin_status if given.line else level.status
+
+
+def part_named(text: str) -> str:
+    """A part, as it is typed."""
+    part = text.replace("-", " ")
+    if part not in PARTS:
+        raise argparse.ArgumentTypeError(f"{text!r} is no part")
+    return part
+
+
+def explain(part: str, reports: findings.Reports) -> None:
+    """Prints what a part means, and how it is of each register."""
+    print(f"{part}: well where {PARTS[part].well}\notherwise: {PARTS[part].otherwise}")
+    for name, found in reports.items():
+        if part in found:
+            print(f"{name}: {found[part].level.label}: {found[part].text}")
 
 
 def report(register: Register) -> Report:
