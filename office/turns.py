@@ -14,8 +14,10 @@ from register_files import Refused
 
 # so long a thread that serves a screen waits, and so many at once: of all, and of one person
 SECONDS, MOST_WAITING, MOST_OF_ONE = 10.0, 16, 6
-# whom this thread serves a screen, or "" while nobody is known; another thread, as that of a draw,
-# serves None and waits until its turn comes
+# and so many requests of one person are served at once
+MOST_SERVED = 8
+# the person whom this thread serves a screen, or "" of a program, which asks for much, and while
+# nobody is known; another thread, as that of a draw, serves None and waits until its turn comes
 SERVES: contextvars.ContextVar[str | None] = contextvars.ContextVar("SERVES", default=None)
 
 
@@ -42,7 +44,8 @@ class Waiting:
     def one_more(self, who: str, said: str) -> Iterator[None]:
         """A place among those that wait, or a refusal where there is none."""
         with self.lock:
-            if self.counts.total() >= MOST_WAITING or self.counts[who] >= MOST_OF_ONE:
+            is_full = bool(who) and self.counts[who] >= MOST_OF_ONE
+            if is_full or self.counts.total() >= MOST_WAITING:
                 raise Busy(said)
             self.counts[who] += 1
         try:
@@ -92,3 +95,20 @@ class Turn:
         with WAITING.one_more(who, self.said):
             if not self.lock.acquire(timeout=SECONDS):
                 raise Busy(self.said)
+
+
+class Served:
+    """The turns of each person at being served."""
+
+    def __init__(self) -> None:
+        self.lock = threading.Lock()
+        self.turns: dict[str, Turn] = {}
+
+    def of(self, who: str) -> Turn:
+        """That of a person."""
+        with self.lock:
+            return self.turns.setdefault(who, Turn(
+                threading.BoundedSemaphore(MOST_SERVED), "you have asked for very much at once"))
+
+
+SERVED = Served()

@@ -115,7 +115,7 @@ def test_each_view_says_which_right_it_needs(office: Site) -> None:
         guard.guarded(office.app)
 
 
-def test_what_needs_no_right_is_on_record_a_hundred_times_an_hour(office: Site) -> None:
+def test_what_needs_no_right_is_on_record_so_often_in_an_hour(office: Site) -> None:
     """Of a person, whatever is asked for: a loop over all addresses would fill the disk, and the
     memory of the application with it.
     """
@@ -126,17 +126,17 @@ def test_what_needs_no_right_is_on_record_a_hundred_times_an_hour(office: Site) 
     def recorded(*kinds: str) -> int:
         return sum(it.what in kinds for it in office.parts.history.entries)
 
-    for number in range(1, 130):
+    for number in range(1, 530):
         assert sup.get(f"/children/{number}").status_code == 403
-    assert recorded("refused") == 100
-    for at in range(80):
+    assert recorded("refused") == 500
+    for at in range(260):
         found = rita.post("/lists/children/save", {"title": "mine", "query": f"find={at}"})
         assert found.status_code == 303
         [view] = list_views.Views(office.parts.store).of("rita")
         assert rita.post(f"/lists/views/{view.number}/remove").status_code == 303
-    assert recorded("saved a view", "removed a view") == 100
+    assert recorded("saved a view", "removed a view") == 500
     moment[0] += 3601
-    assert sup.get("/children/200").status_code == 403 and recorded("refused") == 101
+    assert sup.get("/children/600").status_code == 403 and recorded("refused") == 501
 
 
 def test_a_refusal_is_on_record_once_in_a_while(office: Site) -> None:

@@ -3,6 +3,7 @@ a sign-in keeps its threads.
 """
 import contextlib
 import http.client
+import json
 import os
 import pathlib
 import signal
@@ -14,6 +15,7 @@ import time
 import urllib.parse
 from collections.abc import Callable, Iterator
 from concurrent.futures import ThreadPoolExecutor
+from typing import Any
 
 import pytest
 from applications import ORIGIN, Form, office_over, town
@@ -22,11 +24,12 @@ from served import served
 from werkzeug.wrappers import Response
 
 from office import book, turns
-from office.web import authority, guard, people, uploads
+from office.web import authority, guard, people, serve, uploads
 from office.web.store import Store
 
-# more than the application has threads
-MANY = 40
+# more than the application has threads, and people each of whom asks for so many of these as one
+# person may at once
+MANY, READERS = 40, ("rita", "ruth", "rosa", "rex", "ron")
 # what is answered while something hangs is answered within so many seconds, on a busy machine too
 SOON = 30.0
 BEGIN = """
@@ -103,7 +106,7 @@ def serving(
     (folder / "office").mkdir()
     store = Store(str(folder / "office" / "office.db"))
     found = people.People(store)
-    for name, role in (("hal", people.HEAD), ("rita", people.READER)):
+    for name, role in (("hal", people.HEAD), *((it, people.READER) for it in READERS)):
         found.set_password(
             people.Person(name, role), found.add(name, role), f"{name} of the office")
     setting(store)
@@ -154,7 +157,7 @@ def test_a_provider_that_is_silent_holds_few_threads(tmp_path: pathlib.Path) -> 
 def test_a_copy_that_hangs_holds_few_threads(tmp_path: pathlib.Path) -> None:
     """Pages of the register say that it is being copied; the sign-in needs no register."""
     with serving(tmp_path) as office:
-        hal, rita = office.sign_in("hal"), office.sign_in("rita")
+        hal, *readers = (office.sign_in(it) for it in ("hal", *READERS))
         secret = Form(office.ask("/copies/", hal)[1]).secret
         requests = tmp_path / "office" / "requests"
 
@@ -170,8 +173,8 @@ def test_a_copy_that_hangs_holds_few_threads(tmp_path: pathlib.Path) -> None:
         (requests / "copy").rename(requests / "copy.begun")
         pages: list[tuple[int, str, str]] = []
         with ThreadPoolExecutor(MANY) as threads:
-            asked = [threads.submit(office.ask, "/schools/", rita, seconds=120)
-                     for _ in range(MANY)]
+            asked = [threads.submit(office.ask, "/schools/", readers[it % 5], seconds=120)
+                     for it in range(MANY)]
             time.sleep(1)
             assert office.ask("/healthz")[0] in (200, 503)
             for path in ("/ui.css", "/sign-in"):
@@ -181,6 +184,35 @@ def test_a_copy_that_hangs_holds_few_threads(tmp_path: pathlib.Path) -> None:
         assert {status for status, _, _ in pages} == {503}
         assert all("being copied" in text and "try again in a minute" in text
                    for _, text, _ in pages)
+
+
+def test_one_person_has_few_of_the_threads(
+    tmp_path: pathlib.Path, monkeypatch: pytest.MonkeyPatch
+) -> None:
+    """A reader asks for long pages over many connections: others are served beside them."""
+    with office_over(tmp_path, town()) as office:
+        rita, hal = office.browser("rita", "reader"), office.browser("hal", "head")
+        go_on = threading.Event()
+
+        def slow() -> str:
+            assert go_on.wait(60)
+            return "a long page"
+
+        views: dict[str, Any] = office.app.view_functions
+        monkeypatch.setitem(views, "schools.show", guard.needs("read")(slow))
+        with ThreadPoolExecutor(MANY) as threads:
+            asked = [threads.submit(rita.get, "/schools/") for _ in range(MANY)]
+            # (some more wait for their turn)
+            while sum(it.done() for it in asked) < MANY - turns.MOST_SERVED - turns.MOST_OF_ONE:
+                time.sleep(0.01)
+            assert hal.get("/flags/").status_code == 200
+            go_on.set()
+            pages = [it.result() for it in asked]
+        refused = [it.text for it in pages if it.status_code == 503]
+        assert len(refused) == MANY - turns.MOST_SERVED - turns.MOST_OF_ONE
+        assert all("You have asked for very much at once" in it for it in refused)
+        assert turns.MOST_SERVED + turns.MOST_OF_ONE < serve.THREADS // 2
+        assert all(rita.get("/flags/").status_code == 200 for _ in range(MANY))
 
 
 def test_one_person_takes_not_all_places_of_those_who_wait(tmp_path: pathlib.Path) -> None:
@@ -202,12 +234,26 @@ def test_one_person_takes_not_all_places_of_those_who_wait(tmp_path: pathlib.Pat
         assert turns.WAITING.counts.total() == 0
 
 
+def test_a_program_waits_with_all_its_requests(tmp_path: pathlib.Path) -> None:
+    """It asks for more at once than a person does."""
+    with office_over(tmp_path, town()) as office:
+        portal, many = office.program("portal"), turns.MOST_WAITING
+        with ThreadPoolExecutor(many) as threads:
+            with office.parts.desk.lock:
+                asked = [threads.submit(portal.post, "/command", json.dumps(
+                    {"cmd": "accept", "child": 1, "school": "A"})) for _ in range(many)]
+                time.sleep(0.5)
+                assert not any(it.done() for it in asked)
+            # (the register has no offer to accept, and says so to each)
+            assert {it.result().status_code for it in asked} == {409}
+
+
 def test_what_many_have_typed_is_kept_for_few_at_once(
     tmp_path: pathlib.Path, monkeypatch: pytest.MonkeyPatch
 ) -> None:
     """Each may be a long page. Who is beyond them is refused without what they typed."""
     with office_over(tmp_path, town()) as office:
-        jane = office.browser("jane", "officer")
+        officers = [office.browser(it, "officer") for it in READERS]
         monkeypatch.setattr(turns, "SECONDS", 0.5)
         lock, present, most, go_on = threading.Lock(), 0, 0, threading.Event()
         typed_again = guard.typed_again
@@ -222,8 +268,8 @@ def test_what_many_have_typed_is_kept_for_few_at_once(
                 present -= 1
             return typed_again(status, reason)
 
-        def send() -> str:
-            found = jane.client.post("/children/1/notes", base_url=ORIGIN, data={
+        def send(at: int) -> str:
+            found = officers[at % 5].client.post("/children/1/notes", base_url=ORIGIN, data={
                 "form": "another", "text": "what was typed"}, headers={
                     "Origin": ORIGIN, "Accept": "text/html"})
             assert found.status_code == 403
@@ -231,7 +277,7 @@ def test_what_many_have_typed_is_kept_for_few_at_once(
 
         monkeypatch.setattr(guard, "typed_again", slow)
         with ThreadPoolExecutor(MANY) as threads:
-            asked = [threads.submit(send) for _ in range(MANY)]
+            asked = [threads.submit(send, it) for it in range(MANY)]
             while sum(it.done() for it in asked) < MANY - 2:
                 time.sleep(0.01)
             go_on.set()
@@ -244,7 +290,7 @@ def test_many_excel_files_at_once_hold_few_threads(
 ) -> None:
     """Each takes much time of the processor, and any reader asks for as many as they like."""
     with office_over(tmp_path, town()) as office:
-        rita = office.browser("rita", "reader")
+        readers = [office.browser(it, "reader") for it in READERS]
         monkeypatch.setattr(turns, "SECONDS", 0.5)
         lock, present, most, go_on = threading.Lock(), 0, 0, threading.Event()
         written = book.written
@@ -261,7 +307,8 @@ def test_many_excel_files_at_once_hold_few_threads(
 
         monkeypatch.setattr(book, "written", slow)
         with ThreadPoolExecutor(MANY) as threads:
-            asked = [threads.submit(rita.get, "/lists/children/workbook") for _ in range(MANY)]
+            asked = [threads.submit(readers[it % 5].get, "/lists/children/workbook")
+                     for it in range(MANY)]
             while sum(it.done() for it in asked) < MANY - 2:
                 time.sleep(0.01)
             go_on.set()

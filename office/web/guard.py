@@ -46,7 +46,7 @@ HEADERS = {
 # a person who tries what is not theirs is on record once in so many seconds for each address
 REFUSED_SECONDS = 60
 # and what anybody may do who is signed in so often within so many seconds
-MOST_FEW, FEW_SECONDS = 100, 3600
+MOST_FEW, FEW_SECONDS = 500, 3600
 # what is for programs with a token, and for nobody else: the register's own answers
 OF_PROGRAMS = {f"register.{it}" for it in (
     "register", "draw", "read", "pairs", "waiting", "command", "rows", "question")}
@@ -260,9 +260,13 @@ def see() -> AnyResponse | None:
         return None
     right: str = getattr(view, "right")
     flask.g.person = found = who_asks()
-    turns.SERVES.set(found.name if found else "")
+    turns.SERVES.set(found.name if found and not found.is_program else "")
     if right == PUBLIC and request.method in ("GET", "HEAD"):
         return None
+    if found is not None and not found.is_program:
+        served = turns.SERVED.of(found.name)
+        served.acquire()
+        flask.g.served = served
     if right != PUBLIC and found is None:
         if request.method == "GET" and "text/html" in request.headers.get("Accept", ""):
             return flask.redirect(flask.url_for("signing.sign_in", to=target()))
@@ -287,6 +291,8 @@ def see() -> AnyResponse | None:
 def leave(_: BaseException | None) -> None:
     """The thread serves no screen any more."""
     turns.SERVES.set(None)
+    if served := flask.g.pop("served", None):
+        served.release()
 
 
 def target() -> str:
