@@ -17,6 +17,11 @@ from checks.commands import named
 from checks.expected import headers_differ
 from checks.world import FORM, NAME, Answer, World, until
 
+# a wait of so many seconds does not end while others are asked
+LONG = 8
+DONE = 200, '{"done":true}'
+UNSENT = 503, ('{"outcome": "unsent", "reason": "Nothing was recorded: the register is being'
+               ' copied, or others send: try again in a minute."}')
 ROUTES = ("/child/1", "/child/2/letter", "/school/A/waiting", "/round/1")
 
 
@@ -94,8 +99,8 @@ def test_who_has_no_place_in_the_queue_is_asked_to_retry(crowd: list[Answer]) ->
 
 
 def test_of_300_commands_at_once_each_is_done_or_was_not_passed_on(world: World) -> None:
-    """All but those that the application works on wait, even to be known; and who is not known
-    because there is no place is not passed on."""
+    """Few of one person wait for the one that the application works on: what is beyond them, or has
+    no place in the queue, is not passed on."""
     world.stop_desk()
     try:
         with concurrent.futures.ThreadPoolExecutor(300) as pool:
@@ -107,13 +112,12 @@ def test_of_300_commands_at_once_each_is_done_or_was_not_passed_on(world: World)
             answers = [it.result() for it in asked]
     finally:
         world.continue_desk()
-    assert {(it.status, it.body) for it in answers} == {
-        (200, '{"done":true}'), (503, '{"busy":true}')}
+    came = {(it.status, it.body) for it in answers}
+    assert {DONE, UNSENT} <= came <= {DONE, UNSENT, (503, '{"busy":true}')}
     names = [it for it in done(world) if "crowd" in it]
     answered = [f"Fay Ford crowd {number}" for number, it in enumerate(answers)
                 if it.status == 200]
     assert sorted(names) == sorted(answered)
-    assert len(names) >= 200
     assert f"{names[-1]}\n" in world.letter(6)
 
 
@@ -176,6 +180,14 @@ class Tries(NamedTuple):
         return [it for it in self.wrong if it.status == 429]
 
 
+def waited(world: World, *here: str) -> int:
+    """For how many seconds nothing more may be tried there, at whose end another try makes them
+    more: who asks before that begins them anew."""
+    found = world.sign_in("rita", "wrong", *here).wait
+    time.sleep(found if found < LONG else 0)
+    return found
+
+
 @pytest.fixture(scope="module", name="tries")
 def tries_fixture(world: World) -> Tries:
     """Sends them."""
@@ -185,7 +197,7 @@ def tries_fixture(world: World) -> Tries:
     with concurrent.futures.ThreadPoolExecutor(40) as pool:
         wrong = list(pool.map(lambda _: world.sign_in("rita", "wrong", *here), range(200)))
     seconds, lines = time.monotonic() - began, len(world.entries()) - before
-    until(lambda: world.sign_in("rita", "wrong", *here).wait >= 8, "a wait of some seconds")
+    until(lambda: waited(world, *here) >= LONG, "a wait of some seconds")
     # (the site may let one pass again only after a second)
     answers = (world.sign_in("rita", world.passwords["rita"], *here) for _ in range(100))
     right = next(it for it in answers if it.status != 429)
