@@ -149,6 +149,11 @@ def findings(point: Point, cells: Mapping[str, str]) -> Iterator[str]:
         yield said
 
 
+def needs_look(point: Point, cells: Mapping[str, str]) -> bool:
+    """Whether a person is to see to the point of a row."""
+    return not metres_of(cells) or any(findings(point, cells))
+
+
 def degrees_in(cells: Mapping[str, str]) -> str:
     """What is said where latitude and longitude are in the place of metres, or ""."""
     one, other = decimal(cells["east"]), decimal(cells["north"])

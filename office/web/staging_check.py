@@ -2,6 +2,7 @@
 once in each of its versions; which rows may be of one child; and which the register has.
 """
 import dataclasses
+import functools
 import re
 import threading
 from collections.abc import Callable, Iterable, Iterator, Mapping, Sequence
@@ -36,6 +37,11 @@ class Checked:
     findings: tuple[Finding, ...]
     is_read: bool
 
+    @functools.cached_property
+    def needs_look(self) -> bool:
+        """Whether a person is to see to the point of the home."""
+        return points.needs_look(self.staged.point, self.staged.cells)
+
 
 @dataclasses.dataclass(frozen=True)
 class Pair:
@@ -56,22 +62,32 @@ class Checker:
         self.lock, self.words = threading.Lock(), words
         self.beside: tuple[dict[str, School] | None, object, Words] | None = None
         self.known: dict[int, Checked] = {}
+        # the last table, of which children of a register and which versions of rows
+        self.last: tuple[object, list[tuple[int, int]], Table] | None = None
 
     def table(self, rows: Sequence[Staged], register: Register | None,
               typed: Staged | None = None) -> "Table":
         """The table of these rows, and of one that is typed and not in it yet. Only rows that are
-        new or were changed are read.
+        new or were changed are read, and a table that is as it was is not made again.
         """
-        words = self.words()
+        words, members = self.words(), register.children if register else None
+        versions = [(it.id, it.version) for it in rows]
         beside = (register.schools if register else None, register.days if register else None,
                   words)
         with self.lock:
+            last = self.last if beside == self.beside and typed is None else None
+            if last and last[0] is members and last[1] == versions:
+                return last[2]
             old = self.known if beside == self.beside else {}
             found = [known if (known := old.get(it.id)) and known.staged.version == it.version
                      else checked(it, register, words) for it in rows]
             self.beside, self.known = beside, {it.staged.id: it for it in found}
         more = [checked(typed, register, words)] if typed else []
-        return Table([*found, *more], register, words)
+        made = Table([*found, *more], register, words)
+        if typed is None:
+            with self.lock:
+                self.last = (members, versions, made) if beside == self.beside else None
+        return made
 
 
 def checked(it: Staged, register: Register | None, words: Words) -> Checked:

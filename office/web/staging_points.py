@@ -93,7 +93,7 @@ def typed_point(cells: Mapping[str, str], keys: Keys, lookup: Lookup) -> tuple[C
 
 def needs_look(row: Staged) -> bool:
     """Whether a person is to see to the point of a row."""
-    return not points.metres_of(row.cells) or any(points.findings(row.point, row.cells))
+    return points.needs_look(row.point, row.cells)
 
 
 class Points:

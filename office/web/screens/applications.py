@@ -12,7 +12,7 @@ from office import persons, texts
 from office.check import ERROR
 
 from .. import (
-    staging_kinds, staging_mends, staging_page, staging_pictures, staging_points, staging_replace,
+    staging_kinds, staging_mends, staging_page, staging_pictures, staging_replace,
     staging_sent, staging_tools, tables,
 )
 from ..guard import needs, person
@@ -69,7 +69,7 @@ def page(text: str = "", is_bad: bool = False, saved: Sequence[int] = (),
         more_changes=more, address=tables.pages("applications.show", **here),
         files=list(sources(table)), waiting=staging_replace.waiting(staging),
         pairs=len(table.pairs), lost=lost_of(table, refused), groups=staging_page.groups(),
-        to_see=sum(staging_points.needs_look(it.staged) for it in table.rows.values()),
+        to_see=sum(it.needs_look for it in table.rows.values()),
         undo=undo_of(numbers_in("did")), focus=staging_page.focus_of(shown, first),
         may_add="add" in args or not counts[ALL], days=staging_pictures.by_day(table),
         wanted=staging_pictures.wanted(table), seen=digest_of(away))

@@ -86,9 +86,11 @@ def shown(register: Register, number: int) -> dict[str, Any]:
     }
 
 
-def child_in(number: int) -> Register:
-    """The register as it is now, which has the child."""
-    register = parts().desk.now()
+def child_in(number: int, is_read: bool = False) -> Register:
+    """The register as it is now, which has the child; or as it was some seconds ago, if the child
+    is only read.
+    """
+    register = parts().desk.register() if is_read else parts().desk.now()
     if number not in register.children:
         flask.abort(404)
     return register
@@ -107,7 +109,7 @@ HISTORY, LETTERS, POSITIONS, KEPT = "history", "letters", "positions", "notes"
 
 def child_page(number: int, said: str = "", status: int = 200) -> Answer:
     """The page of a child."""
-    register, history = child_in(number), parts().history
+    register, history = child_in(number, status == 200), parts().history
     names = Names(register, flags.present())
     if "recorded" in flask.request.args and not said:
         said = records.last_of(history, person().name, number, names)
