@@ -20,7 +20,7 @@ from .draws_lots import sheet_of, ties_in
 from .draws_second import Case
 from .draws_store import DrawStore
 from .draws_terms import (
-    AUDITED, BEGUN, CLOSED, CONFIRMED, COPIED, GIVEN_UP, IN_ORDER, LOTS, MOST_FILLS, OPENED,
+    AUDITED, BEGUN, CLOSED, CONFIRMED, COPIED, GIVEN_UP, LOTS, MOST_FILLS, OPENED, STATES,
     REHEARSED, RESTORED, SEALED, SENDING, SENT, UNSEALED, UNSENT, UNSENT_SEALED, Draw, Terms,
 )
 from .history import History
@@ -394,7 +394,8 @@ def next_state(draw: Draw) -> str:
     """The state to which the next step leads, or "" where there is none."""
     if draw.is_ended or draw.state == SEALED and draw.wrong:
         return ""
-    return IN_ORDER[IN_ORDER.index(draw.state) + 1]
+    found = STATES.next(draw.state)
+    return found.name if found else ""
 
 
 def see_terms(register: Register, terms: Terms) -> None:

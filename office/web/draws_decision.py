@@ -5,7 +5,7 @@ from office import texts
 
 from .draws_second import Second
 from .draws_terms import (
-    CLOSED, CONFIRMED, GIVEN_UP, LOTS, OPENED, REHEARSED, RESTORED, SEALED, SENDING, STEPS, Draw,
+    CLOSED, CONFIRMED, GIVEN_UP, LOTS, OPENED, REHEARSED, RESTORED, SEALED, SENDING, STATES, Draw,
 )
 from .draws_words import parties
 
@@ -60,7 +60,7 @@ def decision(draw: Draw, known: Known) -> Decision:
             f"You are the second person: {parties(draw)} cannot confirm it.",
             f"After you confirm, {texts.one_of(known.heads) or 'a head of the office'} holds"
             f" {known.name}. Until then nothing is recorded."), known.action, known.button)
-    step = next((it for it in STEPS if it.state == known.state), None)
+    step = STATES[known.state] if known.state else None
     button = known.button or (step.title if step else "")
     said = [step.does] if step and draw.state != REHEARSED else []
     if draw.state == LOTS:

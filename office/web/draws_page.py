@@ -21,8 +21,8 @@ from .draws_outcome import Whole, whole
 from .draws_second import Case, Second
 from .draws_shown import Grouped
 from .draws_terms import (
-    AUDITED, BEGUN, CLOSED, CONFIRMED, COPIED, FOLLOWED, IN_ORDER, IN_WORDS, OPENED, REHEARSED,
-    SEALED, SENDING, SENT, STEPS, TAGS, UNSENT_SEALED, Draw,
+    AUDITED, BEGUN, CLOSED, CONFIRMED, COPIED, FOLLOWED, IN_ORDER, OPENED, REHEARSED,
+    SEALED, SENDING, SENT, STATES, UNSENT_SEALED, Draw,
 )
 from .draws_terms import LOTS as LOTS_DRAWN
 from .guard import parts, person
@@ -31,9 +31,8 @@ from .jobs import Job
 from .people import CONFIRM, DRAW, LOTS, NOTES, PERSON, Person
 from .wording import moment, sentence
 
-# the request by which a draw comes to a state, where that does not follow by itself; and the one by
-# which what follows is tried again
-ACTIONS, AGAIN = {CLOSED: "close", CONFIRMED: "confirm", SENDING: "send"}, "go-on"
+# the request by which what follows by itself is tried again
+AGAIN = "go-on"
 # those of who may confirm draws; the others are of who may hold them
 OF_SECOND = ("confirm", AGAIN)
 # what a button says of the draws that it concerns
@@ -42,9 +41,6 @@ NAMING = (CONFIRMED, SENDING, AUDITED)
 TO_CONFIRM = IN_ORDER[:IN_ORDER.index(CONFIRMED)]
 # from the rehearsal on the checks of a draw are shown; the register is compared until it is held
 CHECKED, COMPARED = (REHEARSED, CONFIRMED, SENDING, AUDITED, OPENED), (REHEARSED, CONFIRMED)
-# who does a step that does not follow by itself
-DOES = {CLOSED: "by a head of the office", SEALED: "by the supervisor",
-        CONFIRMED: "by a second person", SENDING: "by a head of the office"}
 
 
 @dataclasses.dataclass(frozen=True)
@@ -76,7 +72,7 @@ def seen(draw: Draw, register: Register | None, work: Job | None) -> Seen:
 
 def button_of(found: Seen) -> str:
     """The text of the next button."""
-    text = next((it.button for it in STEPS if it.state == found.state), "")
+    text = STATES[found.state].button if found.state else ""
     if found.state == SENDING and found.standing:
         return f"Go on, and hold the last {found.draw.terms.fills - found.standing}"
     return f"{text} {found.name}" if text and found.state in NAMING else text
@@ -84,7 +80,7 @@ def button_of(found: Seen) -> str:
 
 def action_of(draw: Draw, state: str) -> str:
     """The request of the next button, or ""."""
-    return AGAIN if state and draw.state in FOLLOWED else ACTIONS.get(state, "")
+    return "" if not state else AGAIN if draw.state in FOLLOWED else STATES[state].action
 
 
 def why_not(draw: Draw, state: str, register: Register | None) -> str:
@@ -252,8 +248,8 @@ def verdicts_of(
 def steps_of(found: Seen) -> list[dict[str, str]]:
     """The steps with who did each; what the next one does is said there alone."""
     draw = found.draw
-    end = sentence(IN_WORDS[draw.state]) if draw.is_ended and draw.state != OPENED else ""
-    rows = step_store.shown(STEPS, draw.done, "" if found.work else found.state, DOES, end)
+    end = sentence(STATES[draw.state].words) if draw.is_ended and draw.state != OPENED else ""
+    rows = step_store.shown(STATES, draw.done, "" if found.work else found.state, end)
     return [{**it, "does": it["does"] if it["state"] == "now" else ""} for it in rows]
 
 
@@ -261,7 +257,7 @@ def state_in_words(found: Seen) -> str:
     """The state of a draw as an office reads it."""
     if found.draw.state == SENDING and found.standing == found.draw.terms.fills:
         return "closed, and held; not audited yet"
-    return IN_WORDS[found.draw.state]
+    return STATES[found.draw.state].words
 
 
 def confirmed_of(found: Seen) -> str:
@@ -286,7 +282,8 @@ def copied(draw: Draw) -> list[str]:
 def tags_of(found: Seen) -> list[tuple[str, str]]:
     """The state in one to three words."""
     is_known = found.draw.state in (REHEARSED, CONFIRMED)
-    return [*([("Rehearsed", "info")] if is_known else []), TAGS[found.draw.state]]
+    it = STATES[found.draw.state]
+    return [*([("Rehearsed", "info")] if is_known else []), (it.tag, it.look)]
 
 
 def again_of(draw: Draw) -> bool:

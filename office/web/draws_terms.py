@@ -12,14 +12,58 @@ from typing import Any
 from office import texts
 from office.model import Pair, Register
 
-from .step_store import Done, steps_in
+from .step_store import Done, State, States, steps_in
 
 Command = dict[str, Any]
 BEGUN, CLOSED, COPIED, LOTS, SEALED = "begun", "closed", "copied", "lots", "sealed"
 REHEARSED, CONFIRMED, SENDING, AUDITED = "rehearsed", "confirmed", "sending", "audited"
 OPENED, GIVEN_UP, RESTORED = "opened", "given up", "restored"
-# the states of a draw that is held to its end, in their order
-IN_ORDER = (BEGUN, CLOSED, COPIED, LOTS, SEALED, REHEARSED, CONFIRMED, SENDING, AUDITED, OPENED)
+HEAD, SUPERVISOR = "by a head of the office", "by the supervisor"
+SECOND = "by a second person"
+# the states of a draw that is held to its end, in their order, and the others
+STATES = States(
+    State(name=BEGUN, words="begun, and nothing is closed", tag="Begun", look="info",
+          title="Begin", does="Nothing is closed yet.", runs="recording is paused"),
+    State(name=CLOSED, words="recording is paused", tag="Closed", look="info",
+          title="Pause recording for everyone", by=HEAD, action="close",
+          button="Pause recording for everyone",
+          does="Nobody can record anything from then on until the register is open again. All can"
+               " still read, and what somebody has typed stays. The next two steps follow by"
+               " themselves.", runs="the register is copied"),
+    State(name=COPIED, words="closed, and the register is copied", tag="Copied", look="info",
+          title="Copy the register", button="Make the copy",
+          does="For some seconds nobody can read it. The copy can be restored if something goes"
+               " wrong.", runs="the supervisor is asked for the lots"),
+    State(name=LOTS, words="closed, and the supervisor draws the lots", tag="Waits for the lots",
+          look="warn", title="List the lots for the supervisor",
+          button="Ask the supervisor for the lots",
+          does="A lot is drawn for each child at each school where it takes part."),
+    State(name=SEALED, words="closed, and the lots are sealed", tag="Lots sealed", look="info",
+          title="Draw and seal the lots", by=SUPERVISOR,
+          does="The supervisor draws and seals them on the screen of lots. Nobody changes them"
+               " after that, and the rehearsal follows by itself.", runs="the draw is rehearsed"),
+    State(name=REHEARSED, words="closed, and rehearsed: not confirmed yet",
+          tag="Waits for a second person", look="warn", title="Rehearse on a copy, and audit",
+          button="Rehearse",
+          does="A second program audits the outcome. Nothing is recorded."),
+    State(name=CONFIRMED, words="closed, and confirmed: not held yet", tag="Confirmed",
+          look="info", title="Confirm", by=SECOND, action="confirm", button="Confirm",
+          does="Nothing is recorded yet.", runs="the draw is held"),
+    State(name=SENDING, words="closed, and being held", tag="Being held", look="warn",
+          title="Hold", by=HEAD, action="send", button="Hold",
+          does="The register allots the places. Only a restore of the copy by two persons undoes"
+               " it. The audit follows by itself.", runs="the draw is held, and then audited"),
+    State(name=AUDITED, words="held, and the audit agrees", tag="Audited", look="info",
+          title="Audit once more", button="Audit",
+          does="The register is copied, and audited against the copy from before and the"
+               " rehearsal. If they agree it is opened by itself.", runs="the register is opened"),
+    State(name=OPENED, words="held, and recording goes on", tag="Held", look="good",
+          title="Resume recording", button="Resume recording",
+          does="Everybody can record again."),
+    State(name=GIVEN_UP, words="cancelled: nothing was recorded", tag="Cancelled", look="plain"),
+    State(name=RESTORED, words="undone: the copy was restored", tag="Undone", look="bad"),
+)
+IN_ORDER = tuple(it.name for it in STATES.steps)
 ENDED, HELD = (OPENED, GIVEN_UP, RESTORED), (AUDITED, OPENED)
 # in these nobody else may send anything to the register, and before the first of the second nothing
 # of the draw was sent; there one person gives it up before the lots are sealed, and two after that.
@@ -29,7 +73,7 @@ SENT = (SENDING, AUDITED)
 UNSENT = IN_ORDER[:7]
 UNSEALED, UNSENT_SEALED = UNSENT[:4], UNSENT[4:]
 # from these the next step follows by itself: there is nothing to decide
-FOLLOWED = (CLOSED, COPIED, SEALED, SENDING, AUDITED)
+FOLLOWED = STATES.followed()
 MOST_FILLS = 50
 
 
@@ -168,67 +212,3 @@ def of_rows(row: sqlite3.Row, steps: list[sqlite3.Row]) -> Draw:
         kept_in(row["audit"] or "{}"), row["restore_by"] or "", row["give_up_by"] or "",
         row["give_up_why"], row["trouble"] or "", steps_in(steps), row["repeats"],
         row["other_lots"])
-
-
-# each state as an office reads it; and what runs from it, where something does
-IN_WORDS = {
-    BEGUN: "begun, and nothing is closed", CLOSED: "recording is paused",
-    COPIED: "closed, and the register is copied", LOTS: "closed, and the supervisor draws the lots",
-    SEALED: "closed, and the lots are sealed",
-    REHEARSED: "closed, and rehearsed: not confirmed yet",
-    CONFIRMED: "closed, and confirmed: not held yet", SENDING: "closed, and being held",
-    AUDITED: "held, and the audit agrees", OPENED: "held, and recording goes on",
-    GIVEN_UP: "cancelled: nothing was recorded", RESTORED: "undone: the copy was restored",
-}
-# the same in one to three words, and how it looks
-TAGS = {
-    BEGUN: ("Begun", "info"), CLOSED: ("Closed", "info"), COPIED: ("Copied", "info"),
-    LOTS: ("Waits for the lots", "warn"), SEALED: ("Lots sealed", "info"),
-    REHEARSED: ("Waits for a second person", "warn"), CONFIRMED: ("Confirmed", "info"),
-    SENDING: ("Being held", "warn"), AUDITED: ("Audited", "info"), OPENED: ("Held", "good"),
-    GIVEN_UP: ("Cancelled", "plain"), RESTORED: ("Undone", "bad"),
-}
-RUNS = {
-    BEGUN: "recording is paused", CLOSED: "the register is copied",
-    COPIED: "the supervisor is asked for the lots", SEALED: "the draw is rehearsed",
-    CONFIRMED: "the draw is held", SENDING: "the draw is held, and then audited",
-    AUDITED: "the register is opened",
-}
-
-
-@dataclasses.dataclass(frozen=True)
-class Step:
-    """A step: the state that it leads to, its title, what it does, and the text of its button."""
-
-    state: str
-    title: str
-    does: str
-    button: str = ""
-
-
-STEPS = (
-    Step(BEGUN, "Begin", "Nothing is closed yet."),
-    Step(CLOSED, "Pause recording for everyone",
-         "Nobody can record anything from then on until the register is open again. All can still"
-         " read, and what somebody has typed stays. The next two steps follow by themselves.",
-         "Pause recording for everyone"),
-    Step(COPIED, "Copy the register",
-         "For some seconds nobody can read it. The copy can be restored if something goes wrong.",
-         "Make the copy"),
-    Step(LOTS, "List the lots for the supervisor",
-         "A lot is drawn for each child at each school where it takes part.",
-         "Ask the supervisor for the lots"),
-    Step(SEALED, "Draw and seal the lots",
-         "The supervisor draws and seals them on the screen of lots. Nobody changes them after"
-         " that, and the rehearsal follows by itself."),
-    Step(REHEARSED, "Rehearse on a copy, and audit",
-         "A second program audits the outcome. Nothing is recorded.", "Rehearse"),
-    Step(CONFIRMED, "Confirm", "Nothing is recorded yet.", "Confirm"),
-    Step(SENDING, "Hold",
-         "The register allots the places. Only a restore of the copy by two persons undoes it. The"
-         " audit follows by itself.", "Hold"),
-    Step(AUDITED, "Audit once more",
-         "The register is copied, and audited against the copy from before and the rehearsal. If"
-         " they agree it is opened by itself.", "Audit"),
-    Step(OPENED, "Resume recording", "Everybody can record again.", "Resume recording"),
-)

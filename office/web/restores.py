@@ -25,7 +25,7 @@ from .restores_rehearsal import WOULD
 from .restores_since import Difference
 from .restores_terms import (
     ASKED, CLOSED, CONFIRMED, COPIED, GIVEN_UP, LATER, OPENED, REFUSED, RESTORED, RESTORING, SENT,
-    UNTOUCHED, Again, Restore, of_rows,
+    STATES, UNTOUCHED, Again, Restore, of_rows,
 )
 from .staging_commit import digest_of
 from .staging_rows import COMMITTED, OPEN
@@ -242,11 +242,13 @@ class Restores(StepStore[Restore]):
         """Goes on after a step that a person has done, until somebody has to decide. What cannot be
         done is refused: the restore is in the state before it, and its page has the button.
         """
-        follows = {CONFIRMED: self.copy, COPIED: self.restore, RESTORING: self.restore,
-                   RESTORED: self.send_again, SENT: self.open}
-        while (found := self.get(number)).state in follows and not (
-                found.state == SENT and self.is_to_read(found)):
-            follows[found.state](who, number, found.version)
+        steps = {COPIED: self.copy, RESTORED: self.restore, SENT: self.send_again,
+                 OPENED: self.open}
+        while (found := self.get(number)).state in STATES.followed():
+            state = STATES.next(found.state)
+            if not state or state.name == OPENED and self.is_to_read(found):
+                return
+            steps[state.name](who, number, found.version)
             if self.get(number).version == found.version:
                 return
 

@@ -5,26 +5,50 @@ import dataclasses
 import sqlite3
 
 from .outbox import Item
-from .step_store import Done, steps_in
+from .step_store import Done, State, States, steps_in
 
 CLOSED, ASKED, CONFIRMED, COPIED = "closed", "asked", "confirmed", "copied"
 RESTORING, RESTORED, SENT = "restoring", "restored", "sent again"
 OPENED, GIVEN_UP = "opened", "given up"
-# the states of a restore that is brought to its end, in their order
-IN_ORDER = (CLOSED, ASKED, CONFIRMED, COPIED, RESTORING, RESTORED, SENT, OPENED)
 ENDED = (OPENED, GIVEN_UP)
 # before the register is touched
-UNTOUCHED = IN_ORDER[:4]
+UNTOUCHED = (CLOSED, ASKED, CONFIRMED, COPIED)
 # what came since the copy and rests on the draw that was wrong: it is sent once that is held again;
 # and what was refused
 LATER, REFUSED = "later", "refused"
-# each state as an office reads it
-IN_WORDS = {
-    CLOSED: "recording is paused", ASKED: "waits for a second person", CONFIRMED: "confirmed",
-    COPIED: "confirmed, and copied", RESTORING: "being restored", RESTORED: "restored",
-    SENT: "restored, and sent again", OPENED: "done, and recording goes on",
-    GIVEN_UP: "cancelled",
-}
+# the states of a restore that is brought to its end, in their order, and that of another end
+STATES = States(
+    State(name=CLOSED, words="recording is paused", title="Recording is paused",
+          does="Nobody can record anything until the register is opened. All can still read.",
+          runs="what is ticked is tried on a scratch copy"),
+    State(name=ASKED, words="waits for a second person", title="What is sent again is chosen",
+          by="by a head of the office",
+          does="All that came since the copy is listed. What is not ticked is lost.",
+          runs="the restore is confirmed"),
+    State(name=CONFIRMED, words="confirmed", title="Confirmed by a second person",
+          by="by a second person",
+          does="Somebody else has read what is lost and what is sent again, and says that the copy"
+               " may be restored. The next steps follow at once.",
+          runs="the register is copied as it is"),
+    State(name=COPIED, words="confirmed, and copied", title="Copy of what is there",
+          action="copy", button="Make the copy of what is there",
+          does="The register is copied as it is. By that copy the restore can be undone.",
+          runs="the copy is restored"),
+    State(name=RESTORING, words="being restored", runs="the copy is restored"),
+    State(name=RESTORED, words="restored", title="Restored", action="restore",
+          button="Restore copy {}",
+          does="The register becomes that of the copy, and is compared with it. For some seconds"
+               " nobody can read it.", runs="what was ticked is sent again"),
+    State(name=SENT, words="restored, and sent again", title="Sent again", action="send",
+          button="Go on: send again what was ticked",
+          does="What was ticked is sent in its first order. What the register refuses is shown.",
+          runs="recording is resumed"),
+    State(name=OPENED, words="done, and recording goes on", title="Resume recording",
+          action="open", button="Resume recording",
+          does="Everybody can record again. Where all that was ticked is stored this follows by"
+               " itself.", runs="what was ticked is sent"),
+    State(name=GIVEN_UP, words="cancelled", runs="the restore is cancelled"),
+)
 
 
 @dataclasses.dataclass(frozen=True)
@@ -59,7 +83,7 @@ class Restore:
     @property
     def in_words(self) -> str:
         """How far it is."""
-        return IN_WORDS[self.state]
+        return STATES[self.state].words
 
     def came_to(self, state: str) -> Done:
         """Who brought it to a state last, and when; nobody where it has not been there. (A step
@@ -79,32 +103,3 @@ def of_rows(row: sqlite3.Row, steps: list[sqlite3.Row]) -> Restore:
     """A restore of the store."""
     return Restore(row["id"], row["copy"], row["state"], row["version"], row["copy_before"],
                    row["draw"], steps_in(steps))
-
-
-@dataclasses.dataclass(frozen=True)
-class Step:
-    """A step: the state that it leads to, its title, and what it does."""
-
-    state: str
-    title: str
-    does: str
-
-
-STEPS = (
-    Step(CLOSED, "Recording is paused",
-         "Nobody can record anything until the register is opened. All can still read."),
-    Step(ASKED, "What is sent again is chosen",
-         "All that came since the copy is listed. What is not ticked is lost."),
-    Step(CONFIRMED, "Confirmed by a second person",
-         "Somebody else has read what is lost and what is sent again, and says that the copy may"
-         " be restored. The next steps follow at once."),
-    Step(COPIED, "Copy of what is there",
-         "The register is copied as it is. By that copy the restore can be undone."),
-    Step(RESTORED, "Restored",
-         "The register becomes that of the copy, and is compared with it. For some seconds nobody"
-         " can read it."),
-    Step(SENT, "Sent again",
-         "What was ticked is sent in its first order. What the register refuses is shown."),
-    Step(OPENED, "Resume recording",
-         "Everybody can record again. Where all that was ticked is stored this follows by itself."),
-)

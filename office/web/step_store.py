@@ -5,7 +5,7 @@ import contextlib
 import dataclasses
 import sqlite3
 import threading
-from collections.abc import Iterable, Iterator, Mapping, Sequence
+from collections.abc import Iterator, Sequence
 from typing import Generic, Protocol, TypeVar
 
 from register_files import Refused
@@ -34,40 +34,64 @@ def steps_in(rows: list[sqlite3.Row]) -> tuple[Done, ...]:
     return tuple(Done(it["state"], it["who"], it["at"], it["said"]) for it in rows)
 
 
-class Step(Protocol):
-    """A step: the state to which it leads, its title, and what it does."""
+@dataclasses.dataclass(frozen=True, kw_only=True)
+class State:
+    """A state, with the step that leads to it: the state as an office reads it, in a sentence and
+    in one to three words, and how these look; of the step its title, or "" where no step leads
+    there, what it does, who does it, or "" where it follows by itself, the request by which a
+    person does it, and the text of its button; and what runs from the state on.
+    """
 
-    @property
-    def state(self) -> str:
-        """The state."""
+    name: str
+    words: str
+    tag: str = ""
+    look: str = ""
+    title: str = ""
+    does: str = ""
+    by: str = ""
+    action: str = ""
+    button: str = ""
+    runs: str = ""
 
-    @property
-    def title(self) -> str:
-        """The title."""
 
-    @property
-    def does(self) -> str:
-        """What it does."""
+class States:
+    """The states of one kind. Those with a step are in the order of the steps."""
+
+    def __init__(self, *states: State) -> None:
+        self.all = {it.name: it for it in states}
+        self.steps = tuple(it for it in states if it.title)
+
+    def __getitem__(self, name: str) -> State:
+        return self.all[name]
+
+    def next(self, name: str) -> State | None:
+        """The state to which the next step leads, if there is one."""
+        names = list(self.all)
+        later = names[names.index(name) + 1:]
+        return next((it for it in self.steps if it.name in later), None)
+
+    def followed(self) -> tuple[str, ...]:
+        """The states from which the next step follows by itself."""
+        return tuple(name for name in self.all if (it := self.next(name)) and not it.by)
 
 
 def shown(
-    steps: Iterable[Step], done: Sequence[Done], state: str, does: Mapping[str, str],
-    end: str = "",
+    states: States, done: Sequence[Done], state: str, end: str = "",
 ) -> list[dict[str, str]]:
     """Steps as a screen shows them: who did each, and when; the one that is next, which leads to a
     state, and those after it, with who does them where they do not follow by themselves. Of what
     has ended otherwise, those that were done, and the end in words.
     """
     found = []
-    for it in steps:
-        by = next((one for one in done if one.state == it.state), None)
+    for it in states.steps:
+        by = next((one for one in done if one.state == it.name), None)
         if by is not None:
             found.append({"title": it.title, "does": it.does, "who": by.who,
                           "when": moment(by.at), "state": "done"})
         elif not end:
             found.append({"title": it.title, "does": it.does, "when": "",
-                          "who": does.get(it.state, "by itself"),
-                          "state": "now" if it.state == state else "next"})
+                          "who": it.by or "by itself",
+                          "state": "now" if it.name == state else "next"})
     if end:
         found.append({"title": end, "does": "", "who": done[-1].who, "when": moment(done[-1].at),
                       "state": "done"})

@@ -15,7 +15,7 @@ from .. import draws_page as page
 from ..draws_checks import Check
 from ..draws_lots import sheet_of
 from ..draws_page import AGAIN
-from ..draws_terms import BEGUN, IN_WORDS, MOST_FILLS, OPENED, RUNS, TAGS, Draw
+from ..draws_terms import BEGUN, MOST_FILLS, OPENED, STATES, Draw
 from ..guard import needs, parts, person
 from ..parts import Parts
 from ..people import CONFIRM, DRAW, LOTS, READ, Person
@@ -46,9 +46,9 @@ def list_page(reason: str = "", status: int = 200, field: str = "") -> Answer:
         heads=page.who_may(DRAW), supervisors=page.who_may(LOTS), name_of=draws_words.name_of,
         reason=reason or trouble, kind=given.get("kind", "round"), given=given,
         day=given.get("day", days.in_words(day)), most=MOST_FILLS, choices=schools_of(register),
-        wrong={field: sentence(reason.partition(": ")[2])} if field else {}, tags=TAGS,
+        wrong={field: sentence(reason.partition(": ")[2])} if field else {}, states=STATES,
         undone=draws_again.undone(listed), is_again=bool(repeated(listed)),
-        most_reason=draws_again.MOST_REASON, in_words=IN_WORDS,
+        most_reason=draws_again.MOST_REASON,
     ), status
 
 
@@ -149,7 +149,7 @@ def draw_page(number: int, reason: str = "", status: int = 200) -> Answer:
         history=step_store.history(draw.done), checks=checks, agreed=agreed,
         is_agreed=flask.request.form.get("agreed") == agreed, to_look_at=to_look_at,
         checked=checked, changes=changes, outcome=shown, whole=outcome,
-        runs=RUNS.get(draw.state, "a step is done"), in_words=page.state_in_words(found),
+        runs=STATES[draw.state].runs or "a step is done", in_words=page.state_in_words(found),
         is_opened=draw.state == OPENED, round_held=page.round_held(draw, register),
         may_cancel=page.may_be_cancelled(draw), second=page.second_of(draw),
         who_did=page.taking_part(found), before=draws_again.given_up(parts().draws, draw),

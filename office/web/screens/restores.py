@@ -20,7 +20,7 @@ from ..restores import Restores, case_of
 from ..restores_rehearsal import WOULD
 from ..restores_since import Difference
 from ..restores_terms import (
-    ASKED, CLOSED, CONFIRMED, COPIED, GIVEN_UP, LATER, OPENED, RESTORED, RESTORING, SENT, STEPS,
+    ASKED, CLOSED, COPIED, GIVEN_UP, LATER, OPENED, RESTORED, RESTORING, SENT, STATES,
     UNTOUCHED, Again, Restore,
 )
 from ..wording import sentence
@@ -28,24 +28,6 @@ from ..wording import sentence
 screen = flask.Blueprint("restores", __name__, url_prefix="/restores")
 Answer = str | Response | tuple[str, int]
 FIELD = re.compile("again-([1-9][0-9]{0,8})")
-# the request by which a restore goes on from a state, and the text of its button
-NEXT = {
-    CONFIRMED: ("copy", "Make the copy of what is there"),
-    COPIED: ("restore", "Restore copy {}"),
-    RESTORING: ("restore", "Go on with the restore of copy {}"),
-    RESTORED: ("send", "Go on: send again what was ticked"),
-    SENT: ("open", "Resume recording"),
-}
-# who does a step that does not follow by itself
-DOES = {ASKED: "by a head of the office", CONFIRMED: "by a second person"}
-# what runs after a state, in words
-RUNS = {
-    CLOSED: "what is ticked is tried on a scratch copy", ASKED: "the restore is confirmed",
-    CONFIRMED: "the register is copied as it is", COPIED: "the copy is restored",
-    RESTORING: "the copy is restored", RESTORED: "what was ticked is sent again",
-    SENT: "recording is resumed", OPENED: "what was ticked is sent",
-    GIVEN_UP: "the restore is cancelled",
-}
 # what is shown of the present register until it is restored
 BEFORE = (*UNTOUCHED, RESTORING)
 
@@ -138,7 +120,7 @@ def page(
         trouble = f"The last step was not done: {sentence(said)}"
     # (while something runs the register may be away for some seconds)
     trouble = "" if work else trouble
-    action, button = NEXT.get(restore.state, ("", ""))
+    action, button = next_of(restore)
     rows = rows_of(restore, chosen)
     draws = {it.number: it for it in parts().draws.listed()}
     return flask.render_template(
@@ -146,8 +128,8 @@ def page(
         lost=lost, lost_count=restores_since.count_lost(lost),
         steps=steps_of(restore),
         history=step_store.history(restore.done),
-        reason=reason or trouble, work=work, runs=RUNS[restore.state],
-        action=action, button=button.format(restore.copy),
+        reason=reason or trouble, work=work, runs=STATES[restore.state].runs,
+        action=action, button=button,
         why_not=why_not(restore), not_steady=not_steady(restore),
         may_choose=restore.state == CLOSED, may_give_up=restore.state in BEFORE,
         is_touched=restore.state == RESTORING, may_send_later=restore.state == OPENED,
@@ -161,15 +143,25 @@ def page(
     ), status
 
 
+def next_of(restore: Restore) -> tuple[str, str]:
+    """The request by which a restore goes on where that was cut off, and the text of its button."""
+    found = STATES.next(restore.state)
+    if found is None:
+        return "", ""
+    if restore.state == RESTORING:
+        return found.action, f"Go on with the restore of copy {restore.copy}"
+    return found.action, found.button.format(restore.copy)
+
+
 def steps_of(restore: Restore) -> list[dict[str, str]]:
     """The steps of a restore, as far as it is brought now: what is chosen can be chosen again."""
-    states = [it.state for it in STEPS]
+    states = [it.name for it in STATES.steps]
     at = COPIED if restore.state == RESTORING else restore.state
     come = states.index(at) + 1 if at in states else len(states)
     done = [it for it in map(restore.came_to, states[:come]) if it.who]
     end = sentence(restore.state) if restore.state == GIVEN_UP else ""
     state = "" if restore.is_ended else next(iter(states[come:]), "")
-    return step_store.shown(STEPS, [*done, *restore.done[-1:]], state, DOES, end)
+    return step_store.shown(STATES, [*done, *restore.done[-1:]], state, end)
 
 
 def may_begin(restore: Restore) -> bool:
