@@ -52,8 +52,9 @@ def now(parts: str) -> str:
 
 
 def admissions_sent(world: World, history: pathlib.Path, since: str, *options: object) -> Ran:
-    """What the installed admissions-sent prints of a history."""
-    return world.run(world.prefix / "sbin/admissions-sent", "--history", history, since, *options)
+    """What the installed admissions-admin sent prints of a history."""
+    command = world.prefix / "sbin/admissions-admin"
+    return world.run(command, "sent", "--history", history, since, *options)
 
 
 # What made the record useless or wrong where each line of a body was taken for a command
@@ -84,8 +85,8 @@ def test_a_command_within_a_command_is_not_done_itself(world: World, before: Bef
 
 
 class Replay(NamedTuple):
-    """The status of the program, which took in the log of the desk; what admissions-sent prints of
-    the history and of a compressed copy; what the program prints when that is done on the register
+    """The status of the program, which took in the log of the desk; what admissions-admin sent
+    prints of the history and of a compressed copy; what the program prints when that is done on the register
     before; and the rows of that and of the register."""
 
     taken_in: int
@@ -165,8 +166,8 @@ def test_an_entry_that_was_changed_is_named_and_what_is_before_it_is_printed(
     assert printed.stdout.split("\n")[:-1] == replay.printed.stdout.split("\n")[:-2]
     # (the line after it has the digest of what was there)
     assert printed.stderr.splitlines()[-1] == (
-        f"admissions-sent: {copy}, line {last + 2}: the history was changed there or in the line"
-        " before, or a line between them is missing")
+        f"admissions-admin sent: {copy}, line {last + 2}: the history was changed there or in the"
+        " line before, or a line between them is missing")
 
 
 def test_an_entry_that_was_removed_is_named(
@@ -192,7 +193,7 @@ def test_an_import_over_the_site_is_done_and_the_history_names_it_and_has_its_ro
     line = next(it for it in printed.stderr.splitlines() if "an import" in it)
     assert (printed.returncode, printed.stdout) == (1, "")
     assert line.startswith(
-        f"admissions-sent: {history}, line {count + 1}: robot sent an import at ")
+        f"admissions-admin sent: {history}, line {count + 1}: robot sent an import at ")
     assert line.endswith(", which was done after 0 of the printed commands: import its rows there,"
                          f" from {folder}/0.csv")
     assert (folder / "0.csv").read_text() == ROWS

@@ -53,6 +53,7 @@ VERBS = {
     "open": Verb("open it again"),
     "status": Verb("report how the registers are", looks=True),
     "history": Verb("show the copies of the history, and mend one that was changed"),
+    "sent": Verb("print what was sent since a moment, to be sent again", looks=True),
     "rehearse": Verb("rehearse a takeover on a machine for trials, and end that"),
     "move": Verb("move a register to a new machine, or to a disk and back"),
     "takeover": Verb("go on with a register of a machine that is lost"),

@@ -22,13 +22,13 @@ PARTS = {
     "units": Part(
         "no upgrade was interrupted; server, nginx and the timers of backup and drill are active"
         " and enabled, and that of copies by the hour is active if it is enabled; the application,"
-        " its socket and what waits for its requests are active; no backup, second copy, drill, or copy"
-        " or restore for the application failed"),
+        " its socket and what waits for its requests are active; no backup, second copy, drill, or"
+        " copy or restore for the application failed"),
     "people": Part("somebody with the role head may sign in: a person who is not locked"),
     "history": Part(
         "the application alone reads and writes it, no line was changed, it begins with each of its"
-        " copies or that is acknowledged, the last entry is not dated ahead, and no request has been"
-        " without a known answer for an hour",
+        " copies or that is acknowledged, the last entry is not dated ahead, and no request has"
+        " been without a known answer for an hour",
         "ATTENTION. With a changed line the application does not start again, and then site has"
         " failed"),
     "copy": Part(

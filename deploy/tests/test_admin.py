@@ -157,7 +157,7 @@ def test_one_verb_at_a_time_changes_something_and_the_next_one_waits(
 
 
 @pytest.mark.parametrize("name, verb", [("setup", "setup"), ("status", "status"),
-                                        ("retire", "retire")])
+                                        ("sent", "sent"), ("retire", "retire")])
 def test_a_command_of_before_names_its_verb_and_does_nothing(
     name: str, verb: str, tmp_path: pathlib.Path
 ) -> None:

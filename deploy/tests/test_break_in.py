@@ -72,7 +72,7 @@ def old_fixture(
     add(bin_ / "journalctl", '#!/bin/sh\necho "journal: $*"\n').chmod(0o755)
     add(bin_ / "admissions", ADMISSIONS).chmod(0o755)
     add(bin_ / "admissions-restore", '#!/bin/sh\ncp "$1" "$2"\n').chmod(0o755)
-    (bin_ / "admissions-sent").symlink_to(
+    (bin_ / "admissions-admin").symlink_to(
         pathlib.Path(__file__).resolve().parents[2] / "office/command")
     monkeypatch.setattr(evidence, "program", lambda name: str(bin_ / name))
     monkeypatch.setattr(evidence, "tool", lambda name, package: str(

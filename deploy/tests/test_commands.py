@@ -17,7 +17,7 @@ from register_files import Refused
 
 COMMAND = ROOT / "office/command"
 NAMES: tuple[str, ...] = loaded(COMMAND).MACHINE
-GIVEN = {"sent": ["secondary-2025", "2025-03-03"], "nightly": ["reg.db", "copies", "30"]}
+GIVEN = {"nightly": ["reg.db", "copies", "30"]}
 
 
 def module_of(name: str) -> types.ModuleType:

@@ -25,12 +25,14 @@ STANDS_IN = {
     "chown": 'echo "chown $*" >> "$CALLS"',
     "setpriv": 'while [[ $1 == --* ]]; do shift; done; exec "$@"',
     # (of a register, whose history is in this folder)
-    "admissions-sent": f"""
+    "admissions-admin": f"""
+if [ "$1" != sent ]; then exit; fi
+shift
 if [ "$1" = {NAME} ]; then
     shift
     set -- --history "$ROOM/var/lib/admissions-office/{NAME}/history.jsonl" "$@"
 fi
-exec "$ROOM/bin/tools/admissions-sent" "$@"
+exec "$ROOM/bin/tools/admissions-admin" sent "$@"
 """,
     # (without the owner and the group)
     "install": """
@@ -38,7 +40,6 @@ given=()
 while (($#)); do case $1 in -o | -g) shift 2 ;; *) given+=("$1"); shift ;; esac; done
 exec /usr/bin/install "${given[@]}"
 """,
-    "admissions-admin": '[ "$1" = status ] || echo "admissions-admin $*" >> "$CALLS"',
     "admissions": """
 case $1 in
     do)
@@ -134,8 +135,8 @@ def test_each_command_has_the_options_that_the_page_names(helps: dict[str, str])
                 assert not [it for it in options if it not in helps[word]], part
                 seen |= {(word, it) for it in options}
     assert {("admissions-admin setup", "--copy"), ("admissions-admin takeover", "--copy"),
-            ("admissions-admin people", "--new-password"), ("admissions-sent", "--history"),
-            ("admissions-sent", "--rows"), ("admissions-admin retire", "--early"),
+            ("admissions-admin people", "--new-password"), ("admissions-admin sent", "--history"),
+            ("admissions-admin sent", "--rows"), ("admissions-admin retire", "--early"),
             ("admissions-audit", "--later"), ("admissions-admin drill", "--identity"),
             ("admissions-admin restore", "--people-alone")} <= seen
 
@@ -168,7 +169,7 @@ class Machine:
         for name, text in STANDS_IN.items():
             self.write(f"bin/{name}", f"#!/bin/bash\n{text}\n").chmod(0o755)
         (room / "bin/tools").mkdir()
-        (room / "bin/tools/admissions-sent").symlink_to(COMMAND)
+        (room / "bin/tools/admissions-admin").symlink_to(COMMAND)
 
     def write(self, name: str, text: str) -> pathlib.Path:
         """A file with this text."""

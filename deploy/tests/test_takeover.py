@@ -14,8 +14,8 @@ import typing
 
 import pytest
 from conftest import typed
-from machine import copies, files, registers, sealed, sent, serving
-from machine.verbs import setup, status, takeover
+from machine import copies, files, registers, sealed, serving
+from machine.verbs import sent, setup, status, takeover
 from office.web.history import ANSWER, RESTORED, SENDS, History
 from register_files import Refused
 
@@ -220,7 +220,7 @@ def test_what_is_to_be_sent_again(
                         " again what follows, line by line:")
     assert lines[1:3] == ['{"child":2,"cmd":"accept"}', '{"child":4,"cmd":"accept"}']
     assert lines[3] == (
-        f"These are all until 2025-03-03 02:33:00, and `admissions-sent {NAME}"
+        f"These are all until 2025-03-03 02:33:00, and `admissions-admin sent {NAME}"
         " 2025-03-03T02:30:00` prints them again. What was sent later is in no copy: ask who"
         " worked then.")
     register.history.unlink()
@@ -400,7 +400,7 @@ def test_a_copy_of_before_a_restore_is_named(
     register: registers.Register, write_as_me: None, tmp_path: pathlib.Path,
     capfd: pytest.CaptureFixture[str],
 ) -> None:
-    """Where it was chosen all the same, and by admissions-sent with its time."""
+    """Where it was chosen all the same, and by admissions-admin sent with its time."""
     sent_at(register, 1, "2025-03-03T02:00:00")
     restored_at(register, 0, "2025-03-03T09:00:00")
     sent_at(register, 2, "2025-03-03T09:30:00")

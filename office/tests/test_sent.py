@@ -1,5 +1,5 @@
-"""`admissions-sent`, which prints the commands of a history to send them again: by histories that
-the application's own class writes, and that are damaged by hand.
+"""`admissions-admin sent`, which prints the commands of a history to send them again: by histories
+that the application's own class writes, and that are damaged by hand.
 """
 import gzip
 import json
@@ -21,12 +21,13 @@ from office.web.history import ANSWER, FIRST, RESTORED, SENDS, SETTLED, Entry, H
 RUN = """
 import os, pathlib, sys
 sys.path[:0] = [sys.argv[1], sys.argv[1] + "/deploy", sys.argv[1] + "/tools"]
-from machine import files, registers, sent
+from machine import files, registers
+from machine.verbs import sent
 from office import run
 registers.OFFICES = pathlib.Path(sys.argv.pop(2))
 files.numbers = lambda *_: (os.getuid(), os.getgid())
-sys.argv[:2] = ["admissions-sent"]
-sys.exit(run.run("admissions-sent", sent))
+sys.argv[:2] = ["admissions-admin sent"]
+sys.exit(run.run("admissions-admin sent", sent))
 """
 DAY = "2025-03-03T10:00:%02d.000+00:00"
 DONE = {"done": True}
@@ -98,12 +99,12 @@ def sent(made: Made, since: str = "2025-03-01", *options: str | Path) -> Ran:
 
 def said(made: Made, line: int, text: str) -> str:
     """The error that names a line of the history."""
-    return f"admissions-sent: {made.path}, line {line}: {text}\n"
+    return f"admissions-admin sent: {made.path}, line {line}: {text}\n"
 
 
 def changed(made: Made, line: int) -> str:
     """How the error begins that names a line which was changed."""
-    return f"admissions-sent: {made.path}, line {line}: the history was changed there"
+    return f"admissions-admin sent: {made.path}, line {line}: the history was changed there"
 
 
 def test_a_command_is_one_line_of_the_same_value(made: Made) -> None:
@@ -388,7 +389,7 @@ def test_of_a_damaged_copy_what_can_be_read_is_printed(
 @pytest.mark.parametrize("given, status, text", [
     (["y", "2025-03-01"], 1, "y/history.jsonl is not there"),
     (["x", "yesterday"], 2, "'yesterday' is no moment: YYYY-MM-DD or YYYY-MM-DDTHH:MM"),
-    (["2025-03-01"], 2, "give either NAME and TIME, or --history FILE and TIME"),
+    (["2025-03-01"], 2, "which register? NAME is missing"),
     (["x", "2025-03-01", "--history", "a"], 2,
      "give either NAME and TIME, or --history FILE and TIME"),
     (["--history", "nowhere", "2025-03-01"], 1, "nowhere: No such file or directory"),
@@ -408,7 +409,7 @@ def test_a_file_of_something_else_is_named(made: Made, tmp_path: Path) -> None:
     for content in (b"no history", gzip.compress(b"no history")):
         path.write_bytes(content)
         assert ran(made, "--history", path, "2025-03-01") == (
-            1, "", f"admissions-sent: {path} has no entry of a history\n")
+            1, "", f"admissions-admin sent: {path} has no entry of a history\n")
 
 
 @pytest.mark.parametrize("make_it", [
@@ -422,7 +423,7 @@ def test_what_is_no_file_of_the_application_is_not_read(
     make_it(made.path)
     status, out, errors = sent(made)
     assert (status, out, errors.count("\n")) == (1, "", 1)
-    assert errors.startswith(f"admissions-sent: {made.path}")
+    assert errors.startswith(f"admissions-admin sent: {made.path}")
 
 
 @pytest.mark.parametrize("since, is_printed", [

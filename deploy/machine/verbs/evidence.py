@@ -236,8 +236,8 @@ def check(register: Register, copy: pathlib.Path, since: str) -> int:
     call(program("admissions-restore"), copy, then)
     # (with its log, which belongs to it)
     call(program("admissions-restore"), file, now)
-    done = call(program("admissions-sent"), "--history", history, since, "--rows", room / "rows",
-                may_fail=True)
+    done = call(program("admissions-admin"), "sent", "--history", history, since, "--rows",
+                room / "rows", may_fail=True)
     print(done.stderr, end="")
     if not (room / "rows").is_dir():
         raise Refused(f"{history} was not read")

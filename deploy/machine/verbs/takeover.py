@@ -29,10 +29,10 @@ import typing
 from office.web import history
 from register_files import Refused
 
-from .. import answers, copies, files, histories, history_copies, sealed, second_copy, sent, serving
+from .. import answers, copies, files, histories, history_copies, sealed, second_copy, serving
 from ..programs import OFFICE, USER, call, tool
 from ..registers import SETTINGS, Register, all_registers, named
-from . import setup
+from . import sent, setup
 
 # what is fetched: copies with what is beside each, and the history
 WANTED = (*copies.PATTERNS, *(f"{it}{sealed.END}" for it in copies.PATTERNS),
@@ -105,7 +105,7 @@ def fetch(
     if register.is_made:
         raise Refused(f"{register.file} is there already, so this machine does not take over."
                       " What was sent since a moment prints"
-                      f" `admissions-sent {register.name} TIME`")
+                      f" `admissions-admin sent {register.name} TIME`")
     place = (place or second_copy.place_of() or "").rstrip("/")
     if not place:
         raise Refused(f"name the second place, here or in {SETTINGS / 'second-copy'}", 2)
@@ -212,7 +212,7 @@ def report(
         print("Since then people also did this in the application, whose own file is as at that"
               f" moment: {others}. The screen Activity has each of them: what of it is still"
               " wanted is entered again there")
-    again = f"admissions-sent {register.name} {since:%Y-%m-%dT%H:%M:%S}"
+    again = f"admissions-admin sent {register.name} {since:%Y-%m-%dT%H:%M:%S}"
     if record.entries:
         last = datetime.datetime.fromisoformat(record.entries[-1].at).astimezone()
         print(f"These are all until {last:%Y-%m-%d %H:%M:%S}, and `{again}` prints them again."

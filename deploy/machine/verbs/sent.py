@@ -1,8 +1,8 @@
 """Prints the commands that were done since a moment, each on one line: to send
 them again after a restore.
 
-  admissions-sent NAME TIME [--rows FOLDER]
-  admissions-sent --history FILE TIME [--rows FOLDER]
+  admissions-admin sent [NAME] TIME [--rows FOLDER]
+  admissions-admin sent --history FILE TIME [--rows FOLDER]
 
 They are those that the office's application of the register NAME has sent, in
 the order in which they were done, from its history,
@@ -26,10 +26,10 @@ that a copy of TIME has what the restore has undone, or lacks what it brought
 back: take an earlier copy, and its TIME.
 
 example:
-  admissions-sent secondary-2025 2025-03-03T02:30 > again.jsonl
+  admissions-admin sent secondary-2025 2025-03-03T02:30 > again.jsonl
 
 exit status: 0 done; 1 not or not wholly done, and each line of the standard
-error says why; 2 wrong arguments.
+error says why.
 """
 import argparse
 import datetime
@@ -38,8 +38,8 @@ import sys
 
 from register_files import Refused
 
-from . import histories
-from .registers import named
+from .. import answers, histories
+from ..registers import named
 
 LOOK = "no answer is known: look whether it is done"
 
@@ -105,11 +105,13 @@ def moment(text: str) -> datetime.datetime:
 
 def record(given: argparse.Namespace) -> histories.Record:
     """The history that is to be read."""
-    if (given.name is None) == (given.history is None):
+    if given.name and given.history:
         raise Refused("give either NAME and TIME, or --history FILE and TIME", 2)
     if given.history is not None:
         return histories.of_copy(pathlib.Path(given.history))
-    return histories.of_register(named(given.name))
+    # (of one whose file is lost, too)
+    register = named(given.name) if given.name else answers.register_of(given)
+    return histories.of_register(register)
 
 
 def kept(rows: str, folder: str | None, printed: int) -> str:
@@ -126,5 +128,5 @@ def kept(rows: str, folder: str | None, printed: int) -> str:
 def report(text: str) -> int:
     """Names what is not printed, in its place, and returns 1."""
     sys.stdout.flush()
-    print(f"admissions-sent: {text}", file=sys.stderr)
+    print(f"admissions-admin sent: {text}", file=sys.stderr)
     return 1
