@@ -86,8 +86,8 @@ def test_a_command_within_a_command_is_not_done_itself(world: World, before: Bef
 
 class Replay(NamedTuple):
     """The status of the program, which took in the log of the desk; what admissions-admin sent
-    prints of the history and of a compressed copy; what the program prints when that is done on the register
-    before; and the rows of that and of the register."""
+    prints of the history and of a compressed copy; what the program prints when that is done on the
+    register before; and the rows of that and of the register."""
 
     taken_in: int
     printed: Ran

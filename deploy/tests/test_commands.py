@@ -40,7 +40,8 @@ def ended(name: str, error: BaseException, monkeypatch: pytest.MonkeyPatch) -> i
 def test_the_commands_are_those_that_are_installed() -> None:
     text = (ROOT / "deploy/install").read_text(encoding="utf-8")
     lists = re.findall(r"for command in (.*); do place 755 \.\./office/command", text)
-    assert sorted(" ".join(lists).split()) == sorted([*NAMES, "admin"])
+    assert sorted(" ".join(lists).split()) == sorted(NAMES)
+    assert 'place 755 ../office/command "$prefix/sbin/admissions-admin"' in text
 
 
 @pytest.mark.parametrize("name", NAMES)
