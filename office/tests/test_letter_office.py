@@ -152,14 +152,14 @@ def test_what_is_recorded_as_sent_is_beside_the_button(office: Site) -> None:
     for part in ("Letters: Offers: round 1 of 3 March 2025, 2 of 5", "round 1: 2 letters",
                  "<dd>3 March 2025</dd>", ">Record 2 letters as sent</button>"):
         assert part in page, part
-    assert hidden(jane.get(path), "day") == "2025-03-03"
+    assert hidden(jane.get(path), "day") == "3 March 2025"
     found = jane.post(f"{path}/record", {"count": "2", **SENT_ON})
     assert found.status_code == 400 and "Nobody has downloaded these letters" in found.text
     assert count(office, "letter_set WHERE sent IS NOT NULL") == 0
     today = datetime.date.today()
     later = (today + datetime.timedelta(days=3)).isoformat()
     path = made(jane, asked(jane, "offers", "1", child=["1"], day_of_letters=later))
-    assert hidden(jane.get(path), "day") == today.isoformat()
+    assert hidden(jane.get(path), "day") == f"{today:%-d %B %Y}"
     found = jane.post(f"{path}/record", {"day": "someday", "count": "1"})
     assert found.status_code == 400 and 'value="someday"' in found.text
     assert 'id="day-error"' in found.text
