@@ -33,7 +33,7 @@ RANK_KINDS = ("first", "second", "third", "lower", "none")
 @dataclasses.dataclass(frozen=True)
 class Task:
     """Something to be done: its title, what is known of it, its state in a few words with the
-    colour, and the screen where it is done with its values, or "" where nobody can do it yet.
+    colour, and the screen where it is done or seen with its values, or "" where there is none yet.
     """
 
     title: str
@@ -110,12 +110,13 @@ def of_draw(known: Known) -> Iterator[Task]:
     """The draw in progress."""
     if known.draw:
         said = f"{sentence(known.draw.in_words)} {known.next_step}"
+        page = "draws.one", {"number": str(known.draw.number)}
         if known.waits_for:
-            yield Task(f"{known.name} waits for {known.waits_for}", said, "Nothing for you", LATER)
+            name = f"{known.name} waits for {known.waits_for}"
+            yield Task(name, said, "Nothing for you", LATER, *page)
             return
         state = "Waits for you" if known.button else "In progress"
-        yield Task(known.button or f"See {known.draw.terms.numbers}", said, state, WAITING,
-                   "draws.one", {"number": str(known.draw.number)})
+        yield Task(known.button or f"See {known.draw.terms.numbers}", said, state, WAITING, *page)
 
 
 def of_set_up(register: Register, today: datetime.date) -> Iterator[Task]:
