@@ -189,7 +189,7 @@ def of_work(known: Known, register: Register) -> Iterator[Task]:
                    "Their rows came from files or forms, and are not in the register yet.",
                    texts.count(known.rows, "row"), WAITING, "applications.show")
     if known.withdrawn and not register.draws:
-        yield Task("Look at rows that were withdrawn", "They are not in the register. Put back"
+        yield Task("Look at rows that were set aside", "They are not in the register. Put back"
                    " what a family still wants.", texts.count(known.withdrawn, "row"), READY,
                    "applications.withdrawn")
 
