@@ -173,6 +173,24 @@ def test_the_first_screen_says_how_the_season_stands(office: Site) -> None:
         ["2", "1", "1", "2"], ["1", "1", "0", "2"]]
 
 
+def test_the_main_button_is_what_can_be_done_now(
+    office: Site, monkeypatch: pytest.MonkeyPatch,
+) -> None:
+    """While recording is paused it is what a draw waits for, if that is for the person."""
+    hal = office.browser("hal", "head")
+
+    def main() -> list[str]:
+        return re.findall(r'<a class="button primary"[^>]*>([^<]*)<', hal.get("/").text)
+
+    assert main() == ["Record answers"]
+    office.parts.desk.closed = lambda: "Recording is paused for draw 2 by hal since 10:02."
+    assert main() == [] and ">Record answers</a>" in hal.get("/").text
+    terms = Terms(2, None, 2, datetime.date(2025, 3, 10))
+    draw = Draw(2, terms, "lots", 1, None, None, "", {}, {}, "", "", "", "", (), None, "")
+    monkeypatch.setattr(season, "known", lambda *_: home.Known(draw, button="Try it on a copy"))
+    assert main() == ["Try it on a copy"]
+
+
 def test_what_colleagues_did_is_in_the_words_of_activity(office: Site) -> None:
     """Each by itself; several of one kind are one line, with their number."""
     jane = office.browser("jane", "officer")

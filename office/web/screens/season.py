@@ -126,9 +126,10 @@ def page(found: Register, draw: Draw | None) -> dict[str, Any]:
     }
 
 
-def acts(found: Register, now: Known) -> list[tuple[str, str]]:
-    """What is done most at this time of the season, with its screen; before it what the person has
-    to do of a draw in progress.
+def acts(found: Register, now: Known) -> list[tuple[str, str, str]]:
+    """What is done most at this time of the season, with its screen and the kind of its button;
+    before it what the person has to do of a draw in progress. The first is the main one, but while
+    recording is paused only what the draw waits for.
     """
     views = [("Add an application", "applications_add.show")]
     if found.draws:
@@ -136,9 +137,12 @@ def acts(found: Register, now: Known) -> list[tuple[str, str]]:
     elif found.children:
         views.append(("Record EHC plans", "answers.show"))
     links = [(words, address_of(view, {})) for words, view in views]
+    is_main = not parts().desk.closed()
     if now.draw and now.button:
         links.insert(0, (now.button, address_of("draws.one", {"number": str(now.draw.number)})))
-    return [it for it in links if it[1]]
+        is_main = True
+    return [(words, href, "second" if at or not is_main else "primary")
+            for at, (words, href) in enumerate(it for it in links if it[1])]
 
 
 def form_of(found: Register) -> str:
