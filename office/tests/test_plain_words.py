@@ -3,6 +3,7 @@ folder is missing or not writable, a disk is full, a program is not there. And n
 an officer does not use.
 """
 import ast
+import datetime
 import errno
 import io
 import os
@@ -240,7 +241,10 @@ def test_an_error_of_the_application_keeps_what_was_typed(
     assert found.status_code == 500 and "lives in the parish" in found.text
     assert "Something went wrong in the application" in Page(found.text).said()
     page = hal.get("/flags/")
-    assert page.status_code == 500 and is_plain(Page(page.text).said())
+    said = Page(page.text).said()
+    assert page.status_code == 500 and is_plain(said) and "you send it again" not in said
+    assert "Nothing was changed. Tell IT support" in said and "could not be made" in page.text
+    assert str(datetime.date.today().year) in said and "Not done" not in page.text
 
 
 def test_no_template_and_no_script_names_anything_of_the_machine() -> None:

@@ -20,6 +20,7 @@ from office import days, turns
 from . import failures, plain, uploads, wording
 from .desk import Away
 from .draws_terms import SENT
+from .history import now
 from .parts import Parts
 from .people import Person
 from .watch import Watch
@@ -73,8 +74,10 @@ NOBODY = threading.Lock()
 KEEPING = turns.Turn(threading.BoundedSemaphore(2), "others have sent much")
 ENDED = ("Your session has ended, and nothing was done. Sign in again, and then send once more what"
          " you typed: it is below.")
-BROKEN = ("Something went wrong in the application. Look whether what you sent is done, before you"
-          " send it again; and tell IT support.")
+WRONG = "Something went wrong in the application. "
+BROKEN = (f"{WRONG}Look whether what you sent is done, before you send it again; and tell IT"
+          " support.")
+UNMADE = "Nothing was changed. Tell IT support the address of the page and this moment: "
 EARLIER = ("This page was opened by another person, or before your password was changed, and"
            " nothing was done. What you typed is below: read it, and send it again if it still"
            " holds.")
@@ -359,6 +362,16 @@ def wants_page() -> bool:
     return "text/html" in flask.request.headers.get("Accept", "")
 
 
+def is_look() -> bool:
+    """Whether a page was only opened."""
+    return flask.request.method in ("GET", "HEAD")
+
+
+def unmade() -> str:
+    """What is said of a page that could not be made, now."""
+    return f"{UNMADE}{wording.moment(now())}."
+
+
 def failed(status: int, reason: str) -> tuple[str, int] | flask.Response:
     """The answer that says why something was not done."""
     if wants_page():
@@ -380,8 +393,9 @@ def on_files(error: Exception) -> AnyResponse | tuple[str, int]:
     """
     assert isinstance(error, (OSError, sqlite3.Error))
     flask.current_app.log_exception(sys.exc_info())
-    said = (f"The application cannot use its files now: {plain.reason(error)}. {plain.ADVICE}; and"
-            " look whether what you sent is done, before you send it again.")
+    said = f"The application cannot use its files now: {plain.reason(error)}. "
+    said += unmade() if is_look() else (
+        f"{plain.ADVICE}; and look whether what you sent is done, before you send it again.")
     # (507 is for a disk that is full, as by a file that a browser sends)
     status = 507 if getattr(error, "errno", None) in FULL else 503
     try:
@@ -394,7 +408,8 @@ def on_files(error: Exception) -> AnyResponse | tuple[str, int]:
 def on_http(error: HTTPException) -> AnyResponse | tuple[str, int]:
     """A status of HTTP, in words. Where the application has failed, what was typed is kept."""
     words = {404: "there is no such page", 405: "the page takes no such request",
-             401: "sign in first", 413: "that is too large", 500: BROKEN}
+             401: "sign in first", 413: "that is too large",
+             500: WRONG + unmade() if is_look() else BROKEN}
     status = error.code or 500
     if status == 500 and (kept := again(500, BROKEN)):
         return kept
