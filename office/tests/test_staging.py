@@ -30,10 +30,12 @@ from office.web import (
     draws_sheet, schema, staging_check, staging_commit, staging_form, store, uploads,
 )
 from office.web.people import Person
+from office.web.screens import applications_commit
 from office.web.staging_rows import COMMITTED, OPEN, SENDING, WITHDRAWN
 
 TOWN = [school("OAK", name="Oak School"), school("ELM", name="Elm School", east=500),
         child(7, name="Old Hand", east=9000), apply(7, ["ELM"])]
+CLOSING = datetime.date(2024, 10, 31)
 # the cells of rows in which nothing is wrong
 GOOD = [
     ["101", "Ada Abbot", "1000", "2000", "no", "", "OAK", "2024-10-01", "OAK;ELM", "PRIM7"],
@@ -148,7 +150,6 @@ def test_each_fault_is_found_and_corrected_at_its_cell(office: Site, screens: Sc
     assert not screens.see().wrong()
     page = screens.see("commit/")
     assert page.buttons.count("Add 12 applications") == 1
-    assert "Until the closing day families may change theirs" in " ".join(page.text.split())
     assert screens.store().status_code == 303
     assert has(office.parts.desk.now()) == expected(GOOD)
     assert len(imports(office)) == 1 and states(office) == {COMMITTED: 12}
@@ -156,6 +157,18 @@ def test_each_fault_is_found_and_corrected_at_its_cell(office: Site, screens: Sc
     entries = office.parts.store.rows("SELECT DISTINCT entry FROM staged_row")
     assert [it["entry"] for it in entries] == [number]
     assert not screens.see().rows()
+
+
+def test_families_may_change_theirs_until_the_closing_day(
+    screens: Screens, monkeypatch: pytest.MonkeyPatch
+) -> None:
+    """The question says so up to that day, and not after it."""
+    screens.add(("autumn.csv", lines(GOOD)))
+    for day, is_said in ((CLOSING, True), (CLOSING + datetime.timedelta(1), False)):
+        monkeypatch.setattr(applications_commit, "today", lambda day=day: day)
+        page = screens.see("commit/")
+        assert page.buttons.count("Add 12 applications") == 1
+        assert ("families may change theirs" in " ".join(page.text.split())) == is_said
 
 
 def test_the_counts_are_those_of_the_rows(office: Site, screens: Screens) -> None:
@@ -524,6 +537,7 @@ def test_a_row_is_withdrawn_and_brought_back(office: Site, screens: Screens) -> 
     row = screens.see().row("row 3 of a.csv")
     assert screens.withdraw(row).status_code == 303
     assert screens.see().rows() == [it for it in (1, 2, 3) if it != row]
+    assert "a.csv, 3 rows, 1 set aside" in " ".join(screens.see("").texts["sources"].split())
     assert "Set aside 1 row" in " ".join(screens.see("commit/").texts["left-out"].split())
     assert screens.bring_back(row).status_code == 303
     assert states(office) == {OPEN: 3}
@@ -609,7 +623,7 @@ def test_duplicates_are_side_by_side_and_merged(office: Site, screens: Screens) 
     for it in (at[2], at[4]):
         screens.browser.post("/applications/duplicates",
                              {"one": it, "one-version": 1, "what": "withdraw"})
-    assert "No row may be of the same child" in screens.see("duplicates").text
+    assert "No possible duplicates were found." in screens.see("duplicates").text
     screens.store()
     assert has(office.parts.desk.now()) == expected(
         [[wanted[it] for it in COLUMNS], GOOD[1]])

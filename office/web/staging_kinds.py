@@ -128,9 +128,8 @@ def twice(pair: Pair) -> tuple[str, str]:
 def fill(kind: Kind, table: Table, pairs: Mapping[int, Pair],
          taken: Callable[[], set[int]]) -> None:
     """Adds to a kind an example, and the corrections that are likely."""
-    row, first = kind.found[0]
-    written = sorted({it.item if it.fault in OF_ITEM else it.value for _, it in kind.found} - {""})
-    kind.hint = f"as {texts.shown(written[0])} in {row.where}" if written else f"in {row.where}"
+    first = kind.found[0][1]
+    kind.hint = example(kind)
     fault, many = first.fault, texts.count(len(kind.rows), "row")
     if fault == "school":
         schools = table.register.schools.values() if table.register else ()
@@ -156,6 +155,17 @@ def fill(kind: Kind, table: Table, pairs: Mapping[int, Pair],
         kind.mends = list(of_twice(kind, pairs, taken))
     elif first.column == "child" and fault == "missing":
         kind.mends = list(numbered([row for row, _ in kind.found], taken, "each"))
+
+
+def example(kind: Kind) -> str:
+    """An example of a kind, and of how many different values it is one."""
+    written = [(it.item if it.fault in OF_ITEM else it.value, row) for row, it in kind.found]
+    values = {value for value, _ in written if value}
+    if not values:
+        return f"in {kind.found[0][0].where}"
+    value, row = next(it for it in written if it[0])
+    many = f"{len(values):,} different values, " if len(values) > 1 else ""
+    return f"{many}as {texts.shown(value)} in {row.where}"
 
 
 def done_of(words: str) -> str:
@@ -211,8 +221,7 @@ def of_days(kind: Kind, table: Table) -> tuple[list[Mend], str]:
         read = days.readings(fields.trimmed(it.staged.cells["day"]))
         if it.staged.file in files and len(read) == 1 and "/" in it.staged.cells["day"]:
             others[days.uk_reading(it.staged.cells["day"]) in read] += 1
-    row, first = kind.found[0]
-    hint = f"as {first.value} in {row.where}"
+    hint = example(kind)
     if others:
         said = [f"{texts.count(others[is_uk], 'other day')} can only be {words}"
                 for is_uk, words in ((True, "day/month/year"), (False, "month/day/year"))

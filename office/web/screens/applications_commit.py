@@ -1,6 +1,8 @@
 """The staging table is stored in the register: what would be stored is shown whole, and is
 confirmed by a button that names how much it is.
 """
+import datetime
+
 import flask
 from register_files import Refused
 from werkzeug.wrappers import Response
@@ -16,6 +18,11 @@ screen = flask.Blueprint("applications_commit", __name__, url_prefix="/applicati
 Answer = str | Response | tuple[str, int]
 
 
+def today() -> datetime.date:
+    """The day of today."""
+    return datetime.date.today()
+
+
 def page(text: str = "", refused: Staged | None = None) -> Answer:
     """What would be stored, with what came of an attempt."""
     unknown, found, said = tools().committing.unknown(), None, [text] if text else []
@@ -27,7 +34,8 @@ def page(text: str = "", refused: Staged | None = None) -> Answer:
         "applications_commit.html", said=" ".join(said), found=found, unknown=unknown,
         closed=parts().desk.closed(), refused=refused, columns=staging_page.columns(),
         title_of=staging_page.title_of, names=names_of(found) if found else [],
-        aside=staging_kinds.aside(found.wrong) if found else None)
+        aside=staging_kinds.aside(found.wrong) if found else None,
+        may_change=found is not None and today() <= found.register.days[0])
     return body, 409 if said else 200
 
 
