@@ -423,7 +423,7 @@ RANK = check_of("adm_rank")
     ("exit 0", "crate adm_types", "crate adm_rank: no line 'exit 0'"),
     ("exit 0", "rt: this fails the verdict\nexit 0", "ends with the line logic=proved"),
     # lines of another crate
-    ("crate adm_rank", "crate adm_fairness", "one check of each of adm_command_laws, adm_commands"),
+    ("crate adm_rank", "crate adm_fairness", "one check of each of adm_commands, adm_cutoffs"),
     ("crate adm_rank", "crate adm_types", "not so of adm_rank"),
     (check_of("adm_types") + "\n", "", "not so of adm_types"),
     ("fn adm_rank::keys::f1", "fn adm_types::keys::f1", "of another crate than those above"),
@@ -987,7 +987,8 @@ def test_each_rule_of_the_code_has_its_paragraphs(promises: typing.Any) -> None:
     ("    adm_command_laws::no_better_list\n", "", "no clause, or 'limit'"),
     ("    adm_command_laws::no_better_list\n", "    adm_command_laws::no_best_list\n",
      "there is no clause adm_command_laws::no_best_list"),
-    ("    adm_fairness::no_loss_by_raise\n", "    adm_schema::insert: text\n", "there is no clause"),
+    ("    adm_fairness::no_loss_by_raise\n", "    adm_schema::insert: text\n",
+     "there is no clause"),
     ("Round.AreOutcomes, Stability.IsBest\n", "Round.AreOutcome\n",
      "reaches no definition Round.AreOutcome"),
 ])

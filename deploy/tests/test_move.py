@@ -157,6 +157,7 @@ def test_a_register_is_moved_away_and_brought_back(
         assert typed("move", NAME, "--away", str(disk), "--yes") == 0
     assert here(machine) == {} and not list(machine.glob("*/*.moved"))
     assert not list(machine.glob(f"*/admissions-{NAME}"))
+
     def call(*words: object) -> object:
         if words[0] == shutil.which("cp") and "etc" in str(words[-1]):
             raise KeyboardInterrupt

@@ -264,7 +264,8 @@ def dependencies(package: str) -> set[str]:
 def test_the_package_depends_on_what_a_site_needs() -> None:
     """Whatever set-up looks for, and rsync for second copies; none of what makes PDF."""
     found = dependencies("admissions")
-    needed = {*serving.NEEDED.values(), *(libraries.PACKAGES[it] for it in serving.MODULES), "rsync"}
+    imported = {libraries.PACKAGES[it] for it in serving.MODULES}
+    needed = {*serving.NEEDED.values(), *imported, "rsync"}
     assert needed <= found and "python3-jinja2" in found
     assert not {libraries.PACKAGES[it] for it in libraries.LARGE} & found
 

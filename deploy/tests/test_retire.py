@@ -1,5 +1,7 @@
 """admissions-admin retire: after it no file of a made-up machine has a child's name, in whatever
-form it was stored; what is refused, what goes on after a kill, and what remains at the second place."""
+form it was stored; what is refused, what goes on after a kill, and what remains at the second
+place.
+"""
 import argparse
 import contextlib
 import datetime
