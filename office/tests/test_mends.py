@@ -149,7 +149,7 @@ def test_a_button_says_what_it_did_and_takes_it_back(office: Site, screens: Scre
     screens.add(("a.csv", lines(*rows)))
     before = stored(office)
     seen = screens.see("")
-    assert "Days that can be read in two ways 3 different values, as \"04/09/2024\" in row 2 of" \
+    assert "Days that can be read in two ways 3 different values, as 04/09/2024 in row 2 of" \
         " a.csv; 1 other day can only be day/month/year 3 rows" in kinds(seen)
     assert len(seen.rows()) == 3
     done = screens.press("Read all as day/month/year")

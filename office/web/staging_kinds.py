@@ -157,7 +157,7 @@ def fill(kind: Kind, table: Table, pairs: Mapping[int, Pair],
         kind.mends = list(numbered([row for row, _ in kind.found], taken, "each"))
 
 
-def example(kind: Kind) -> str:
+def example(kind: Kind, shown: Callable[[str], str] = texts.shown) -> str:
     """An example of a kind, and of how many different values it is one."""
     written = [(it.item if it.fault in OF_ITEM else it.value, row) for row, it in kind.found]
     values = {value for value, _ in written if value}
@@ -165,7 +165,7 @@ def example(kind: Kind) -> str:
         return f"in {kind.found[0][0].where}"
     value, row = next(it for it in written if it[0])
     many = f"{len(values):,} different values, " if len(values) > 1 else ""
-    return f"{many}as {texts.shown(value)} in {row.where}"
+    return f"{many}as {shown(value)} in {row.where}"
 
 
 def done_of(words: str) -> str:
@@ -221,7 +221,7 @@ def of_days(kind: Kind, table: Table) -> tuple[list[Mend], str]:
         read = days.readings(fields.trimmed(it.staged.cells["day"]))
         if it.staged.file in files and len(read) == 1 and "/" in it.staged.cells["day"]:
             others[days.uk_reading(it.staged.cells["day"]) in read] += 1
-    hint = example(kind)
+    hint = example(kind, str)
     if others:
         said = [f"{texts.count(others[is_uk], 'other day')} can only be {words}"
                 for is_uk, words in ((True, "day/month/year"), (False, "month/day/year"))
