@@ -346,6 +346,27 @@ def test_rows_of_one_kind_and_those_that_are_set_aside(office: Site, screens: Sc
     assert len(stored(office)) == 4
 
 
+def test_each_row_that_is_set_aside_says_why(screens: Screens) -> None:
+    """What is wrong in it, also beside the rows of the table; and no cell of it is a field. Its
+    screen has these rows alone.
+    """
+    screens.add(("a.csv", lines(
+        row(101, "", day="31/11/2024"), row(102, "Ben Brook"), row(103, "Cleo Carver"),
+        row(103, "Dov Drake", preferences="ELK"))))
+    for number in (1, 2, 4):
+        screens.withdraw(number)
+    seen = screens.see("withdrawn")
+    assert seen.rows() == [1, 2, 4] and not any(seen.values(it) for it in seen.rows())
+    assert seen.said(1, "name") == "The name is missing."
+    assert seen.said(1, "day") == "There is no such day."
+    assert seen.said(4, "child") == "Also in row 4 of a.csv."
+    assert seen.said(4, "preferences") == "There is no school ELK."
+    said = "No error was found in it."
+    assert [said in seen.texts[f"row-{it}"] for it in seen.rows()] == [False, True, False]
+    assert not {"kinds", "next", "sources"} & {*seen.texts}
+    assert {"next", "sources"} <= {*screens.see("?show=aside").texts}
+
+
 def test_only_wrong_cells_are_fields(screens: Screens) -> None:
     """A right cell is text as it is read, and becomes a field by the row's link."""
     screens.add(("a.csv", lines(row(101, "Ada Abbot", day="20/10/2024", preferences="oak;OAK"))))

@@ -165,6 +165,11 @@ class Table:
                 if row.child in register.children and not self.has_error(row.number):
                     self.see_known(row, register)
 
+    def beside(self, rows: Iterable[Staged]) -> "Table":
+        """These rows, and after them others that are not in the table."""
+        return Table([*self.rows.values(), *(checked(it, self.register, self.words)
+                                             for it in rows)], self.register, self.words)
+
     def add(self, row: int, column: str, value: str, text: str, kind: str = ERROR,
             written: str | None = None, fault: str = "") -> None:
         """Adds a finding."""

@@ -11,7 +11,7 @@ from office.fields import Likely
 
 from . import staging_sent
 from .staging_check import Table, said
-from .staging_rows import Staged
+from .staging_rows import WITHDRAWN, Staged
 from .staging_sent import Refusal
 
 PAGE = 50
@@ -172,7 +172,7 @@ def cells_of(row: Staged, table: Table | None, shared: Mapping[tuple[object, ...
         here = [it for it in findings if it.column == column and not (
             it.kind == FIXED and it.change in shared)]
         wrong = [it for it in here if it.kind == ERROR]
-        is_field = is_open or bool(wrong)
+        is_field = row.state != WITHDRAWN and (is_open or bool(wrong))
         text = text_of(column, read[column], words) if read.get(column) else stored
         if not checked and fields.TRUTH.get(stored.strip().lower()) == "no":
             text = ""
@@ -213,6 +213,8 @@ def line_of(row: Staged, table: Table | None, shared: Mapping[tuple[object, ...]
     """A row as it is shown."""
     findings = table.findings.get(row.id, []) if table else []
     whole = [(CLASSES[it.kind], said_of(it)) for it in findings if it.column not in row.cells]
+    if table and row.state == WITHDRAWN and not table.has_error(row.id):
+        whole.append((CLASSES[FIXED], "No error was found in it."))
     if refused:
         whole = [(CLASSES[ERROR], f"Not saved: {refused.why}."), *whole]
     cells = {it.column: it for it in cells_of(row, table, shared, is_open, refused)}
@@ -242,8 +244,9 @@ def has_text(row: Staged, find: str) -> bool:
 
 def page_of(table: Table, away: Sequence[Staged], asked: Asked, number: int,
             first: Sequence[int] = (), refused: Mapping[int, Refusal] | None = None) -> Page:
-    """A page of the table, or of the rows that were set aside: the rows with errors first. Those
-    that were just saved, or could not be, are before all others, so that they are not looked for.
+    """A page of the table, or of the rows that were set aside, each of which is checked beside the
+    table: the rows with errors first. Those that were just saved, or could not be, are before all
+    others, so that they are not looked for.
     """
     rows = list(away) if asked.show == ASIDE else [
         it.staged for at, it in table.rows.items() if is_in(at, table, asked.show)]
@@ -257,6 +260,8 @@ def page_of(table: Table, away: Sequence[Staged], asked: Asked, number: int,
     pinned = [table.rows[it].staged for it in dict.fromkeys(first) if it in table.rows]
     shown = [*pinned, *(it for it in shown if it.id not in first)]
     shared = table.shared()
+    if asked.show == ASIDE:
+        table = table.beside(it for it in shown if it.id not in table.rows)
     lines = [line_of(it, table if it.id in table.rows else None, shared, it.id in asked.edited,
                      (refused or {}).get(it.id)) for it in shown]
     return Page(lines, len(meant), number, last)
