@@ -59,6 +59,9 @@ def test_a_child_is_shown_with_its_place_its_list_and_its_data(office: Site) -> 
     assert page.by_id["place"] == (
         "The child was offered a place at Beta on 3 March 2025. There is no answer yet.")
     assert page.by_id["deadline"] == "A reminder is due from 18 March 2025 on."
+    assert page.by_id["stays"] == (
+        "If the family accepts: the child stays on the waiting list of Alpha: a later draw may"
+        " offer a place there, which ends this one.")
     assert page.tables["list"][1:] == [
         ["1. A Alpha", "Waiting list: 1 of 2", "ranked by distance alone 300 metres",
          "ranked by distance alone 200 metres", "The last child admitted lives 100 metres nearer."],
@@ -185,6 +188,23 @@ def test_each_action_is_asked_by_name(
     again = press(jane, path, page, button)
     assert again.status_code == 409 and "jane recorded " in Page(again.text).said()
     assert sent(office) == [command]
+
+
+def test_an_accept_says_on_which_waiting_lists_the_child_stays(office: Site) -> None:
+    """And the child does; one that waits nowhere has that said."""
+    jane = office.browser("jane")
+    page = Page(jane.get("/children/3/accept").text)
+    assert page.by_id["becomes"].endswith(
+        "The child stays on the waiting list of Alpha: a later draw may offer a place there,"
+        " which ends this one.")
+    act(jane, "/children/3/accept", "Accept Beta for Cyd <b>Cole</b>")
+    page = Page(jane.get("/children/3").text)
+    assert page.tables["list"][1][:2] == ["1. A Alpha", "Waiting list: 1 of 2"]
+    assert page.tables["list"][2][:2] == ["2. B Beta", "accepted"]
+    assert "stays" not in page.by_id
+    assert "stays" not in Page(jane.get("/children/1").text).by_id
+    assert Page(jane.get("/children/1/accept").text).by_id["becomes"].endswith(
+        "The child is on no waiting list.")
 
 
 def test_a_withdrawal_needs_a_reminder(office: Site, monkeypatch: pytest.MonkeyPatch) -> None:

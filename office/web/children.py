@@ -83,6 +83,17 @@ def waiting(register: Register, number: int) -> list[str]:
             ] if application else []
 
 
+def stays(register: Register, number: int) -> str:
+    """On which waiting lists a child stays that accepts its offer: an accept changes none of them.
+    """
+    names = [register.schools[code].name for code in waiting(register, number)]
+    if not names:
+        return "The child is on no waiting list."
+    lists = "list" if len(names) == 1 else "lists"
+    return (f"The child stays on the waiting {lists} of {texts.listed(names)}: a later draw may"
+            " offer a place there, which ends this one.")
+
+
 def see_possible(register: Register, number: int, name: str, code: str) -> None:
     """Refuses what cannot be recorded of a child now."""
     now = possible(register, number)
@@ -118,8 +129,10 @@ def question(
         warnings += day_warnings(register, command, day, today)
         warnings += last_day_warning(register.places[number], day)
     words = {"school": school.name, "child": child.name}
-    return Question(action, command, filled(action.button, words), action.becomes_on(day),
-                    tuple(warnings))
+    becomes = action.becomes_on(day)
+    if name == "accept":
+        becomes += f" {stays(register, number)}"
+    return Question(action, command, filled(action.button, words), becomes, tuple(warnings))
 
 
 def filled(text: str, words: Mapping[str, str]) -> str:

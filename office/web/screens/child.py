@@ -9,7 +9,7 @@ from register_files import Refused
 from werkzeug.wrappers import Response
 
 from office import criteria, days, texts
-from office.model import WAITS, Register
+from office.model import OFFERED, WAITS, Register
 
 from .. import (
     children, corrections, explanations, flags, list_moves, pictures, reasons, records,
@@ -120,6 +120,7 @@ def child_page(number: int, said: str = "", status: int = 200) -> Answer:
         "child.html", **shown(register, number), **drawn(register, number), said=said,
         is_bad=status != 200, namesakes=children.namesakes(register, register.children[number]),
         tags=children.tags_of(register, number, day), waits=children.waiting(register, number),
+        stays=children.stays(register, number) if place and place.kind == OFFERED else "",
         moved=moved(register, number) if part() == POSITIONS else [],
         point=records.point_of(history, number), actions=actions,
         records=records.of_child(history, register, number, names, person().may(NOTES)),
