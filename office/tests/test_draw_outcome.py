@@ -16,7 +16,9 @@ from draw_site import (
 )
 from pages import Page
 
+from office.model import Cutoff
 from office.web import people
+from office.web.draws_outcome import OfSchool, last_in_words
 
 CODES = ("ASH", "BAY", "CLY", "DUN")
 # more children than a page has; 131 is prime, so that each has a lot of its own
@@ -107,6 +109,8 @@ def test_the_flow_and_the_places_are_those_of_the_register(town: Machine) -> Non
             register, draw = shown.read("/register"), shown.read("/draw/1")
             has = {it["child"]: it["school"] for it in register["draws"][0]["outcomes"]}
             flow, names = flow_of(register), {it: f"{it} School" for it in CODES}
+            of_before = "A school’s own page is of before this round, until it is held."
+            assert (of_before in shown.page.by_id["schools"]) == (shown is before)
             tables = shown.page.tables
             rows = {it[0]: [int(one) for one in it[1:]] for it in tables["flow-table"][1:]}
             every = rows.pop("All schools")
@@ -170,16 +174,37 @@ def test_children_to_look_at_are_found_by_group(town: Machine) -> None:
         page = " ".join(shown.at("").by_id["draw"].split())
         assert re.search(r"You confirmed round 1 at [0-9:]{5}\. hal holds it next\.", page)
         assert "It waits for a head of the office: hal." in page and "Waits for hal." in page
+        assert "Only a head of the office holds round 1." in page
         home = shown.jane.get("/").text
         assert "Round 1 waits for hal" in home and "Hold round 1" not in home
         assert "Hold round 1" in office.browser("hal").get("/").text
         assert "What was checked" in page and "119 children take part." in page
         assert "No change since the applications were stored" in page
-        assert "<details open><summary>The audit in full" in shown.at("audit=1").text
+        audit = shown.at("audit=1").text
+        assert "<details open><summary>The audit in full" in audit
+        assert audit.count("Class: the place of the criterion that the child met") == 1
         assert "Go to it" not in page and re.search(r"Copy 1, made .* before it", page)
         office.parts.draws.send(HAL, number, version(office, number))
         assert said not in shown.jane.get("/children/1").text
         assert "119 children take part." in " ".join(shown.at("").by_id["checked"].split())
+
+
+def test_who_may_not_confirm_reads_who_does(town: Machine) -> None:
+    """The text names what only others do."""
+    with town.office() as office:
+        number = rehearsed(office)
+        page = office.browser("rita", "reader").get(f"/draws/{number}").text
+        assert "Only a head of the office or an officer confirms round 1." in page
+
+
+def test_the_distance_of_the_last_place_is_said_or_withheld(town: Machine) -> None:
+    """That of a child that is looked after is withheld, and the text says so."""
+    with town.office() as office:
+        register = office.parts.desk.register()
+        of_school = OfSchool("BAY", 20, 0, 0, 0, waiting=1)
+        assert [last_in_words(register, of_school, Cutoff(it, 1300, 1), {}) for it in (0, 1)] == [
+            "Looked after, or previously looked after, distance withheld",
+            "With a brother or sister at the school, 1,300 m"]
 
 
 def test_a_rehearsal_of_an_earlier_release_is_shown(town: Machine) -> None:

@@ -189,8 +189,8 @@ def last_in_words(
         return ""
     school = register.schools[it.school]
     words = criteria.in_brief(school, last.number, flags)
-    said = "" if criteria.is_private(school, last.number) else f", {last.metres:,} m"
-    return f"{words[:1].upper()}{words[1:]}{said}"
+    said = "distance withheld" if criteria.is_private(school, last.number) else f"{last.metres:,} m"
+    return f"{words[:1].upper()}{words[1:]}, {said}"
 
 
 def why_not(

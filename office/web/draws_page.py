@@ -35,6 +35,8 @@ from .wording import moment, sentence
 AGAIN = "go-on"
 # those of who may confirm draws; the others are of who may hold them
 OF_SECOND = ("confirm", AGAIN)
+# what only some people do, by the request
+DOES = {"close": "pauses recording for", "confirm": "confirms", "send": "holds", AGAIN: "continues"}
 # what a button says of the draws that it concerns
 NAMING = (CONFIRMED, SENDING, AUDITED)
 # in these a draw is still to be confirmed
@@ -98,7 +100,9 @@ def why_not(draw: Draw, state: str, register: Register | None) -> str:
         return f"{said}. Somebody else confirms it."
     action = action_of(draw, state)
     if action and not who.may(CONFIRM if action in OF_SECOND else DRAW):
-        return "Your role does not do this."
+        officer = " or an officer" if action in OF_SECOND else ""
+        name = draws_words.name_of(draw.terms, register)
+        return f"Only a head of the office{officer} {DOES[action]} {name}."
     return ""
 
 
