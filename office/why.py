@@ -7,6 +7,7 @@ it by what it saw.
 """
 import collections
 import dataclasses
+import re
 from collections.abc import Iterator
 
 from register_files import Refused
@@ -47,18 +48,18 @@ AMENDED = ("The data of this child were changed after the draw: those that the d
 NO_REASON = ("the data that the register has now give no reason: those of this child, or of one"
              " that was admitted, were changed after the draw")
 # why a child takes no part at a school of its list
-TURNED_DOWN = "its family had declined the place there, or not answered its offer in time"
-LEFT = "its family had left the waiting list there"
-EITHER = ("its family had declined the place there, not answered its offer in time, or left the"
+TURNED_DOWN = "the family had declined the place there, or not answered its offer in time"
+LEFT = "the family had left the waiting list there"
+EITHER = ("the family had declined the place there, not answered its offer in time, or left the"
           " waiting list")
 
 
 @dataclasses.dataclass(frozen=True)
 class School:
     """A school that a child wanted in a draw, and of which it has no place: as which preference;
-    why it took no part there, if so; else the places, how many wanted one, how many were admitted,
-    and by which classes if that is known; how the last of them ranks, and how the child does; and
-    what decided, if the program says it.
+    why it took no part there, if so; else the places, how many wanted one, how many of these put
+    it first, if that is known, how many were admitted, and by which classes if that is known; how
+    the last of them ranks, and how the child does; and what decided, if the program says it.
     """
 
     code: str
@@ -68,6 +69,7 @@ class School:
     plans: int = 0
     kept: int = 0
     wanted: int = 0
+    firsts: int | None = None
     admitted: int = 0
     classes: dict[int, int] | None = None
     last: Cutoff | None = None
@@ -161,10 +163,19 @@ def counted(held: Held, number: int, found: School) -> School:
     return dataclasses.replace(
         found, pan=school.pan, plans=school.plans,
         kept=sum(has == code for has in outcomes.values()) - len(admitted),
-        wanted=sum(there == code for there, _ in drawn.lots), admitted=len(admitted),
+        wanted=sum(there == code for there, _ in drawn.lots), firsts=firsts_of(held, code),
+        admitted=len(admitted),
         classes=classes_of(register, code, admitted), last=drawn.cutoffs.get(code),
         key=Cutoff(*register.rank(code, number), drawn.lots[code, number]),
         decided=drawn.refusals.get((code, number)))
+
+
+def firsts_of(held: Held, code: str) -> int | None:
+    """How many of those who want a school put it first, unless an application has ended."""
+    wanted = [held.register.applications.get(child) for there, child in held.drawn.lots
+              if there == code]
+    found = [it.preferences[0] for it in wanted if it]
+    return found.count(code) if len(found) == len(wanted) else None
 
 
 def classes_of(register: Register, code: str, children: list[int]) -> dict[int, int] | None:
@@ -243,11 +254,24 @@ def sentences_of(found: School, school: model.School, view: View) -> Iterator[st
     if is_full(found) and "admitted" in view.hidden:
         admitted = "As many were admitted as places were left"
     shown = found.classes if view.is_office else None
-    yield (f"{wanted} wanted a place there in this round, this child among them."
-           f" {admitted}{':' if shown else '.'}")
+    yield (f"{wanted} listed the school in this round, this child among them."
+           f"{firsts_in_words(found, view)} {admitted}{':' if shown else '.'}")
     for number, count in (shown or {}).items():
         yield f"- {view.words(number)}: {count:,}"
     yield from compared(found, view)
+
+
+def firsts_in_words(found: School, view: View) -> str:
+    """How many put the school first, where that is known: to a family, if neither the others who
+    did nor those who did not are a small number.
+    """
+    if found.firsts is None:
+        return ""
+    others = found.firsts - (found.preference == 1)
+    is_small = any(map(withheld.is_small, (others, found.wanted - 1 - others)))
+    if not view.is_office and ("others" in view.hidden or is_small):
+        return ""
+    return f" {found.firsts:,} of them put it first."
 
 
 def taken_of(found: School, view: View) -> Iterator[str]:
@@ -266,7 +290,7 @@ def compared(found: School, view: View) -> Iterator[str]:
     is_hidden = last is not None and view.is_private(last)
     if last and is_hidden:
         view.has_hidden = True
-        yield f"The last child admitted: {view.words(last.number)}; its distance is withheld."
+        yield f"The last child admitted: {view.words(last.number)}; the distance is withheld."
     elif last:
         lot = f", lot {last.lot:,}" if is_by_lot else ""
         yield f"The last child admitted: {view.ranked(last)}{lot}."
@@ -307,10 +331,10 @@ def nowhere(found: Why) -> str:
     if not found.application or not found.is_whole:
         return "The child got no place."
     if not there:
-        return "The child got no place: it took part at no school on its list."
-    which = "each school on its list"
+        return "The child got no place, and took part at no school on the list."
+    which = "each school on the list"
     if there < len(found.schools):
-        which += " at which it took part"
+        which += " at which the child took part"
     if any(it.decided == NOBODY for it in found.schools):
         return f"The child got no place: {which} was full."
     return f"The child got no place: {which} was filled by children who rank before it there."
@@ -344,21 +368,21 @@ def opening(found: Why) -> Iterator[str]:
     else:
         yield nowhere(found)
     if found.takes_part and not found.application:
-        yield ("Its application has ended since, by an EHC plan, so the register does not show how"
-               " it ranked.")
+        yield ("The application has ended since, by an EHC plan, so the register does not show how"
+               " the child ranked.")
 
 
 def got(found: Why, code: str) -> Iterator[str]:
     """The sentences about the place that a child got."""
     school, application = named(found.register, code), found.application
-    which = f", its {nth(application.preferences.index(code) + 1)}" if application else ""
+    which = f", the {nth(application.preferences.index(code) + 1)}" if application else ""
     if code == found.had:
-        yield f"The child keeps its place at {school}{which}."
+        yield f"The child keeps the place at {school}{which}."
     else:
         yield f"The child was offered {school}{which}."
         if found.had:
             had = named(found.register, found.had)
-            yield f"Its place at {had} ended, as it prefers the new one."
+            yield f"The place at {had} ended, as the new school is higher on the list."
     if application and not found.schools and not found.held.draw.school:
         yield "No school was preferred to it."
 
@@ -373,7 +397,7 @@ def no_part(register: Register, draw: Draw, number: int) -> str:
     place, application = register.places.get(number), register.applications.get(number)
     what = "round" if draw.round else "fill"
     if place and place.kind == PLAN:
-        return (f"The child has a place at {named(register, place.school)} by its EHC plan, and"
+        return (f"The child has a place at {named(register, place.school)} by an EHC plan, and"
                 f" took no part in the {what}.")
     if application is None:
         return f"The child has no application, and took no part in the {what}."
@@ -398,20 +422,30 @@ class Section:
     missing: str = ""
 
 
+def to_family(said: str) -> str:
+    """A sentence about the child as its family reads it."""
+    return re.sub(r"\b([Tt])(?:he child(?! that)|his child)\b",
+                  lambda it: "Your child" if it[1] == "T" else "your child", said)
+
+
 def sections_of(found: Why, is_office: bool = False,
                 flags: dict[int, str] | None = None) -> Iterator[Section]:
     """The whole explanation, for the office or for the family: for whom and about whom it is, what
     the child got, and each school. `flags` are the office's words for flags.
     """
+    def say(said: str) -> str:
+        return said if is_office else to_family(said)
+
     yield Section([FOR_OFFICE if is_office else FOR_FAMILY, *heading(found)])
-    yield Section([*opening(found), *([AMENDED] if found.is_amended else [])])
+    yield Section([*map(say, opening(found)), *([say(AMENDED)] if found.is_amended else [])])
     meanings, is_fill = dict[str, None](), bool(found.held.draw.school)
     for it in found.schools:
         school = found.register.schools[it.code]
         view = View(it, school, is_office, flags)
         made = sentences_of_fill if is_fill else sentences_of
         missing = "" if it.because or it.decided or is_fill else NO_REASON
-        yield Section(list(made(it, school, view)), it.code, missing)
+        name, *others = made(it, school, view)
+        yield Section([name, *map(say, others)], it.code, missing)
         meanings |= {text: None for text, is_said in (
             (MEANING, view.has_withheld), (MEANING_OF_DISTANCE, view.has_hidden)) if is_said}
     if meanings:

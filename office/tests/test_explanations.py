@@ -50,8 +50,9 @@ def test_the_office_reads_all_numbers(office: Site) -> None:
     page = Page(office.browser("rita").get("/children/3/why/1/office").text)
     assert page.by_id["for"].startswith("For the office alone")
     for said in (
-        "The child was offered Beta (B), its second preference.",
-        "4 children wanted a place there in this round, this child among them. 2 were admitted:",
+        "The child was offered Beta (B), the second preference.",
+        "4 children listed the school in this round, this child among them. 4 of them put it first."
+        " 2 were admitted:",
         "<li>ranked by distance alone: 2</li>",
         f"The last child admitted: {WORDS}, 200 metres.", f"This child: {WORDS}, 300 metres.",
         "the distance decided: the other child lives nearer to the school.",
@@ -65,13 +66,13 @@ def test_the_family_reads_no_small_number_and_no_other_child(office: Site) -> No
     rita = office.browser("rita")
     page = Page(rita.get("/children/4/why/1/family").text)
     assert page.by_id["for"].startswith("For the family of the child: small numbers are withheld")
-    assert "Some children wanted a place there" in page.by_id["school-A"]
-    assert f"This child: {WORDS}, 400 metres." in page.by_id["school-A"]
+    assert "Some children listed the school" in page.by_id["school-A"]
+    assert f"Your child: {WORDS}, 400 metres." in page.by_id["school-A"]
     assert "class " not in page.by_id["school-A"]
-    assert "2 ranked" not in page.text and "4 children wanted" not in page.text
+    assert "2 ranked" not in page.text and "4 children listed" not in page.text
     for name in ("Abel", "Bell", "Cole", "hild 1", "hild 2", "hild 3"):
         assert name not in page.text, name
-    assert "each school on its list was filled by children who rank before it there" in page.text
+    assert "each school on the list was filled by children who rank before it there" in page.text
 
 
 def test_who_took_no_part_is_explained_too(office: Site) -> None:
@@ -105,7 +106,7 @@ def test_both_are_on_paper(office: Site, tmp_path: pathlib.Path) -> None:
         'attachment; filename="why-child-3-draw-1-family.pdf"')
     family = printed(found.data, tmp_path)
     assert "Child 3 Cyd <b>Cole</b>" in family and "For the family" in family
-    assert "Some children wanted a place there" in family and "Ddewi" in family
+    assert "Some children listed the school" in family and "Ddewi" in family
     office_one = printed(jane.get("/children/3/why/1/office/pdf").data, tmp_path)
     assert "ranked by distance alone: 2" in office_one
 
@@ -160,8 +161,9 @@ def test_data_of_now_may_give_no_reason(tmp_path: pathlib.Path) -> None:
         office.add("jane", "officer")
         jane, path = office.browser("jane"), office.parts.config.copies / COPY
         page = Page(jane.get("/children/3/why/1/family").text)
-        assert f"This child: {WORDS}, 300 metres." in page.text and "/pdf" in page.text
-        assert "The data of this child were changed after the draw" in page.text
+        assert f"Your child: {WORDS}, 300 metres." in page.text and "/pdf" in page.text
+        assert "part=positions#kept" in page.text
+        assert "The data of your child were changed after the draw" in page.text
         os.remove(path)
         page = Page(jane.get("/children/3/why/1/family").text)
         said = "There is no reason: the data that the register has now give no reason"
@@ -183,10 +185,10 @@ def test_a_fill_is_explained(tmp_path: pathlib.Path) -> None:
         words = " ".join(Page(jane.get("/children/4").text).by_id["why"].split())
         assert words.startswith("Fill of A (draw 2), 14 April 2025: why not Alpha Round 1,")
         page = Page(jane.get("/children/4/why/2/family").text)
-        assert "Some children waited for the vacancy, this child among them." in page.text
+        assert "Some children waited for the vacancy, your child among them." in page.text
         assert f"The child that was offered the place: {WORDS}." in page.text
-        assert f"This child: {WORDS}, 400 metres." in page.text and "300 metres" not in page.text
+        assert f"Your child: {WORDS}, 400 metres." in page.text and "300 metres" not in page.text
         assert "what-if/2" not in page.text and "Cole" not in page.text
-        assert "The child was offered Alpha (A), its first preference." in (
+        assert "Your child was offered Alpha (A), the first preference." in (
             jane.get("/children/3/why/2/family").text)
         assert jane.get("/children/4/what-if/2").status_code == 404

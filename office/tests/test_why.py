@@ -242,12 +242,12 @@ def test_an_outcome_that_is_not_of_the_data(tmp_path: Path) -> None:
     }
     lists, lots = {1: ["A"], 2: ["A"]}, {("A", 1): 5, ("A", 2): 3}
     write(tmp_path / "before.db", schools, children, lists)
-    filled = ": each school on its list was filled by children who rank before it there."
+    filled = ": each school on the list was filled by children who rank before it there."
     no_reason = "THERE IS NO REASON: the data that the register has now give no reason"
     cases: list[tuple[dict[int, str | None], str, str, bool]] = [
         ({1: "A", 2: None}, filled, "the distance decided", True),
         ({1: None, 2: "A"}, ".", no_reason, False),
-        ({1: None, 2: None}, ": each school on its list was full.", "0 were admitted.", False),
+        ({1: None, 2: None}, ": each school on the list was full.", "0 were admitted.", False),
     ]
     for outcomes, nowhere, part, is_of_copy in cases:
         write(
@@ -259,7 +259,7 @@ def test_an_outcome_that_is_not_of_the_data(tmp_path: Path) -> None:
         )
         number, after = 2 if outcomes[1] else 1, tmp_path / "after.db"
         text = said(after, number)
-        assert part in text and f"\nThe child got no place{nowhere}\n" in text
+        assert part in text and f"\nYour child got no place{nowhere}\n" in text
         if is_of_copy:
             assert said(after, number, copy=tmp_path / "before.db")
         else:
@@ -323,11 +323,12 @@ def test_the_sentences_of_a_family(tmp_path: Path) -> None:
         "Admission 2025 secondary, round 1 of 3 March 2025",
         "Child 3 C3",
         "",
-        "The child was offered Elm School (ELM), its second preference.",
+        "The child was offered Elm School (ELM), the second preference.",
         "",
         "Oak School (OAK), first preference: no place.",
         "The school has 3 places. 1 of them is taken by an EHC plan.",
-        "4 children wanted a place there in this round, this child among them. 2 were admitted:",
+        "4 children listed the school in this round, this child among them. 4 of them put it first."
+        " 2 were admitted:",
         "- with a brother or sister at the school: 1",
         "- no criterion, by distance: 1",
         "The last child admitted: no criterion, by distance, 400 metres, lot 4.",
@@ -351,17 +352,17 @@ def test_the_sentences_of_a_family(tmp_path: Path) -> None:
     for it in (
         "The school has 3 places. Some of them are taken by EHC plans.",
         (
-            "Some children wanted a place there in this round, this child among them. As many were"
+            "Some children listed the school in this round, your child among them. As many were"
             " admitted as places were left."
         ),
         "The last child admitted: no criterion, by distance, 400 metres, lot 4.",
-        "This child: no criterion, by distance, 400 metres, lot 9.",
+        "Your child: no criterion, by distance, 400 metres, lot 9.",
     ):
         assert it in lines, (it, lines)
-    assert not any(it.startswith("- ") for it in lines), lines
+    assert not any(it.startswith("- ") or "put it first" in it for it in lines), lines
     # (a family does not know the numbers of the classes)
     assert not any("class" in it for number in found for it in lines_of(found[number]))
-    assert "by its EHC plan" in "\n".join(lines_of(found[1]))
+    assert "by an EHC plan" in "\n".join(lines_of(found[1]))
     assert lines_of(found[2])[-1] == "No school was preferred to it."
 
 
@@ -392,9 +393,10 @@ def test_what_a_family_does_not_read(tmp_path: Path) -> None:
     for it in (
         (
             "The last child admitted: social or medical need;"
-            " its distance is withheld.\n"
+            " the distance is withheld.\n"
         ),
-        "8 were admitted.",
+        "10 children listed the school in this round, your child among them. 10 of them put it"
+        " first. 8 were admitted.",
         "The criterion decided",
     ):
         assert it in family, (it, family)
@@ -516,9 +518,9 @@ def test_a_plan_that_was_named_since(tmp_path: Path) -> None:
         " to the school.\n"
     )
     assert said(reg, 2).splitlines()[4:] == [
-        "The child got no place.",
-        "Its application has ended since, by an EHC plan, so the register does not show how it"
-        " ranked.",
+        "Your child got no place.",
+        "The application has ended since, by an EHC plan, so the register does not show how your"
+        " child ranked.",
     ]
 
 
@@ -553,7 +555,7 @@ def test_schools_that_were_left(tmp_path: Path) -> None:
     # (that Elm has a place by a plan is not printed, so no line explains 'some')
     left = [
         "ELM School (ELM), first preference: no place.",
-        "The child took no part there, as its family had left the waiting list there.",
+        "Your child took no part there, as the family had left the waiting list there.",
         "",
     ]
     assert said(tmp_path / "reg.db", 1).splitlines() == [
@@ -561,20 +563,20 @@ def test_schools_that_were_left(tmp_path: Path) -> None:
         "Admission 2025 secondary, round 2 of 7 April 2025",
         "Child 1 Child 1",
         "",
-        "The child got no place: it took part at no school on its list.",
+        "Your child got no place, and took part at no school on the list.",
         "",
         *left,
         "OAK School (OAK), second preference: no place.",
         (
-            "The child took no part there, as its family had declined the place there, or not"
+            "Your child took no part there, as the family had declined the place there, or not"
             " answered its offer in time."
         ),
     ]
     other = said(tmp_path / "reg.db", 5).splitlines()
     assert (
         other[4]
-        == "The child got no place: each school on its list at which it took part was filled by"
-        " children who rank before it there."
+        == "Your child got no place: each school on the list at which your child took part was"
+        " filled by children who rank before it there."
     )
     assert (
         other[6:9] == left
@@ -673,17 +675,17 @@ def test_a_fill_is_explained(tmp_path: Path) -> None:
     assert said(reg, 3, True, copy=tmp_path / "before.db") == found
     assert said(reg, 3, draw=2).splitlines()[6:] == [
         "OAK School (OAK), first preference: no place.",
-        "Some children waited for the vacancy, this child among them.",
+        "Some children waited for the vacancy, your child among them.",
         "The child that was offered the place: no criterion, by distance.",
-        "This child: no criterion, by distance, 200 metres.",
+        "Your child: no criterion, by distance, 200 metres.",
         "A vacancy is offered to the one that ranks first of those who wait: by the criteria, then"
         " by the distance, and between equal distances by the lot.",
         "",
         why.MEANING,
     ]
     sentences = {
-        1: "The child did not wait at OAK School (OAK) when the vacancy was filled.",
-        2: "The child was offered OAK School (OAK), its first preference.",
+        1: "Your child did not wait at OAK School (OAK) when the vacancy was filled.",
+        2: "Your child was offered OAK School (OAK), the first preference.",
     }
     for number, sentence in sentences.items():
         assert said(reg, number, draw=2).splitlines()[4:] == [sentence]
@@ -696,7 +698,7 @@ def test_a_fill_is_explained(tmp_path: Path) -> None:
         ],
     )
     found = said(reg, 3, draw=3)
-    assert "offered the place:" not in found and "This child: no criterion" in found
+    assert "offered the place:" not in found and "Your child: no criterion" in found
     assert said(reg, 6).splitlines()[4:] == [
         "The application of 20 November 2024 came after the closing date, 31 October 2024, and"
         " took no part in the first round."

@@ -104,7 +104,7 @@ def question(office: Office) -> None:
     said = [f"Child {child} {it.name}", f"{NAMES[first]} ({first}), first preference: no place.",
             f"The school has {season.schools[first].pan} places.",
             "The last child admitted: ", f", {last[1]:,} metres",
-            "This child: ", f", {own[1]:,} metres"]
+            "Your child: ", f", {own[1]:,} metres"]
     for text in said[1:]:
         rita.see(text)
     rita.press("PDF, for the family", is_new=False)
