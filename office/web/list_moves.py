@@ -6,7 +6,6 @@ import array
 import dataclasses
 import datetime
 import itertools
-import statistics
 from collections.abc import Iterator, Sequence
 from typing import TypeAlias
 
@@ -142,37 +141,43 @@ def moved_by(
 
 
 def by(one: Positions | None, other: Positions | None) -> str:
-    """How many positions those who wait at both moments have moved: the one in the middle of them,
-    and between which two each is.
+    """How many children who wait at both moments moved up and how many down, with the most
+    positions; or that nobody moved.
     """
     if one is None or other is None:
         return "not known: no copy"
-    ups = sorted(one[it] - other[it] for it in one.keys() & other.keys())
+    ups = [one[it] - other[it] for it in one.keys() & other.keys()]
     if not ups:
         return "nobody waited both times" if one else "no list before it"
-    if ups[0] == ups[-1]:
-        return up(ups[0])
-    return f"{up(statistics.median_low(ups))}, each {up(ups[0])} to {up(ups[-1])}"
+    said = [way(ups, "up"), way([-it for it in ups], "down")]
+    return "; ".join(filter(None, said)) or "nobody moved"
 
 
-def up(count: int) -> str:
-    """A number of positions with the way."""
-    return "0" if not count else f"{abs(count):,} {'up' if count > 0 else 'down'}"
+def way(ups: Sequence[int], words: str) -> str:
+    """How many children moved one way, and by how many positions at most; or ""."""
+    found = [it for it in ups if it > 0]
+    if not found:
+        return ""
+    count, most = texts.count(len(found), "child", "children"), texts.count(max(found), "position")
+    return f"{count} moved {words}, by {'' if min(found) == max(found) else 'up to '}{most}"
 
 
-def tracks(found: Sequence[Moved], register: Register, code: str) -> list[list[int | None]]:
-    """The positions of some children after each of the draws of which that is known, and now: of
-    those who waited after the first of these. 0 is a place at the school, and None is none.
+def tracks(
+    found: Sequence[Moved], register: Register, code: str,
+) -> dict[int, list[int | None]]:
+    """The positions of some children, by their numbers, after each of the draws of which that is
+    known, and now: of those who waited after the first of these. 0 is a place at the school, and
+    None is none.
     """
     known = [it.positions for it in found if it.positions is not None]
     if not known or not known[0]:
-        return []
+        return {}
     # (of several at one position the one with the lowest number)
     first = dict[int, int]()
     for child, at in sorted(known[0].items()):
         first.setdefault(at, child)
     followed = [first[it] for it in (*FOLLOWED, max(first)) if it in first]
-    return [track(child, known, register, code) for child in dict.fromkeys(followed)]
+    return {it: track(it, known, register, code) for it in followed}
 
 
 def track(

@@ -9,7 +9,7 @@ import collections
 import dataclasses
 import datetime
 import math
-from collections.abc import Iterable, Sequence
+from collections.abc import Iterable, Mapping, Sequence
 from typing import NamedTuple
 
 from markupsafe import Markup, escape
@@ -314,6 +314,10 @@ def mark(ground: Ground, home: Home) -> str:
     return f'<a href="{escape(home.href)}" tabindex="-1">{drawn}</a>' if home.href else drawn
 
 
+# the height of a line of words beside a picture
+LINE = 18.0
+
+
 def movement(
     name: str, title: str, text: str, moments: Sequence[str],
     tracks: Sequence[Sequence[int | None]],
@@ -336,16 +340,31 @@ def movement(
         parts += [line(x, top, x, top + high, "grid"),
                   label(x - (10 if side == "start" else 0), top + high + low - 6, words, "quiet",
                         side)]
-    for track in tracks:
+    firsts = labels_at({row: at(0, it[0] or 0)[1] for row, it in enumerate(tracks)}, top)
+    # (below the word at the top)
+    lasts = labels_at({row: at(0, it[-1] or 0)[1] for row, it in enumerate(tracks) if it[-1]},
+                      top + LINE)
+    for row, track in enumerate(tracks):
         stops = [(*at(place, it), it) for place, it in enumerate(track) if it is not None]
         points = " ".join(f"{x:.1f},{y:.1f}" for x, y, _ in stops)
         parts.append(f'<polyline class="track" points="{points}"/>')
         parts += [f'<circle class="{"stop" if it else "stop offered"}" cx="{x:.1f}" cy="{y:.1f}"'
                   ' r="4"/>' for x, y, it in stops]
-        parts.append(label(left - 10, stops[0][1] + 5, str(stops[0][2]), "", "end"))
+        parts.append(label(left - 10, firsts[row] + 5, str(stops[0][2]), "", "end"))
         if track[-1]:
-            parts.append(label(stops[-1][0] + 10, stops[-1][1] + 5, str(track[-1]), "strong"))
+            parts.append(label(stops[-1][0] + 10, lasts[row] + 5, str(track[-1]), "strong"))
     return svg(name, width, top + high + low, title, text, parts, "moves")
+
+
+def labels_at(heights: Mapping[int, float], least: float) -> dict[int, float]:
+    """How low the labels of rows are: at their heights, from the least one on, or lower if they
+    would overlap.
+    """
+    found = dict[int, float]()
+    for row in sorted(heights, key=lambda it: heights[it]):
+        found[row] = least = max(heights[row], least)
+        least += LINE
+    return found
 
 
 # the size of a flow, and the least room of a node on each side, for its words

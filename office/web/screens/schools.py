@@ -218,10 +218,11 @@ def moves(code: str) -> Answer:
     heads = [*map("After {}".format, known), "Now"]
     picture = pictures.movement(
         "moves-drawn", f"Waiting list of {register.schools[code].name}", says, [*known, "now"],
-        tracks) if tracks else ""
+        list(tracks.values())) if tracks else ""
     return page("moves", "How the list moves", register, code, moves=found, earlier=earlier,
                 picture=picture, says=says, tracks=tracks,
-                columns=[{"title": it, "kind": "number"} for it in heads])
+                children=register.children,
+                columns=[{"title": "Child"}, *({"title": it, "kind": "number"} for it in heads)])
 
 
 @screen.get("/<code>/offer")
