@@ -42,6 +42,18 @@ def of_keys(page: Page, field: str, button: str) -> int:
     return abs(page.stops.index(button) - page.stops.index(field)) + 1
 
 
+def test_before_the_first_round_plans_are_explained(tmp_path: pathlib.Path) -> None:
+    """Nobody has an offer: what is typed as the example has it is a plan of the batch."""
+    with office_over(tmp_path, [it for it in offered() if it["cmd"] != "round"]) as office:
+        jane = office.browser("jane")
+        text = jane.get(PAGE).text
+        assert Page(text).by_id["heading"] == "EHC plans" and "as 17 OAK plan." in text
+        assert "To decline" not in text
+        record(jane, enter(jane, "17 A plan"), "Record 1 answer")
+        assert kinds(office) == {17: "plan"}
+        assert sent(office) == [{"cmd": "name_plan", "child": 17, "school": "A"}]
+
+
 def test_24_answers_need_few_keys(office: Site) -> None:
     """Two figures and Enter for each, and from the field to the button by the keyboard."""
     jane = office.browser("jane")

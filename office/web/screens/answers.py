@@ -64,6 +64,7 @@ def page(said: str = "", status: int = 200, pasted: str = "", typed: str = "") -
         names=names, words=ANSWERS, read=answer_rows.READ, said=said,
         is_bad=status != 200 or bool(failed), pasted=pasted,
         typed=typed, is_added="added" in flask.request.args, is_running=found.is_running(who),
+        is_before=register is not None and not register.draws,
         is_away=register is None, waiting=found.left(who) if register is None else [],
         others=handovers.takeable(found, person())), status
 
