@@ -168,6 +168,10 @@ def test_families_may_change_theirs_until_the_closing_day(
         monkeypatch.setattr(applications_commit, "today", lambda day=day: day)
         page = screens.see("commit/")
         assert page.buttons.count("Add 12 applications") == 1
+        assert " ".join(page.texts["final"].split()) == (
+            "In the register an application is final: its number, its schools, their order and its"
+            " day stay, and it cannot be withdrawn. Name, home, ‘Looked after’, verified reasons,"
+            " siblings’ schools and present school can still be corrected on the child’s page.")
         assert ("families may change theirs" in " ".join(page.text.split())) == is_said
 
 
