@@ -307,6 +307,10 @@ def test_a_home_is_typed_where_there_is_no_gazetteer(office: Site, screens: Scre
     seen = screens.see("points/")
     assert seen.texts["counts"] == "1 home to locate, of 2 rows in the table."
     assert "Save the point" in seen.buttons and "Look up" not in seen.buttons
+    typing = " ".join(seen.texts["typing"].split())
+    assert typing.startswith("Type the point of the home on the British National Grid in whole"
+                             " metres, as 430010 east and 210020 north, and press ‘Save the point’")
+    assert "its point on a map that shows the National Grid" in typing
     assert "Property number" not in seen.text and "East, in metres" in seen.text
     done = screens.press("Save the point", "points/", east="1000", north="2000")
     assert done.texts["ready"] == "All rows are ready"

@@ -166,6 +166,8 @@ def test_each_row_is_decided_by_what_is_typed_taken_or_kept(office: Site, jane: 
             row(117, "Gus", "430000", "", "100023336956")]
     Screens(jane).add(("a.csv", csv_of(HEAD, *rows)))
     seen = to_see(jane)
+    assert ("Type a property number, as 100023336956, or a postcode, as AB1 2CD, and press"
+            " ‘Look up’. Or type the point of the home") in jane.get(PATH).text
     assert seen.keys() == {"Ada", "Ben", "Dov", "Eve", "Finn", "Gus"}
     assert "are east and north swapped? property number 100023336956" in seen["Ada"]
     assert "51 metres away" in seen["Ben"] and "0, 0 is in the sea" in seen["Eve"]
