@@ -3,6 +3,10 @@ from collections.abc import Mapping
 from typing import Protocol
 
 
+# of a child who meets none of a school's criteria, and at a school that has none
+UNMET, ALONE = "no criterion, by distance", "ranked by distance alone"
+
+
 class School(Protocol):
     """What is looked at of a school: its criteria in their order.
 
@@ -28,7 +32,7 @@ def in_brief(school: School, number: int, flags: Mapping[int, str] | None = None
     words alone.
     """
     if school.criteria and number > len(school.criteria):
-        return "no criterion, by distance"
+        return UNMET
     kind, _, value = school.criteria[number - 1].partition(":") if (
         number and school.criteria) else ("", "", "")
     if kind == "flag":
@@ -43,7 +47,7 @@ def in_words(school: School, number: int, flags: Mapping[int, str] | None = None
     if number == 0:
         return "looked after, or previously looked after"
     if not school.criteria:
-        return "ranked by distance alone"
+        return ALONE
     if number > len(school.criteria):
         return "meeting no criterion of the school"
     kind, _, value = school.criteria[number - 1].partition(":")

@@ -11,7 +11,7 @@ from typing import Any
 
 import pytest
 from applications import ROUND, Browser, Site, child, office_over, town
-from conftest import ROOT
+from conftest import ROOT, apply, school
 from pages import Page, history, press
 from register_files import Refused
 from werkzeug.datastructures import MultiDict
@@ -188,6 +188,23 @@ def test_each_action_is_asked_by_name(
     again = press(jane, path, page, button)
     assert again.status_code == 409 and "jane recorded " in Page(again.text).said()
     assert sent(office) == [command]
+
+
+def test_two_names_that_are_alike_are_told_apart(tmp_path: pathlib.Path, office: Site) -> None:
+    """Of a school without criteria, and of one whose criteria the child does not meet."""
+    said = "‘no criterion, by distance’ is at a school whose criteria the child does not meet"
+    page = Page(office.browser("rita", "reader").get("/children/3").text)
+    assert said not in page.text and "a correction since then counts" in page.text
+    assert "the school of the child’s place" in page.text
+    (tmp_path / "two").mkdir()
+    commands = [school("A", pan=1, criteria=["sibling"]), school("B", pan=1), child(1, "Ada", 100),
+                apply(1, ["A", "B"]),
+                {"cmd": "round", "draw": 1, "day": "2025-03-03", "lots": [1, 2]}]
+    with office_over(tmp_path / "two", commands) as other:
+        page = Page(other.browser("rita", "reader").get("/children/1").text)
+        assert [it[2] for it in page.tables["list"][1:]] == [
+            "no criterion, by distance 100 metres", "ranked by distance alone 100 metres"]
+        assert said in page.text
 
 
 def test_an_accept_says_on_which_waiting_lists_the_child_stays(office: Site) -> None:

@@ -195,10 +195,10 @@ KINDS = {it.name: it for it in (
          noun="a plan", deeds="Recorded EHC plans",
          path="plan", title="Record an EHC plan",
          button="Give {child} a place at {school} by a plan",
-         becomes="The child is admitted, also above the admission number. Its application ends: it"
-                 " waits nowhere any more, and a place elsewhere is vacant. A plan that is recorded"
-                 " stays: it cannot be ended or changed. A copy of the register is made first:"
-                 " nobody can read it for some seconds.", is_final=True,
+         becomes="The child is admitted, also above the admission number. The child’s application"
+                 " ends: the child is on no waiting list any more, and a place elsewhere is vacant."
+                 " A plan that is recorded stays: it cannot be ended or changed. A copy of the"
+                 " register is made first: nobody can read it for some seconds.", is_final=True,
          answer="plan", read=("plan", "name_plan"), against=against_plan),
     Kind(name="round", rests_on=draws_in, is_done=effects.is_held,
          work=ROUNDS, told="Held a round of {day} (draw {draw})",

@@ -77,8 +77,10 @@ def shown(register: Register, number: int) -> dict[str, Any]:
     """What each page about a child has."""
     child, place = register.children[number], register.places.get(number)
     application = register.applications.get(number)
+    rows = listed(register, number)
     return {
-        "child": child, "register": register, "listed": listed(register, number),
+        "child": child, "register": register, "listed": rows,
+        "are_alike": {criteria.UNMET, criteria.ALONE} <= {it.words for it in rows},
         "place": wording.place(register, place), "deadline": wording.deadline(place),
         "applied": application.day if application else None,
         "is_late": application is not None and not register.is_in_time(application.day),
@@ -164,7 +166,7 @@ def drawn(register: Register, number: int) -> dict[str, Any]:
     if not ways:
         return {"reasons": found, "map": "", "map_says": "", "map_key": []}
     nearest = min(application.listed.items(), key=lambda it: it[1].metres) if application else None
-    says = f"The home and the {texts.count(len(ways), 'school')} of its list."
+    says = f"The home and the {texts.count(len(ways), 'school')} of the child’s list."
     if nearest:
         says += f" The nearest, {nearest[0]}, is {nearest[1].metres:,} metres away."
     picture = pictures.child_map("child-drawn", "Home and schools", says, (child.east, child.north),
@@ -172,9 +174,9 @@ def drawn(register: Register, number: int) -> dict[str, Any]:
     return {"reasons": found, "map": picture, "map_says": says, "map_key": key_of(ways)}
 
 
-SIGNS = {"place": ("school place", "the school of its place"),
-         "waits": ("school waits", "a school where it waits"),
-         "below": ("school", "another school of its list")}
+SIGNS = {"place": ("school place", "the school of the child’s place"),
+         "waits": ("school waits", "a school where the child waits"),
+         "below": ("school", "another school of the child’s list")}
 
 
 def key_of(ways: Sequence[pictures.Way]) -> list[tuple[str, str]]:
