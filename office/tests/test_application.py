@@ -21,6 +21,7 @@ from conftest import ROOT
 from pages import Page, press
 from register_files import Refused
 
+from office import turns
 from office.web import (
     attempts, guard, history, letters_whom, list_views, people, serve, store, uploads,
 )
@@ -434,6 +435,24 @@ def test_a_form_of_more_fields_than_any_page_has_is_refused(tmp_path: pathlib.Pa
                 assert answer.status_code == found, (path, many)
         assert "That is too large" in answer.text
     assert uploads.MOST_FIELDS > letters_whom.MOST + 1000
+
+
+def test_few_long_forms_are_read_at_once(
+    tmp_path: pathlib.Path, monkeypatch: pytest.MonkeyPatch
+) -> None:
+    """Each costs some times its size; a short one does not wait for them."""
+    monkeypatch.setattr(turns, "SECONDS", 0.1)
+    with site(tmp_path, "http://127.0.0.1:1") as office:
+        jane = office.browser("jane")
+
+        def status(size: int) -> int:
+            return jane.client.post(
+                "/answers/several", base_url=ORIGIN, headers={"Origin": ORIGIN},
+                data=b"a=" + b"b" * size, content_type=uploads.FORM).status_code
+
+        with uploads.LONG, uploads.LONG:
+            assert [status(it) for it in (uploads.SMALL_BYTES, 1000)] == [503, 403]
+        assert status(uploads.SMALL_BYTES) == 403
 
 
 def test_a_new_password_ends_the_other_sessions(office: Site) -> None:

@@ -4,6 +4,7 @@ remains.
 import io
 import pathlib
 import tempfile
+import threading
 from typing import IO, Any
 
 import flask
@@ -12,7 +13,7 @@ from werkzeug.datastructures import FileStorage
 from werkzeug.exceptions import RequestEntityTooLarge
 from werkzeug.formparser import FormDataParser
 
-from office import apart, file_kinds, inputs, model, sheet_apart
+from office import apart, file_kinds, inputs, model, sheet_apart, turns
 from office.model import Register
 from office.sheet import Row
 
@@ -31,6 +32,8 @@ LARGE, MOST_LARGE = "/applications/gazetteer/file", gazetteer_rows.MOST_BYTES + 
 FORM, MOST_FIELDS = "application/x-www-form-urlencoded", 30_000
 # who records nothing and seals no lots sends ticks and words
 SMALL_BYTES, SMALL_FIELDS = 1_000_000, 2_000
+# a longer form costs some times its size, so few are read at once
+LONG = turns.Turn(threading.BoundedSemaphore(2), "others have sent much")
 # somebody who is not signed in sends a name and a password, or what was typed in a session that
 # has ended
 NOBODY_BYTES, NOBODY_FIELDS = 100_000, 500
@@ -51,13 +54,20 @@ class Fields(FormDataParser):
         options: Any = None,
     ) -> Any:
         """The fields and files of a body."""
-        most = self.max_content_length or 0
-        if mimetype == FORM and (content_length or 0) <= most:
-            data = stream.read(most + 1)
-            if data.count(b"&") >= self.most_fields:
-                raise RequestEntityTooLarge
-            stream, content_length = io.BytesIO(data), len(data)
-        return super().parse(stream, mimetype, content_length, options)
+        length = content_length or 0
+        if mimetype != FORM or length > (self.max_content_length or 0):
+            return super().parse(stream, mimetype, content_length, options)
+        if length <= SMALL_BYTES:
+            return self.fields_of(stream, length, options)
+        with LONG:
+            return self.fields_of(stream, length, options)
+
+    def fields_of(self, stream: IO[bytes], length: int, options: Any) -> Any:
+        """The fields of a form of so many bytes."""
+        data = stream.read(length)
+        if data.count(b"&") >= self.most_fields:
+            raise RequestEntityTooLarge
+        return super().parse(io.BytesIO(data), FORM, len(data), options)
 
 
 class Request(flask.Request):
