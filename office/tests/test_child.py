@@ -60,8 +60,8 @@ def test_a_child_is_shown_with_its_place_its_list_and_its_data(office: Site) -> 
         "The child was offered a place at Beta on 3 March 2025. There is no answer yet.")
     assert page.by_id["deadline"] == "A reminder is due from 18 March 2025 on."
     assert page.by_id["stays"] == (
-        "If the family accepts: the child stays on the waiting list of Alpha: a later draw may"
-        " offer a place there, which ends this one.")
+        "If the family accepts: the child stays on the waiting list of Alpha. If a later draw"
+        " offers a place there, this place ends; a family that does not want that leaves the list.")
     assert page.tables["list"][1:] == [
         ["1. A Alpha", "Waiting list: 1 of 2", "ranked by distance alone 300 metres",
          "ranked by distance alone 200 metres", "The last child admitted lives 100 metres nearer."],
@@ -212,8 +212,8 @@ def test_an_accept_says_on_which_waiting_lists_the_child_stays(office: Site) -> 
     jane = office.browser("jane")
     page = Page(jane.get("/children/3/accept").text)
     assert page.by_id["becomes"].endswith(
-        "The child stays on the waiting list of Alpha: a later draw may offer a place there,"
-        " which ends this one.")
+        "The child stays on the waiting list of Alpha. If a later draw offers a place there, this"
+        " place ends; a family that does not want that leaves the list.")
     act(jane, "/children/3/accept", "Accept Beta for Cyd <b>Cole</b>")
     page = Page(jane.get("/children/3").text)
     assert page.tables["list"][1][:2] == ["1. A Alpha", "Waiting list: 1 of 2"]

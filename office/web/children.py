@@ -90,8 +90,9 @@ def stays(register: Register, number: int) -> str:
     if not names:
         return "The child is on no waiting list."
     lists = "list" if len(names) == 1 else "lists"
-    return (f"The child stays on the waiting {lists} of {texts.listed(names)}: a later draw may"
-            " offer a place there, which ends this one.")
+    return (f"The child stays on the waiting {lists} of {texts.listed(names)}. If a later draw"
+            " offers a place there, this place ends; a family that does not want that leaves the"
+            f" {lists}.")
 
 
 def see_possible(register: Register, number: int, name: str, code: str) -> None:
