@@ -92,7 +92,7 @@ def begin_fixture(
 
 @pytest.fixture(name="journal")
 def journal_fixture(monkeypatch: pytest.MonkeyPatch) -> list[str]:
-    """What the journal is told."""
+    """The lines of the journal."""
     lines: list[str] = []
     monkeypatch.setattr("syslog.syslog", lambda *given: lines.append(given[-1]))
     return lines

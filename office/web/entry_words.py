@@ -302,7 +302,7 @@ def more_of(it: Entry, names: Names, before: Command | None) -> str:
 
 
 def shown(field: str, value: Any, names: Names) -> str:
-    """A value of an entry as it stands beside its title, or "" where it is empty."""
+    """A value of an entry as the screen shows it, or "" if it is empty."""
     if field == "flags" and isinstance(value, list):
         return names.value(field, texts.cell_of(value)) if value else ""
     return "" if value is False else text_of(value)
