@@ -16,6 +16,7 @@ use Rattle.adm_types.specs.declared.commands.Command.TheVariants.{Round}
 use Rattle.adm_register.specs.State.{State as Register}
 use Rattle.adm_register.specs.Draws.{no_draws, count_draw, count_draws, draws_so_far, is_next, are_in_order}
 use Rattle.adm_register.specs.declared.draws_so_far.DrawsSoFar.{DrawsSoFar}
+use Rattle.adm_register.proofs.DrawLemmas.{next_number}
 use Rattle.adm_commands.specs.Steps.{Accepts}
 use Rattle.adm_commands.specs.Rules.{without_row}
 use Rattle.adm_commands.specs.Tests.{first_failing}
@@ -72,16 +73,6 @@ found_rounds law more old kept found commands (Some command) ordered run finds =
     ]
 
 -- ---- the round in flight
-
--- the next draw has the next number
-next_number : (season : SeasonFacts) (before : DrawsSoFar) (draw : Draw) → is_next season before draw ≡ true → draw.number ≡ before.draws + 1
-next_number season before draw next =
-    let a = and_parts _ _ next in
-    let b = and_parts _ _ a.0 in
-    let d = and_parts _ _ b.0 in
-    let e = and_parts _ _ d.0 in
-    let f = and_parts _ _ e.0 in
-    (unsigned_Decides draw.number (before.draws + 1)).0 f.0
 
 more_draws : (before : DrawsSoFar) (draws : List Draw) → before.draws ≤ (count_draws before draws).draws
 more_draws before [] = omega arith

@@ -36,11 +36,12 @@ use Rattle.adm_commands.specs.Tests.{first_failing}
 use Rattle.adm_commands.proofs.Passed.{passed}
 use Rattle.adm_commands.proofs.RoundDraw.{round_draw, round_after}
 use Rattle.adm_commands.proofs.RoundOffers.{IsRound, offer_made, outcome, is_given, tenants_given}
+use Rattle.adm_commands.proofs.RoundRoom.{places_after}
 use Rattle.adm_fairness.proofs.Beside.{BothGive, zip_given}
 use Rattle.adm_fairness.proofs.Codes.{until}
 use Rattle.adm_fairness.proofs.FairRound.{given_listed, until_wanted}
 use Rattle.adm_fairness.proofs.Front.{IsFront, front_itself, front_until, until_filter}
-use Rattle.adm_fairness.proofs.RoundPlaces.{wanted_here, fresh_none, child_of, places_after, plans_same, at_child, now_at, plan_stays}
+use Rattle.adm_fairness.proofs.RoundPlaces.{wanted_here, fresh_none, child_of, plans_same, at_child, now_at, plan_stays}
 use Rattle.adm_fairness.proofs.Taking.{IsTaking, taking}
 
 -- an applicant, and the same one after a round

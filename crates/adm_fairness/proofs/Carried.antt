@@ -1,6 +1,6 @@
 -- What the commands that may come between two rounds leave as it was.
-use Rattle.std.proofs.Common.{◌≡◌, ◌∙◌, ap, sym, subst, refl, cond, Bool, true, false, ℕ, ◌-◌, ◌≤◌, List, [], ◌∷◌, Option, Some, None, map, inl, inr, arith}
-use Rattle.std.specs.Prelude.{bytes_eq, is_some, find, option_map, unwrap_or, nat_le}
+use Rattle.std.proofs.Common.{◌≡◌, ◌∙◌, ap, sym, subst, refl, cond, Bool, true, false, ℕ, ◌≤◌, List, [], ◌∷◌, Option, Some, None, inl, inr, arith}
+use Rattle.std.specs.Prelude.{bytes_eq, is_some, nat_le}
 use Rattle.std.specs.List.{AllByRecursion}
 use Rattle.std.specs.Cmp.{nat_cmp_total}
 use Rattle.std.specs.Cmp.Lexicographic.{nat_list_cmp_total}
@@ -8,22 +8,14 @@ use Rattle.std.specs.FinMap.{get, insert, remove, nat_cmp-IsAntisymmetric}
 use Rattle.std.proofs.lemmas.Bool.{cases_Bool, false≢true, and_parts, leb-true}
 use Rattle.std.proofs.lemmas.Option.{same_Some, none-some}
 use Rattle.std.proofs.lemmas.Slice.Eq.{bytes_eq-Decides}
-use Rattle.adm_lists.proofs.Members.{find_gives, from_map}
 use Rattle.adm_types.specs.declared.rows.School.{School}
-use Rattle.adm_types.specs.declared.rows.Child.{Child}
 use Rattle.adm_types.specs.declared.rows.PlaceRow.{PlaceRow}
 use Rattle.adm_types.specs.declared.rows.PlaceState.TheVariants.{Offered, Accepted}
 use Rattle.adm_types.specs.declared.rows.LeftPair.{LeftPair}
 use Rattle.adm_types.specs.declared.commands.Command.{Command}
 use Rattle.adm_types.specs.declared.commands.Command.TheVariants as command
 use Rattle.adm_types.specs.declared.commands.Refusal.TheVariants as refusal
-use Rattle.adm_rank.specs.Class.{class_of}
-use Rattle.adm_rank.specs.Ranking.{key_of}
-use Rattle.adm_match.specs.declared.problem.Seats.{Seats}
-use Rattle.adm_match.specs.Market.{Code, quota_of}
-use Rattle.adm_round.specs.declared.applicants.Site.{Site}
-use Rattle.adm_round.specs.Ranks.{site_of, seats_of}
-use Rattle.adm_round.specs.Round.{code_of_site}
+use Rattle.adm_match.specs.Market.{Code}
 use Rattle.adm_round.specs.Outcomes.{AllotmentFits}
 use Rattle.adm_register.specs.State.{State, is_plan}
 use Rattle.adm_register.specs.Change.{after, no_change}
@@ -37,61 +29,27 @@ use Rattle.adm_commands.specs.Commands.Lapse as lapse
 use Rattle.adm_commands.specs.Commands.LeaveList as leave_list
 use Rattle.adm_commands.specs.Commands.RaisePan as raise_pan
 use Rattle.adm_commands.specs.Commands.Remind as remind
-use Rattle.adm_commands.specs.Commands.Round.{sites, plans_at}
 use Rattle.adm_commands.specs.Imports.{Reaches}
 use Rattle.adm_commands.specs.Offered.{offer_at}
 use Rattle.adm_commands.specs.Steps.{Accepts}
 use Rattle.adm_commands.specs.Tests.{first_failing}
 use Rattle.adm_commands.proofs.Passed.{passed}
 use Rattle.adm_commands.proofs.PutAgain.{get-insert_same, gone}
-use Rattle.adm_commands.proofs.RoundEntrants.{site_is}
 use Rattle.adm_commands.proofs.Shows.{no_row}
 use Rattle.adm_fairness.specs.LaterRounds.{MayComeBetween}
 use Rattle.adm_fairness.proofs.Envy.{kept_well}
 use Rattle.adm_fairness.proofs.Fills.{same_or_other, other_stays}
 use Rattle.adm_fairness.proofs.RoundPlaces.{plans_same}
-use Rattle.adm_fairness.proofs.Taking.{quota_at, school_at}
 use Rattle.adm_fairness.proofs.Waits.{other_kept, HoldsAt, holds_at, offered_at, same_above}
+use Rattle.adm_fairness.proofs.Built.{IsBuilt, same_school, built_itself, built_on}
 
--- the school is there, by the same number or a larger one
-pub record IsStill (school : School) (found : Option School) : Type 0 where
-  pub pan : ℕ
-  pub most : school.pan ≤ pan
-  pub is : found ≡ Some (record school { pan = pan })
-
--- A later register: the same children, applications and places of plans, the same schools by the same numbers or larger ones.
-pub record IsBuilt (s t : State) : Type 0 where
-  pub children : t.children ≡ s.children
-  pub applications : t.applications ≡ s.applications
-  pub plans : (school : Code) → plans_at t.places school ≡ plans_at s.places school
-  pub schools : (code : Code) (school : School) → get s.schools code ≡ Some school → IsStill school (get t.schools code)
-
--- And one with the same draws, in which each child that stays has its place, and has left what it had left.
+-- a later register with the same draws, in which each child that stays has its place, and has left what it had left.
 pub record IsCarried (stays : ℕ → Bool) (s t : State) : Type 0 where
   pub built : IsBuilt s t
   pub draws : t.draws ≡ s.draws
   pub own : (number : ℕ) → stays number ≡ true → own_school (get t.places number) ≡ own_school (get s.places number)
   pub above : (number : ℕ) (list : List Code) → stays number ≡ true → above (get t.places number) list ≡ above (get s.places number) list
   pub left : (number : ℕ) (code : Code) → stays number ≡ true → has_left t.left number code ≡ has_left s.left number code
-
--- ---- one after another
-
-same_school : (school : School) (found : Option School) → found ≡ Some school → IsStill school found
-same_school school found is = record { pan = school.pan; most = omega arith; is = is }
-
-pub built_itself : (s : State) → IsBuilt s s
-built_itself s = record { children = refl; applications = refl; plans = λ school. refl; schools = λ code school there. same_school school (get s.schools code) there }
-
-pub built_on : (r s t : State) → IsBuilt r s → IsBuilt s t → IsBuilt r t
-built_on r s t first second = record {
-  children = second.children ∙ first.children;
-  applications = second.applications ∙ first.applications;
-  plans = λ school. second.plans school ∙ first.plans school;
-  schools = λ code school there.
-      let one = first.schools code school there in
-      let other = second.schools code (record school { pan = one.pan }) one.is in
-      record { pan = other.pan; most = omega (arith, one.most, other.most); is = other.is };
-}
 
 carried_itself : (stays : ℕ → Bool) (s : State) → IsCarried stays s s
 carried_itself stays s = record { built = built_itself s; draws = refl; own = λ n here. refl; above = λ n list here. refl; left = λ n code here. refl }
@@ -301,35 +259,3 @@ carried law stays (asked ∷ commands) old new well kept may reaches =
     let well' = kept_well law old mid asked kept.0 well reaches.1 in
     let rest = carried law stays commands mid new well' kept.1 may.1 reaches.2 in
     (carried_on stays old mid new (carried_by stays old mid asked well may.0 reaches.1) rest.0, rest.1)
-
--- ---- keys and places
-
--- the admission number has no part in a key
-pub key_with_pan : (school : School) (pan lot : ℕ) (child : Child) → key_of (record school { pan = pan }) child lot ≡ key_of school child lot
-unfolding class_of
-key_with_pan school pan lot child = refl
-
-pub keys_still : (s t : State) → WellFormed s → WellFormed t → IsBuilt s t → (child : Child) (lot : ℕ) (code : Code) (site now : Site)
-    → site_of (sites s) code ≡ Some site → site_of (sites t) code ≡ Some now → key_of now.school child lot ≡ key_of site.school child lot
-keys_still s t well well' built child lot code site now at at' =
-    let still = built.schools code site.school (school_at s well code site at) in
-    let same : now.school ≡ record site.school { pan = still.pan } = same_Some now.school (record site.school { pan = still.pan }) (sym (school_at t well' code now at') ∙ still.is) in
-    ap (λ (z : School). key_of z child lot) same ∙ key_with_pan site.school still.pan lot child
-
--- no school has fewer places
-pub more_places : (s t : State) → WellFormed s → WellFormed t → IsBuilt s t → (code : Code) → quota_of (map seats_of (sites s)) code ≤ quota_of (map seats_of (sites t)) code
-more_places s t well well' built code = by (find (λ (seat : Seats). bytes_eq seat.code code) (map seats_of (sites s))) refl
-  where
-    by : (found : Option Seats) → find (λ (seat : Seats). bytes_eq seat.code code) (map seats_of (sites s)) ≡ found → quota_of (map seats_of (sites s)) code ≤ quota_of (map seats_of (sites t)) code
-    by None none =
-        let zero' : quota_of (map seats_of (sites s)) code ≡ 0 = ap (λ (o : Option Seats). unwrap_or (option_map (λ (seat : Seats). seat.quota) o) 0) none in
-        omega (arith, zero')
-    by (Some seat) is =
-        let gives = find_gives (λ (seat : Seats). bytes_eq seat.code code) (map seats_of (sites s)) seat is in
-        let from = from_map seats_of (sites s) seat gives.0 in
-        let at_code : code_of_site from.0 ≡ code = ap (λ (x : Seats). x.code) from.2 ∙ (bytes_eq-Decides seat.code code).0 gives.1 in
-        let there : get s.schools code ≡ Some from.0.school = ap (get s.schools) (sym at_code) ∙ (site_is s well from.0 from.1).0 in
-        let still = built.schools code from.0.school there in
-        let was : quota_of (map seats_of (sites s)) code ≡ from.0.school.pan - plans_at s.places from.0.school.code = quota_at s well code from.0.school there in
-        let now : quota_of (map seats_of (sites t)) code ≡ still.pan - plans_at t.places from.0.school.code = quota_at t well' code (record from.0.school { pan = still.pan }) still.is in
-        omega (arith, was, now, still.most, built.plans from.0.school.code)

@@ -21,6 +21,7 @@ use Rattle.adm_cutoffs.specs.declared.reasons.Reason.TheVariants.{ByClass, ByDis
 use Rattle.adm_fairness.specs.Cutoffs.{Cutoff, Open, Last, Closed, IsCutoff, reason_by, refusal_at, IsDecided, CutoffsDecide, SameCutoffsSamePlaces, SomeCutoff}
 use Rattle.adm_lists.proofs.Members.{In, in_All}
 use Rattle.adm_fairness.proofs.Codes.{not_blocked, at_index, other_first}
+use Rattle.adm_fairness.proofs.ExplainedLists.{before_itself}
 
 -- ---- keys
 
@@ -170,9 +171,6 @@ same_cutoffs_same_places_law m a other cutoffs fits stable stable' are are' =
     All_at (λ e. other e.child ≡ a e.child) m.entrants (λ k e ek. same_place m a other cutoffs fits stable stable' are are' k e ek)
 
 -- ---- each school has one
-
-before_itself : (x : RankKey) → precedes x x ≡ false
-before_itself x = grind (arith, nat_tests)
 
 not_before_chain : (x y z : RankKey) → precedes x y ≡ true → precedes x z ≡ false → precedes y z ≡ false
 not_before_chain x y z before none = grind (arith, nat_tests)

@@ -46,10 +46,11 @@ use Rattle.adm_commands.proofs.Posed.{posed, lots_pass, some_of}
 use Rattle.adm_commands.proofs.Shows.{no_row}
 use Rattle.adm_commands.proofs.RoundOffers.{IsRound, offer_made, outcome, is_given, lists_given}
 use Rattle.adm_commands.proofs.RoundEntrants.{school_there}
+use Rattle.adm_commands.proofs.RoundRoom.{places_after}
 use Rattle.adm_fairness.specs.Rounds.{key_in, ranks_before_in, IsFairlyFull, RoundIsFair}
 use Rattle.adm_fairness.proofs.Codes.{not_blocked, rank_in, rank_wishes, length_wishes, listed_within, before_own, until, before_fresh, until_front, at_index}
 use Rattle.adm_fairness.proofs.Taking.{IsTaking, taking, quota_at, IsWishAt, wish_there, key_of_wish}
-use Rattle.adm_fairness.proofs.RoundPlaces.{wanted_here, rank_given, fresh_none, child_of, places_after, count_given, at_child, now_at, is_of, places_at_least}
+use Rattle.adm_fairness.proofs.RoundPlaces.{wanted_here, rank_given, fresh_none, child_of, count_given, at_child, now_at, is_of, places_at_least}
 
 module _ {old : State} {numbers : List ℕ} {outcomes : List Outcome} (facts : IsRound old numbers outcomes) (day : ℕ) where
   abbrev lots : List Lot

@@ -15,6 +15,10 @@ pub mod Begun
 pub mod Ends
 pub mod Plans
 pub mod CutoffLemmas
+mod ExplainedLists
+mod ExplainedRound
+mod ExplainedCutoffs
+mod ExplainedRefusals
 pub mod Explaining
 pub mod Beside
 pub mod Improved
@@ -38,8 +42,11 @@ pub mod Reordered
 pub mod SameOrder
 pub mod SameLots
 pub mod HeldAgain
+mod Built
 pub mod Carried
 pub mod Alike
+mod Going
+mod NextRound
 pub mod LaterRounds
 pub mod RoundAnew
 pub mod Joins

@@ -9,7 +9,6 @@ use Rattle.adm_types.specs.Limits.{is_pan}
 use Rattle.adm_types.specs.Lots.{repeats_lot}
 use Rattle.adm_types.specs.declared.rows.School.{School}
 use Rattle.adm_types.specs.declared.draws.Outcome.{Outcome}
-use Rattle.adm_types.specs.declared.commands.Refusal.{Refusal}
 use Rattle.adm_types.specs.declared.commands.Command.TheVariants.{RaisePan}
 use Rattle.adm_match.specs.Stability.{IsBest}
 use Rattle.adm_match_laws.specs.Generous.{IsNoWorse}
@@ -28,12 +27,12 @@ use Rattle.adm_commands.specs.Tests.{first_failing}
 use Rattle.adm_commands.specs.Problem.{lots_fault}
 use Rattle.adm_commands.specs.declared.problems.DrawFault.TheVariants.{LotCount, LotsRepeated}
 use Rattle.adm_commands.specs.Commands.Round.{sites, round_applicants, quota, round_lots, round_market, round_pairs, AreOutcomes}
-use Rattle.adm_commands.specs.Rules.{without_row}
 use Rattle.adm_commands.specs.Steps.{Accepts}
 use Rattle.adm_types.specs.declared.commands.Refusal.TheVariants as refusal
 use Rattle.adm_commands.proofs.Passed.{passed}
 use Rattle.adm_commands.proofs.Posed.{posed}
 use Rattle.adm_commands.proofs.RaiseFit.{raise_pan-fit}
+use Rattle.adm_commands.proofs.Shows.{no_row}
 use Rattle.adm_fairness.specs.Raises.{IsRaised, NoLossByQuotas, NoLossByRaise}
 use Rattle.adm_fairness.proofs.Zipped.{zip_map, put_zip}
 
@@ -76,10 +75,6 @@ module _ (old : State) (school : List ℕ) (pan : ℕ) (well : WellFormed old) w
   unfolding change_of
   entrants_after = refl
 
-passes_of : (o : Option Refusal) → without_row o ≡ None → o ≡ None
-passes_of None h = refl
-passes_of (Some why) h = cc
-
 -- the lots fail a test by the pairs alone
 fault_same : (a b : State) (numbers : List ℕ) → round_pairs a ≡ round_pairs b → lots_fault a numbers ≡ lots_fault b numbers
 fault_same a b numbers same =
@@ -91,7 +86,7 @@ module _ (old new : State) (school : List ℕ) (pan : ℕ) (well : WellFormed ol
   next = after old (change_of old school pan)
 
   passes : first_failing (tests old school pan) ≡ None
-  passes = passes_of _ accepts.1.0
+  passes = no_row _ accepts.1.0
 
   new_is : new ≡ next
   new_is = accepts.1.1.2 ∙ ap (after old) accepts.1.1.1.0

@@ -39,7 +39,7 @@ use Rattle.adm_commands.proofs.RoundEntrants.{site_is}
 use Rattle.adm_commands.proofs.Shows.{no_row}
 use Rattle.adm_fairness.specs.Anew.{remaining}
 use Rattle.adm_fairness.specs.LaterRounds.{stays_to_end, begun_anew, OneRoundAnew}
-use Rattle.adm_fairness.proofs.Carried.{IsBuilt, key_with_pan}
+use Rattle.adm_fairness.proofs.Built.{IsBuilt, key_with_pan}
 use Rattle.adm_fairness.proofs.Codes.{at_index}
 use Rattle.adm_fairness.proofs.CutoffLemmas.{same_by_rank}
 use Rattle.adm_fairness.proofs.LaterRounds.{going_last, later_rounds_anew_law}

@@ -27,13 +27,13 @@ use Rattle.adm_round.specs.declared.applicants.Applicant.{Applicant}
 use Rattle.adm_round.specs.Round.{number_of}
 use Rattle.adm_round.specs.Outcomes.{is_fresh, outcome_of, outcomes_of, outcomes_at}
 use Rattle.adm_register.specs.State.{State, is_plan}
-use Rattle.adm_register.specs.Change.{put_all}
 use Rattle.adm_register.specs.Wanted.{own_school}
 use Rattle.adm_register.specs.WellFormed.{is_unplanned_at, places_outside_plans, has_first_round, lists_school}
 use Rattle.adm_register.proofs.Puts.{get-put_all}
 use Rattle.adm_register.proofs.RoundKeys.{put_given}
 use Rattle.adm_commands.specs.Commands.Round.{plans_at, offer_of, offers_on}
 use Rattle.adm_commands.proofs.RoundOffers.{IsRound, offer_made, outcome, its_outcome, of_outcome, children_rise}
+use Rattle.adm_commands.proofs.RoundRoom.{places_after}
 use Rattle.adm_fairness.proofs.Codes.{split_count, rank_in}
 use Rattle.adm_fairness.proofs.Taking.{IsTaking, taking_of}
 use Rattle.std.proofs.lemmas.List.Folds.{list_any-append}
@@ -41,10 +41,6 @@ use Rattle.adm_types.specs.Limits.{is_listed}
 
 abbrev pub child_of : Outcome → ℕ
 child_of o = o.child
-
--- the places with what is offered put over them
-abbrev pub places_after : State → ℕ → List Outcome → FinMap nat_cmp PlaceRow
-places_after old day outcomes = put_all (λ (p : PlaceRow). p.child) old.places (offers_on day outcomes)
 
 -- a place that makes a tenant is one outside plans
 pub own_is : (place : Option PlaceRow) (code : Code) → own_school place ≡ Some code → is_unplanned_at place code ≡ true

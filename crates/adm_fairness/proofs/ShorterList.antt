@@ -7,7 +7,7 @@ use Rattle.std.specs.Cmp.{nat_cmp_total}
 use Rattle.std.specs.FinMap.{get, insert, entries, entries-insert, entries_sorted, get-entries, values}
 use Rattle.std.proofs.lemmas.Option.{same_Some}
 use Rattle.std.proofs.lemmas.Slice.Eq.{bytes_eq-Decides}
-use Rattle.std.proofs.lemmas.List.Elements.{recursion_from_All, filter_map-append}
+use Rattle.std.proofs.lemmas.List.Elements.{recursion_from_All}
 use Rattle.adm_types.specs.declared.rows.Application.{Application}
 use Rattle.adm_types.specs.declared.rows.Child.{Child}
 use Rattle.adm_match.specs.declared.problem.Wish.{Wish}
@@ -18,6 +18,7 @@ use Rattle.adm_round.specs.declared.applicants.Site.{Site}
 use Rattle.adm_round.specs.Round.{code_of_site, number_of, listed}
 use Rattle.adm_round.specs.Ranks.{site_of, lot_at, wish_at, wishes_for, candidate_of}
 use Rattle.adm_round.proofs.Faultless.{faultless}
+use Rattle.adm_round.proofs.Walks.{wishes_append}
 use Rattle.adm_register.specs.State.{State}
 use Rattle.adm_register.specs.Wanted.{above, has_left, wanted_of, own_school}
 use Rattle.adm_commands.specs.Commands.Round.{takes_part, applicant_of, round_applicants, sites, round_lots, round_market}
@@ -100,10 +101,6 @@ module _ (sites : List Site) (child : Child) (second first : Code → ℕ → �
       → wishes_for (site_of sites) second child codes ≡ wishes_for (site_of sites) first child codes
   wishes_same [] same = refl
   wishes_same (code ∷ codes) same = λ i. cons_option (wish_same code same.0 i) (wishes_same codes same.1 i)
-
-wishes_append : (site : Code → Option Site) (lot : Code → ℕ → ℕ) (child : Child) (xs ys : List Code)
-    → wishes_for site lot child (xs ++ ys) ≡ wishes_for site lot child xs ++ wishes_for site lot child ys
-wishes_append site lot child xs ys = filter_map-append (λ code. option_map (wish_at lot child) (site code)) xs ys
 
 -- the applicant has at each school of its list the same lot by both
 abbrev SameLots : (Code → ℕ → ℕ) → (Code → ℕ → ℕ) → Applicant → Type 0

@@ -1,7 +1,7 @@
 -- Requests that were answered, as commands.
 use Rattle.std.proofs.Common.{◌≡◌, ◌⊎◌, ℕ, zero, suc, Bool, true, false, MatchBool, nat_le, take, drop, length, length-append, List, [], ◌∷◌, ◌++◌, inl, inr, refl, sym, subst, arith}
-use Rattle.std.specs.List.{AllByRecursion}
 use Rattle.sqlite.specs.State.{State as Disk}
+use Rattle.adm_lists.proofs.Each.{each_push}
 use Rattle.adm_types.specs.declared.commands.Command.{Command}
 use Rattle.adm_types.specs.declared.commands.Command.TheVariants as command
 use Rattle.adm_wire.specs.declared.fault.WireFault.{WireFault}
@@ -30,10 +30,6 @@ each_more : {S : Type 0} (step : S → Command → Answer → S → Type 0) (old
     → HandlesEach step old answered mid → step mid c answer new → HandlesEach step old (answered ++ (c, answer) ∷ []) new
 each_more {S} step old mid new [] c answer same by = (new, subst (λ (s : S). step s c answer new) same by, refl)
 each_more step old mid new ((first, a) ∷ answered) c answer it by = (it.0, it.1, each_more step it.0 mid new answered c answer it.2 by)
-
-all_more : {A : Type 0} (P : A → Type 0) (xs : List A) (x : A) → AllByRecursion P xs → P x → AllByRecursion P (xs ++ x ∷ [])
-all_more P [] x all one = (one, tt)
-all_more P (y ∷ xs) x all one = (all.0, all_more P xs x all.1 one)
 
 module _ {C : Type 0} (disk : C → Disk) where
   -- one command that some body is was answered, or none
@@ -91,7 +87,7 @@ module _ {C : Type 0} (disk : C → Disk) where
         | inr it ↦ (
           first.0 ++ it.0 ∷ [],
           omega (arith, first.1, length-append first.0 (it.0 ∷ [])),
-          all_more IsOfBody first.0 it.0 first.2 it.1,
+          each_push IsOfBody first.0 it.0 first.2 it.1,
           each_more (Handles disk) old mid new first.0 it.0.0 it.0.1 first.3 it.2,
         )
       ]

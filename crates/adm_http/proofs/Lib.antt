@@ -8,6 +8,7 @@ pub mod FindLemmas
 pub mod WalkLemmas
 pub mod FormLemmas
 pub mod RouteLemmas
+pub mod RouteParts
 pub mod LawLemmas
 pub mod StateLemmas
 pub mod ShowLemmas

@@ -1,26 +1,10 @@
--- The top of the heap ranks last.
-use Rattle.std.proofs.Common.{◌≡◌, ℕ, ◌+◌, ◌<◌, List, [], ◌∷◌, length, Option, None, Some, Bool, false, inr, refl, sym, ap, ◌∙◌, subst, arith}
+-- A school that holds more than its quota: its last guest goes.
+use Rattle.std.proofs.Common.{◌≡◌, ℕ, ◌+◌, ◌<◌, List, [], ◌∷◌, length, Option, None, Some, Bool, inr, refl, sym, ap, ◌∙◌, subst, arith}
 use Rattle.std.specs.Prelude.{IfSome, IfNone, IsPermutation}
-use Rattle.std.specs.Ordering.{is_lt}
-use Rattle.std.specs.BinaryHeap.{IsUpperBound}
-use Rattle.std.proofs.lemmas.Bool.Decides.{nat_tests}
-use Rattle.std.proofs.lemmas.List.Elements.{All-from_recursion, All-weaker}
 use Rattle.adm_match.specs.declared.held.Guest.{Guest}
-use Rattle.adm_rank.specs.Ranking.{precedes}
 use Rattle.adm_rank.specs.declared.keys.RankKey.{RankKey}
-use Rattle.adm_match.specs.Holding.{Holding, holding_of, guest_cmp, tenants_with, guests_with, RanksLast, Considers}
+use Rattle.adm_match.specs.Holding.{Holding, holding_of, tenants_with, guests_with, RanksLast, Considers}
 use Rattle.std.proofs.lemmas.List.Sorted.{length_permutation, IsPermutation-trans}
-
-precedes_greatest : (a b : Guest) → is_lt (guest_cmp a b) ≡ false → precedes a.key b.key ≡ false
-precedes_greatest a b h = grind (arith, nat_tests)
-
-pub ranks_last : (old new : List Guest) (g : Guest) → IsPermutation old (g ∷ new) → IsUpperBound guest_cmp g new → RanksLast old new g.child
-ranks_last old new g perm top = record {
-  guest = g;
-  is_child = refl;
-  others = perm;
-  last = All-weaker (λ y. is_lt (guest_cmp g y) ≡ false) (λ y. precedes g.key y.key ≡ false) (λ y h. precedes_greatest g y h) new (All-from_recursion (λ y. is_lt (guest_cmp g y) ≡ false) new top);
-}
 
 nil_if : (xs : List Guest) → length xs ≡ 0 → xs ≡ []
 nil_if [] h = refl

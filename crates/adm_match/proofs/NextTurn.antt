@@ -41,10 +41,6 @@ ahead_of m rows i e items r w free e_is items_is r_is w_is =
       next = next;
     }
 
--- the entrant's places are there, and its next wish has one
-pub placed_within : (m : Market) (rows : List Progress) (places : List (List ℕ)) (i : ℕ) → IsPlaced m places → IsFree m.entrants rows i → i < length places
-placed_within m rows places i placed free = let row = placed i free.0 free.2 in slice_get_within places i row.0 row.1
-
 module _ (m : Market) (rows : List Progress) (places : List (List ℕ)) (i : ℕ) (e : Candidate) (r : Progress) (w : Wish) (mine : List ℕ) (placed : IsPlaced m places)
     (ahead : Ahead m rows i e r w) (is : mine ≡ get_or places i mine) where
   next_place : (k : ℕ) × (slice_get mine r.rejections ≡ Some k) × SeatedAt m.seats w.school k

@@ -72,7 +72,7 @@ fn in_order(rows: Vec<Progress>) -> Result<Vec<Progress>, AllocError>
 }
 
 /// What the rows give: for each child of a row the school that holds it, or none.
-pub fn offers_of(rows: Vec<Progress>) -> Result<Offers, AllocError>
+pub(crate) fn offers_of(rows: Vec<Progress>) -> Result<Offers, AllocError>
     ensures given { IfOk result (λ offers. (child : ℕ) → school_of offers child ≡ found_in rows.items child) }
     ensures proposals { IfOk result (λ offers. offers.proposals ≡ sum_by reached rows.items) }
 {

@@ -15,8 +15,7 @@ mod repeats;
 mod what_ifs;
 
 pub use acceptance::offers;
-pub use allotment::{Offers, offers_of};
+pub use allotment::Offers;
 pub use held::HeldByIndex;
 pub use problem::{BadProblem, Entrant, Problem, Seats, Wish};
-pub use progress::Progress;
 pub use what_ifs::{WhatIfFault, what_if};

@@ -125,7 +125,7 @@ impl Model for Problem {
 }
 
 impl Problem {
-    ghost use Rattle.std.specs.Prelude.{MatchResult, Some, ◌≡◌, ◌⊎◌, None};
+    ghost use Rattle.std.specs.Prelude.{MatchResult, IfOk, Some, ◌≡◌, ◌⊎◌, None};
     ghost use Rattle.adm_match.specs.declared.problem.BadProblem.TheVariants.{Memory};
     ghost use Rattle.adm_match.specs.Market.{market_of, first_fault};
 
@@ -146,6 +146,19 @@ impl Problem {
         if let Some(fault) = first_fault(alloc, &entrants, &seats)? {
             return Err(fault);
         }
+        Ok(Problem::posed(alloc, entrants, seats)?)
+    }
+
+    /// The problem of entrants and seats that pass the tests, without trying them.
+    /// The cost grows with the list entries, times the logarithm of the seats.
+    pub fn posed(
+        alloc: Global,
+        entrants: Vec<Entrant>,
+        seats: Vec<Seats>,
+    ) -> Result<Problem, AllocError>
+        requires { first_fault (market_of entrants.items seats.items) ≡ None }
+        ensures { IfOk result (λ problem. problem ≡ market_of entrants.items seats.items) }
+    {
         let places = places_of(alloc, &entrants, &seats)?;
         Ok(Problem {
             entrants,

@@ -9,7 +9,7 @@ use std::alloc::{AllocError, Global};
 /// How far an entrant has come: the school that holds it tentatively, if any, and how many schools
 /// at the head of its list have rejected it.
 #[derive(Clone, Copy, Debug)]
-pub struct Progress {
+pub(crate) struct Progress {
     pub child: ChildNo,
     pub school: Option<SchoolCode>,
     pub rejections: usize,

@@ -8,7 +8,7 @@ ghost use Rattle.adm_round.specs.Lookups.{site_in, lot_in};
 
 use crate::applicants::{Applicant, Site};
 use crate::round_index::{RoundIndex, lot_in, round_index_of, site_in};
-use adm_match::{BadProblem, Entrant, Problem, Seats, Wish};
+use adm_match::{Entrant, Problem, Seats, Wish};
 use adm_rank::key;
 use adm_types::{Child, Lot, SchoolCode};
 use std::alloc::{AllocError, Global};
@@ -139,8 +139,8 @@ fn all_seats(alloc: Global, sites: &[Site]) -> Result<Vec<Seats>, AllocError>
     sites.iter().map(|site| seats_of(site)).collect(alloc)
 }
 
-/// The problem of the round, which is well-formed. Where it is an error, memory ran out. It takes
-/// memory for each site, list entry and lot, and the cost grows with them, times their logarithm.
+/// The problem of the round, which is well-formed. It takes memory for each site, list entry and
+/// lot, and the cost grows with them, times their logarithm.
 pub fn problem_of(
     alloc: Global,
     sites: &[Site],
@@ -153,11 +153,5 @@ pub fn problem_of(
     let round_index = round_index_of(alloc, sites, lots)?;
     let entrants = entrants_of(alloc, sites, &round_index, applicants)?;
     let seats = all_seats(alloc, sites)?;
-    match Problem::new(alloc, entrants, seats) {
-        Ok(problem) => Ok(problem),
-        Err(fault) => match fault {
-            BadProblem::Memory => Err(AllocError),
-            _ => unreachable!(),
-        },
-    }
+    Problem::posed(alloc, entrants, seats)
 }

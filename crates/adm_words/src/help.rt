@@ -111,7 +111,7 @@ Example, in a register with the schools OAK and ELM:
 
 pub(crate) const SERVE: &str = with_store!(
     r#"The forms of requests and of their answers are in FORMATS.md, under 'Requests
-over HTTP'. DEPLOYMENT.md describes how to serve an office. Both are in
+over HTTP'. INSTALL.md describes how to serve an office. Both are in
 share/doc/admissions below where this was installed.
 
 Example, which ends after two requests:

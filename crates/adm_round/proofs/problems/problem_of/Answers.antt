@@ -1,14 +1,15 @@
-use Rattle.std.proofs.Common.{inl, inr, ap, sym, ◌∙◌}
-use Rattle.std.proofs.lemmas.Option.{none-some}
+use Rattle.std.proofs.Common.{ap, subst, ◌≡◌, ◌∙◌, IfOk}
 use Rattle.adm_match.specs.Market.{first_fault}
 use Rattle.adm_round.proofs.Faultless.{faultless, same_market}
 use Rattle.adm_round.proofs.problems.problem_of.Goals as goal
 
-pub unreachable-requires : goal.unreachable-requires
-unreachable-requires c =
-    let made = same_market c.args.sites.now c.args.applicants.now c.args.lots.now c.in_ok-round_index.round_index c.in_ok-entrants.entrants.items c.in_ok-seats.seats.items
-    c.in_ok-round_index.ensures c.in_ok-entrants.ensures c.in_ok-seats.ensures in
-    elim c.in-Err.ensures [
-      | inl fault ↦ none-some c.in-Err.fault (sym (ap first_fault made ∙ faultless c.args.sites.now c.args.applicants.now c.args.lots.now c.requires) ∙ fault)
-      | inr memory ↦ c.in_default.not-Memory memory
-    ]
+pub posed-requires : goal.posed-requires
+posed-requires c =
+    ap first_fault (same_market c.args.sites.now c.args.applicants.now c.args.lots.now c.in_ok-round_index.round_index c.in_ok-entrants.entrants.items c.in_ok-seats.seats.items
+    c.in_ok-round_index.ensures c.in_ok-entrants.ensures c.in_ok-seats.ensures) ∙ faultless c.args.sites.now c.args.applicants.now c.args.lots.now c.requires
+
+pub returns : goal.returns
+returns c =
+    subst (λ market. IfOk c.posed.result (λ problem. problem ≡ market))
+    (same_market c.args.sites.now c.args.applicants.now c.args.lots.now c.in_ok-round_index.round_index c.in_ok-entrants.entrants.items c.in_ok-seats.seats.items
+    c.in_ok-round_index.ensures c.in_ok-entrants.ensures c.in_ok-seats.ensures) c.posed.ensures

@@ -1,6 +1,7 @@
 use Rattle.std.proofs.Common.{ap, ◌∙◌, inl, inr, arith}
 use Rattle.matchit.specs.Params.{walk}
-use Rattle.adm_http.proofs.RouteLemmas.{none_found, found_part, Gave}
+use Rattle.adm_http.proofs.RouteLemmas.{none_found}
+use Rattle.adm_http.proofs.RouteParts.{found_part, Gave}
 use Rattle.adm_http.proofs.router.Routes.find.Goals as goal
 use Rattle.adm_http.proofs.router.Routes.find.Goals.{in-Some, in-None}
 
