@@ -29,7 +29,7 @@
 #   make pictures  the pictures of the pages (docs/pictures), of screens and a letter of an invented season; needs nginx, openssl, python3-selenium, chromium
 #                 and chromium-driver
 #   make install  the proved program that is at bin/admissions (it builds nothing), the office's tools, their manual pages and completions, and the office's
-#                 pages; PREFIX=/usr/local by default, below DESTDIR; deploy/install adds what serves registers (docs/DEPLOYMENT.md)
+#                 pages; PREFIX=/usr/local by default, below DESTDIR; deploy/install adds what serves registers (docs/admin/INSTALL.md)
 #   make package  the Debian packages of that program, at out/package, with manifest, SBOM and SHA-256; builds them twice, which must give equal bytes; needs
 #                 debhelper and lintian
 #   make release  the same, and a signed folder from which apt installs them, at out/release; KEY= a file with a secret key or its id; needs apt-utils, gpg too
@@ -131,21 +131,15 @@ install:
 	install -D -m 755 tools/restore $(DESTDIR)$(PREFIX)/bin/admissions-restore
 	install -D -m 755 office/command $(DESTDIR)$(PREFIX)/bin/admissions-audit
 	install -d $(DESTDIR)$(PREFIX)/share/admissions/office
-	install -m 644 office/*.py office/*.json $(DESTDIR)$(PREFIX)/share/admissions/office
+	cd office && find . -name tests -prune -o '(' -name '*.py' -o -name '*.json' -o -path '*/templates/*' ')' -exec install -D -m 644 {} $(abspath $(DESTDIR)$(PREFIX))/share/admissions/office/{} ';'
 	# (the help of the application, beside it as it is here)
 	install -D -m 644 docs/office/HANDBOOK.md $(DESTDIR)$(PREFIX)/share/admissions/docs/office/HANDBOOK.md
 	install -d $(DESTDIR)$(PREFIX)/share/admissions/docs/pictures
 	install -m 644 docs/pictures/*.png $(DESTDIR)$(PREFIX)/share/admissions/docs/pictures
-	install -d $(DESTDIR)$(PREFIX)/share/admissions/office/templates
-	install -m 644 office/templates/* $(DESTDIR)$(PREFIX)/share/admissions/office/templates
-	install -d $(DESTDIR)$(PREFIX)/share/admissions/office/web/screens $(DESTDIR)$(PREFIX)/share/admissions/office/web/templates
-	install -m 644 office/web/*.py $(DESTDIR)$(PREFIX)/share/admissions/office/web
-	install -m 644 office/web/screens/*.py $(DESTDIR)$(PREFIX)/share/admissions/office/web/screens
-	install -m 644 office/web/templates/* $(DESTDIR)$(PREFIX)/share/admissions/office/web/templates
 	install -m 644 tools/register_files.py $(DESTDIR)$(PREFIX)/share/admissions/register_files.py
 	install -D -m 644 docs/admissions.1 $(DESTDIR)$(PREFIX)/share/man/man1/admissions.1
 	install -d $(DESTDIR)$(PREFIX)/share/doc/admissions
-	for page in office/START office/HANDBOOK DEPLOYMENT admin/DATA-PROTECTION admin/SECURITY reference/ERRORS reference/FORMATS reference/GLOSSARY; do install -D -m 644 docs/$$page.md $(DESTDIR)$(PREFIX)/share/doc/admissions/$$page.md || exit 1; done
+	for page in office/START office/HANDBOOK admin/INSTALL admin/OPERATE admin/RECOVER admin/DATA-PROTECTION admin/SECURITY reference/ERRORS reference/FORMATS reference/GLOSSARY; do install -D -m 644 docs/$$page.md $(DESTDIR)$(PREFIX)/share/doc/admissions/$$page.md || exit 1; done
 	install -d $(DESTDIR)$(PREFIX)/share/doc/admissions/pictures
 	install -m 644 docs/pictures/*.png $(DESTDIR)$(PREFIX)/share/doc/admissions/pictures
 	deploy/manuals $(DESTDIR)$(PREFIX)

@@ -78,7 +78,7 @@ def anchor(group: str, name: str) -> str:
 def tables(document: dict[str, Any]) -> dict[str, list[str]]:
     """The rows of each table of the page, by how it begins. office/rules.json must be as it is."""
     sys.path[:0] = [str(Path.cwd())]
-    rules = importlib.import_module("office.rules")
+    rules = importlib.import_module("office.core.rules")
     del sys.path[0]
     made = {
         TITLES[group]: [

@@ -2,6 +2,7 @@
 application begins again under them; and how long a wrong sign-in takes. None of it is in the gate:
 what is seen depends on how much of the machine is free, and a loaded one takes minutes for it."""
 
+import collections
 import concurrent.futures
 import re
 import signal
@@ -19,9 +20,11 @@ from checks.world import FORM, NAME, Answer, World, until
 
 # a wait of so many seconds does not end while others are asked
 LONG = 8
-DONE = 200, '{"done":true}'
-UNSENT = 503, ('{"outcome": "unsent", "reason": "Nothing was recorded: the register is being'
-               ' copied, or others send: try again in a minute."}')
+DONE, BUSY = (200, '{"done":true}'), (503, '{"busy":true}')
+REFUSED = 503, ('{"reason":"you have asked for very much at once: try again in a minute",'
+                '"status":503}')
+# so many requests of a program are served, or wait beside these
+WAIT = 208
 ROUTES = ("/child/1", "/child/2/letter", "/school/A/waiting", "/round/1")
 
 
@@ -63,58 +66,71 @@ def test_200_clients_at_once_all_get_their_answer_and_the_register_has_one_of_th
     assert set(done(world)) >= numbers
 
 
+class Crowd(NamedTuple):
+    """The answers to 300 requests of a program at once while the desk is suspended, and the one
+    that the sign-in gave meanwhile."""
+
+    program: list[Answer]
+    person: Answer
+
+    def busy(self) -> list[Answer]:
+        """Those for whom the site has no place."""
+        return [it for it in self.program if it.body == BUSY[1]]
+
+
 @pytest.fixture(scope="module", name="crowd")
-def crowd_fixture(world: World) -> list[Answer]:
-    """The answers to 300 clients at once: while the desk is suspended, the queue fills up."""
+def crowd_fixture(world: World) -> Crowd:
+    """Asks, until those that wait are left."""
     world.stop_desk()
     try:
         with concurrent.futures.ThreadPoolExecutor(300) as pool:
             asked = [pool.submit(world.ask, "/child/1", "robot") for _ in range(300)]
-            until(lambda: sum(it.done() for it in asked) >= 44,
-                  "the answers to those for whom there is no place in the queue")
+            until(lambda: sum(it.done() for it in asked) >= 300 - WAIT,
+                  "the answers to those who do not wait")
+            person = world.ask("/sign-in")
             world.continue_desk()
-            return [it.result() for it in asked]
+            return Crowd([it.result() for it in asked], person)
     finally:
         world.continue_desk()
 
 
-def busy(crowd: list[Answer]) -> list[Answer]:
-    """Those for whom there was no place."""
-    return [answer for answer in crowd if answer.status == 503]
+def test_of_300_at_once_on_a_suspended_desk_208_wait_and_get_their_answer(crowd: Crowd) -> None:
+    assert collections.Counter(it.status for it in crowd.program) == {200: WAIT, 503: 300 - WAIT}
+    assert {(it.status, it.body) for it in crowd.program if it.status == 503} == {REFUSED, BUSY}
 
 
-def test_of_300_at_once_on_a_suspended_desk_256_wait_and_get_their_answer(
-        crowd: list[Answer]) -> None:
-    assert [answer.status for answer in crowd].count(200) == 256
+def test_a_person_finds_a_place_beside_a_program_that_asks_for_more_than_wait(
+        crowd: Crowd) -> None:
+    assert crowd.person.status == 200
 
 
-def test_who_has_no_place_in_the_queue_gets_each_header_of_the_list(crowd: list[Answer]) -> None:
-    assert [(headers_differ(it.fields), it.fields["content-type"]) for it in busy(crowd)[:1]] == [
+def test_who_has_no_place_in_the_queue_gets_each_header_of_the_list(crowd: Crowd) -> None:
+    assert [(headers_differ(it.fields), it.fields["content-type"]) for it in crowd.busy()[:1]] == [
         ([], "application/json")]
 
 
-def test_who_has_no_place_in_the_queue_is_asked_to_retry(crowd: list[Answer]) -> None:
-    assert {(answer.body, answer.fields.get("retry-after")) for answer in busy(crowd)} == {
-        ('{"busy":true}', "2")}
+def test_who_has_no_place_in_the_queue_is_asked_to_retry(crowd: Crowd) -> None:
+    assert {(it.status, it.fields.get("retry-after")) for it in crowd.busy()} == {(503, "2")}
 
 
 def test_of_300_commands_at_once_each_is_done_or_was_not_passed_on(world: World) -> None:
-    """Few of one person wait for the one that the application works on: what is beyond them, or has
-    no place in the queue, is not passed on."""
+    """Two hundred of a program wait for those that the application works on, and are done in their
+    turn: what is beyond them, or has no place in the queue, is not passed on."""
     world.stop_desk()
     try:
         with concurrent.futures.ThreadPoolExecutor(300) as pool:
             asked = [pool.submit(world.ask, "/command", "robot", named(f"crowd {number}"))
                      for number in range(300)]
-            until(lambda: sum(it.done() for it in asked) >= 44,
-                  "the answers to those for whom there is no place in the queue")
+            until(lambda: sum(it.done() for it in asked) >= 300 - WAIT,
+                  "the answers to those who do not wait")
             world.continue_desk()
             answers = [it.result() for it in asked]
     finally:
         world.continue_desk()
     came = {(it.status, it.body) for it in answers}
-    assert {DONE, UNSENT} <= came <= {DONE, UNSENT, (503, '{"busy":true}')}
+    assert {DONE, REFUSED} <= came <= {DONE, REFUSED, BUSY}
     names = [it for it in done(world) if "crowd" in it]
+    assert len(names) >= 200
     answered = [f"Fay Ford crowd {number}" for number, it in enumerate(answers)
                 if it.status == 200]
     assert sorted(names) == sorted(answered)

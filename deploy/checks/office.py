@@ -13,7 +13,7 @@ PYTHON = "/usr/bin/python3"
 MAKE_PEOPLE = """
 import json, pathlib, sys
 sys.path.insert(0, sys.argv[1])
-from office.web import people, store
+from office.web.frame import people; from office.web.register import store
 all_of_them = people.People(store.Store(str(pathlib.Path(sys.argv[2], "office.db"))))
 tokens = {}
 for name, role, password, is_program, is_locked in json.load(sys.stdin):
@@ -29,7 +29,7 @@ print(json.dumps(tokens))
 SERVE = """
 import json, pathlib, sys
 sys.path.insert(0, sys.argv[1])
-from office import run
+from office.core import run
 from office.web import parts, serve
 given = json.loads(sys.argv[2])
 paths = {it: pathlib.Path(given.pop(it)) for it in ("folder", "copies", "site")}

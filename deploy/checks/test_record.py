@@ -51,10 +51,25 @@ def now(parts: str) -> str:
     return datetime.datetime.now(datetime.timezone.utc).isoformat(timespec=parts)
 
 
-def admissions_sent(world: World, history: pathlib.Path, since: str, *options: object) -> Ran:
-    """What the installed admissions-admin sent prints of a history."""
-    command = world.prefix / "sbin/admissions-admin"
-    return world.run(command, "sent", "--history", history, since, *options)
+# prints the commands of a history since a moment, and as errors what of it is not certain, by the
+# installed modules
+READ = """
+import datetime, json, pathlib, sys
+sys.path.insert(0, sys.argv[1])
+from machine import histories
+from machine.verbs import evidence
+record = histories.of_copy(pathlib.Path(sys.argv[2]))
+since = datetime.datetime.fromisoformat(sys.argv[3]).astimezone()
+for it in record.since(since):
+    if it.is_done and "command" in it.entry.about:
+        print(json.dumps(it.entry.about["command"], separators=(",", ":"), ensure_ascii=False))
+print(*evidence.doubts(record, since), sep="\\n", end="", file=sys.stderr)
+"""
+
+
+def sent(world: World, history: pathlib.Path, since: str) -> Ran:
+    """What the verbs read of a history."""
+    return world.run("python3", "-c", READ, world.prefix / "share/admissions", history, since)
 
 
 # What made the record useless or wrong where each line of a body was taken for a command
@@ -85,8 +100,8 @@ def test_a_command_within_a_command_is_not_done_itself(world: World, before: Bef
 
 
 class Replay(NamedTuple):
-    """The status of the program, which took in the log of the desk; what admissions-admin sent
-    prints of the history and of a compressed copy; what the program prints when that is done on the
+    """The status of the program, which took in the log of the desk; what the verbs read of the
+    history and of a compressed copy; what the program prints when that is done on the
     register before; and the rows of that and of the register."""
 
     taken_in: int
@@ -103,7 +118,7 @@ def replay_fixture(world: World, attacks: list[Answer], before: Before) -> Repla
     taken_in = world.run("admissions", "do", world.file).returncode
     history, packed = world.room / "office/history.jsonl", world.room / "history.gz"
     packed.write_bytes(gzip.compress(history.read_bytes()))
-    printed, of_copy = (admissions_sent(world, it, before.moment) for it in (history, packed))
+    printed, of_copy = (sent(world, it, before.moment) for it in (history, packed))
     again = world.run("admissions", "do", before.copy, input=printed.stdout)
     rows = [world.run("sqlite3", it, ".dump").stdout for it in (before.copy, world.file)]
     return Replay(taken_in, printed, of_copy, again, rows)
@@ -149,7 +164,7 @@ def test_an_entry_that_was_torn_at_the_end_costs_nothing_else(
     """Its command was not begun, since the entry was not on the disk."""
     copy, lines, _ = damaged
     copy.write_bytes(b"".join(lines) + lines[-1][:-9])
-    printed = admissions_sent(world, copy, before.moment)
+    printed = sent(world, copy, before.moment)
     assert (printed.returncode, printed.stdout, printed.stderr) == (
         0, replay.printed.stdout, "")
 
@@ -160,22 +175,22 @@ def test_an_entry_that_was_changed_is_named_and_what_is_before_it_is_printed(
     copy, lines, last = damaged
     lines[last] = lines[last].replace(b'"cmd"', b'"cmx"')
     copy.write_bytes(b"".join(lines))
-    printed = admissions_sent(world, copy, before.moment)
-    assert printed.returncode == 1
+    printed = sent(world, copy, before.moment)
+    assert printed.returncode == 0
     # (a name has a sign that ends a line elsewhere)
     assert printed.stdout.split("\n")[:-1] == replay.printed.stdout.split("\n")[:-2]
     # (the line after it has the digest of what was there)
-    assert printed.stderr.splitlines()[-1] == (
-        f"admissions-admin sent: {copy}, line {last + 2}: the history was changed there or in the"
-        " line before, or a line between them is missing")
+    assert printed.stderr.splitlines()[0] == (
+        f"{copy}, line {last + 2}: the history was changed there or in the line before, or a line"
+        " between them is missing")
 
 
 def test_an_entry_that_was_removed_is_named(
         world: World, before: Before, damaged: tuple[pathlib.Path, list[bytes], int]) -> None:
     copy, lines, last = damaged
     copy.write_bytes(b"".join(lines[:last] + lines[last + 1:]))
-    printed = admissions_sent(world, copy, before.moment)
-    assert printed.returncode == 1
+    printed = sent(world, copy, before.moment)
+    assert printed.returncode == 0
     assert f"{copy}, line {last + 1}: the history was changed there" in printed.stderr
 
 
@@ -184,16 +199,9 @@ def test_an_entry_that_was_removed_is_named(
 
 def test_an_import_over_the_site_is_done_and_the_history_names_it_and_has_its_rows(
         world: World) -> None:
-    folder, history = world.room / "rows", world.room / "office/history.jsonl"
-    since, count = now("milliseconds"), len(world.entries())
+    count = len(world.entries())
     done = world.ask("/import", "robot", ROWS, kind="text/csv")
     assert (done.status, json.loads(done.body)) == (200, {"added": 1, "done": True, "known": 0})
     assert world.stored()[41]["name"] == "Row"
-    printed = admissions_sent(world, history, since, "--rows", folder)
-    line = next(it for it in printed.stderr.splitlines() if "an import" in it)
-    assert (printed.returncode, printed.stdout) == (1, "")
-    assert line.startswith(
-        f"admissions-admin sent: {history}, line {count + 1}: robot sent an import at ")
-    assert line.endswith(", which was done after 0 of the printed commands: import its rows there,"
-                         f" from {folder}/0.csv")
-    assert (folder / "0.csv").read_text() == ROWS
+    entry = next(it for it in world.entries()[count:] if "import" in it["about"])
+    assert (entry["who"], entry["about"]["import"]) == ("robot", ROWS)

@@ -7,8 +7,9 @@ NAME, the name of a register, may be left out if the machine has one register.
 Each verb looks before it acts, and refuses with a reason. A change of what is
 there is shown, and is done after a yes on the terminal, or with --yes. What is
 final wants the name of the register typed. One verb at a time changes
-something, and the journal has who typed it, as admissions-admin. A verb that
-was interrupted goes on when it is typed again.
+something: a second one is refused, and names the first. The journal has who
+typed what, as admissions-admin. A verb that was interrupted goes on when it is
+typed again.
 
 exit status: 0 done; 1 not or not wholly done, and the line says why: correct
 that and type it again; 2 wrong arguments. That of `status` is in its help.
@@ -17,15 +18,21 @@ import argparse
 import contextlib
 import importlib
 import os
+import pathlib
 import shlex
 import sys
 import syslog
+import tempfile
 import typing
 
-from office import run
+from office.core import run
 from register_files import Refused
 
 from . import answers, files
+from .registers import COPIES, OFFICES, REGISTERS, SETTINGS
+
+# what is written for a while
+ROOMS = (pathlib.Path("/run"), pathlib.Path(tempfile.gettempdir()))
 
 
 class Verb(typing.NamedTuple):
@@ -53,7 +60,6 @@ VERBS = {
     "open": Verb("open it again"),
     "status": Verb("report how the registers are", looks=True),
     "history": Verb("show the copies of the history, and mend one that was changed"),
-    "sent": Verb("print what was sent since a moment, to be sent again", looks=True),
     "rehearse": Verb("rehearse a takeover on a machine for trials, and end that"),
     "move": Verb("move a register to a new machine, or to a disk and back"),
     "takeover": Verb("go on with a register of a machine that is lost"),
@@ -111,8 +117,27 @@ def changed(words: list[str], work: typing.Callable[[], int]) -> int:
     """Does what changes something: as root, alone, and with two lines in the journal."""
     if os.geteuid() != 0:
         raise Refused("only root can do this")
-    with files.lock(), in_journal(f"{answers.teller()}: {shlex.join(words)}"):
-        return work()
+    line = shlex.join(words)
+    with files.lock(f"admissions-admin {line}, by the {answers.teller()}"):
+        with in_journal(f"{answers.teller()}: {line}"), naming_what_is_full():
+            return work()
+
+
+@contextlib.contextmanager
+def naming_what_is_full() -> typing.Iterator[None]:
+    """Has a refusal name the folders without room, of which its reason may be; and where it is
+    interrupted, say how it goes on."""
+    try:
+        yield
+    except run.Stopped as error:
+        raise Refused(f"{error}: type it again, and it goes on") from error
+    except (OSError, Refused) as error:
+        folders = files.without_room(REGISTERS, OFFICES, COPIES, SETTINGS, *ROOMS)
+        if not folders or isinstance(error, Refused) and error.status == 2:
+            raise
+        said = run.said_of(error) if isinstance(error, OSError) else str(error)
+        raise Refused(f"{said}. There is no room on the disk of {folders}: what was there stays."
+                      " Make room, and type it again") from error
 
 
 @contextlib.contextmanager

@@ -196,7 +196,12 @@ def take(register: Register, certificate: str, key: str) -> bool:
     texts, (to_key, to_certificate, request) = pair(certificate, key), paths(register)
     if is_lost(register, certificate, key):
         keep_before(to_key, to_certificate)
-    changed = [files.write(to_certificate, texts[0], 0o644), files.write(to_key, texts[1], 0o600)]
+    # (where there is no room the two stay that are there)
+    new = to_key.with_name(f"{to_key.name}.taken")
+    files.write(new, texts[1], 0o600)
+    changed = [files.write(to_certificate, texts[0], 0o644),
+               not to_key.exists() or to_key.read_bytes() != texts[1].encode()]
+    new.rename(to_key)
     if request.exists() and public_key("req", "-in", request, "-pubkey", "-noout") != public_key(
         "pkey", "-pubout", "-in", to_key
     ):

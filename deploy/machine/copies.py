@@ -5,6 +5,8 @@ import pathlib
 import re
 import time
 
+from . import files
+
 # A number that grows with each copy, and the local time. The first release named the time alone
 NAME = re.compile(r"nightly-(?:(\d{6,})-)?(\d{4}-\d\d-\d\dT\d{6})\.db")
 TIME = "%Y-%m-%dT%H%M%S"
@@ -32,7 +34,7 @@ def made(folder: pathlib.Path) -> list[pathlib.Path]:
 def last_number(folder: pathlib.Path) -> int:
     """The greatest number that a copy has had, also of one that was renamed or removed."""
     try:
-        kept = int((folder / LAST).read_text(encoding="ascii"))
+        kept = int(files.content(folder / LAST))
     except (FileNotFoundError, ValueError):
         kept = 0
     return max(kept, *map(number, made(folder)), 0)

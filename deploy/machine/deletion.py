@@ -11,7 +11,7 @@ import os
 import pathlib
 import stat
 
-from office.days import DELETION_NOTICE
+from office.core.days import DELETION_NOTICE
 
 from . import files
 from .office_requests import Wrong
@@ -118,8 +118,5 @@ def forget(register: Register) -> None:
 
 def sync(register: Register) -> None:
     """Makes the names of these files durable."""
-    fd = os.open(register.settings, os.O_RDONLY | os.O_DIRECTORY | os.O_CLOEXEC)
-    try:
+    with files.closing(os.open(register.settings, files.FOLDER)) as fd:
         os.fsync(fd)
-    finally:
-        os.close(fd)

@@ -10,7 +10,7 @@ import ssl
 import time
 import typing
 
-from office.web.failures import KINDS
+from office.web.frame.failures import KINDS
 
 PORT = 443
 # so long an answer is waited for, and so many bytes it has at most

@@ -5,10 +5,10 @@ folder of its own, opens it, and counts what it has.
 
 The newest copy is the one that was made last, whatever the clock was. The
 register itself and its copies are only read. Where a second place is named,
-its copy of the same name is fetched and tried in the same way. Where copies
-are encrypted for the second place, FILE is the identity file of age that opens
-them, /etc/admissions/second-copy-identity by default; without one the drill
-says that the second copy was not tried. The last one that was is kept in
+its copy of the same name is fetched, decrypted and tried in the same way. FILE
+is the identity file of age that opens it,
+/etc/admissions/second-copy-identity by default; without one the drill says that
+the second copy was not tried. The last one that was is kept in
 drill-opened.report. The archive of its settings is read,
 and who may sign in is counted. What was restored is removed at the end. The
 result is in /var/backups/admissions/NAME/drill.report, which the status
@@ -25,12 +25,12 @@ import argparse
 import pathlib
 import tempfile
 
-from office import drills
+from office.work import drills
 from register_files import Refused
 
 from . import copies, sealed
 from .programs import call, program
-from .registers import Register, known, open_error, stored
+from .registers import Register, add_name, known, open_error, stored
 from .second_copy import fetched, now, place_of, write_report
 from .settings_copy import OWN, members_of, people_beside
 
@@ -41,7 +41,7 @@ OPENED, NOT_TRIED = "drill-opened.report", "not tried: "
 
 
 def arguments(reader: argparse.ArgumentParser) -> None:
-    reader.add_argument("name", metavar="NAME", help="the name of the register")
+    add_name(reader)
     reader.add_argument("--identity", metavar="FILE", type=pathlib.Path,
                         help="the identity file that opens the copies of the second place")
 
@@ -51,15 +51,15 @@ def main(given: argparse.Namespace) -> int:
     made = register.nightly_copies()
     if not made:
         raise Refused(f"{register.name} has no nightly copy to restore")
-    lines, is_sealed = [], bool(place and sealed.recipient())
+    lines = []
     with tempfile.TemporaryDirectory() as room:
         lines.append(f"{now()} {made[-1]}: {tried(made[-1], room)}")
         if place:
-            where = f"{place}/{register.name}/{made[-1].name}{sealed.END if is_sealed else ''}"
+            where = f"{place}/{register.name}/{made[-1].name}{sealed.END}"
             tried_there = second_tried(given.identity, place, register, room)
             lines.append(f"{now()} {where}: {tried_there}")
     text = "".join(f"{line}\n" for line in lines)
-    if is_sealed and NOT_TRIED not in lines[-1]:
+    if place and NOT_TRIED not in lines[-1]:
         write_report(register, OPENED, f"{lines[-1]}\n")
     write_report(register, REPORT, text)
     print(text, end="")
@@ -69,15 +69,14 @@ def main(given: argparse.Namespace) -> int:
 def second_tried(
     given: pathlib.Path | None, place: str, register: Register, room: str
 ) -> str:
-    """The same of the newest copy at the second place, which may be encrypted there."""
-    copy, identity = register.nightly_copies()[-1], None
-    if sealed.recipient():
-        try:
-            identity = given or sealed.identity()
-        except Refused as error:
-            return f"{NOT_TRIED}WARNING: {error}"
-        if identity is None:
-            return f"{NOT_TRIED}it is encrypted, and no identity file is here ({sealed.IDENTITY})"
+    """The same of the newest copy at the second place, which is encrypted there."""
+    copy = register.nightly_copies()[-1]
+    try:
+        identity = given or sealed.identity()
+    except Refused as error:
+        return f"{NOT_TRIED}WARNING: {error}"
+    if identity is None:
+        return f"{NOT_TRIED}it is encrypted, and no identity file is here ({sealed.IDENTITY})"
     if copies.settings_of(copy).exists():
         fetched(place, register, copies.settings_of(copy).name, room, identity)
     return tried(fetched(place, register, copy.name, room, identity), room)

@@ -1,6 +1,7 @@
 """Files and folders that are made once, changed only where they differ, and never half; and the
 lock of those who change them."""
 import contextlib
+import datetime
 import errno
 import fcntl
 import grp
@@ -8,8 +9,8 @@ import os
 import pathlib
 import pwd
 import secrets
+import shutil
 import stat
-import sys
 import typing
 
 from register_files import OWNER_ALONE, Refused
@@ -24,21 +25,38 @@ FOLDER = os.O_RDONLY | os.O_DIRECTORY | os.O_CLOEXEC
 # bytes, more than a history, a report or a file of settings has, and more than the file of an
 # application or its copy: what is longer is read by no command
 MOST_HISTORY, MOST_STORE = 256_000_000, 600_000_000
+# bytes, with less of which a disk counts as full
+LEAST_ROOM = 1_000_000
 # of a folder in which somebody beside its owner can make a link
 OTHERS_WRITE = 0o022
 
 
 @contextlib.contextmanager
-def lock() -> typing.Iterator[None]:
-    """Only one command at a time changes what is set up: a second one waits. A command that is
-    killed holds it no longer."""
-    with open(LOCK, "a", encoding="ascii") as file:
+def lock(who: str) -> typing.Iterator[None]:
+    """Only one command at a time changes what is set up: a second one is refused, which names who
+    runs what, and since when. A command that is killed holds it no longer."""
+    with open(LOCK, "a+", encoding="utf-8") as file:
         try:
             fcntl.flock(file, fcntl.LOCK_EX | fcntl.LOCK_NB)
-        except BlockingIOError:
-            print("waiting for another admissions-admin to end", file=sys.stderr, flush=True)
-            fcntl.flock(file, fcntl.LOCK_EX)
+        except BlockingIOError as error:
+            file.seek(0)
+            other = file.read().strip() or "another admissions-admin"
+            raise Refused(f"{other} has not ended: nothing was done. Type it again then") from error
+        file.truncate(0)
+        now = datetime.datetime.now()
+        print(f"{who}, since {now:%Y-%m-%d %H:%M:%S}", file=file, flush=True)
         yield
+
+
+def without_room(*folders: pathlib.Path) -> str:
+    """The folders whose disk has no room left, in words; or ""."""
+    found = []
+    for it in folders:
+        with contextlib.suppress(OSError):
+            disk = os.statvfs(it)
+            if disk.f_bavail * disk.f_frsize < LEAST_ROOM or disk.f_files and not disk.f_favail:
+                found.append(str(it))
+    return ", ".join(found)
 
 
 def numbers(user: str, group: str) -> tuple[int, int]:
@@ -153,14 +171,42 @@ def closing(handle: int) -> typing.Iterator[int]:
         os.close(handle)
 
 
-def put_aside(path: pathlib.Path, folder_: pathlib.Path, name: str) -> None:
+def put_aside(path: pathlib.Path, folder_: pathlib.Path, name: str) -> tuple[int, int]:
     """Moves a file of somebody else into a folder of root beside it, which is made, under a name
-    that is free there; no link is followed."""
+    that is free there; no link is followed. Returns which file that is."""
     folder(folder_, 0o700)
     with closing(opened(folder_)) as into, closing(opened(path.parent)) as above:
         if name in os.listdir(into):
             raise Refused(f"{folder_ / name} is there already")
         os.rename(path.name, name, src_dir_fd=above, dst_dir_fd=into)
+        return identity(into, name)
+
+
+def put_back(path: pathlib.Path, folder_: pathlib.Path, name: str, was: tuple[int, int]) -> None:
+    """Moves the file back that was put aside, and no other one that has its name by then."""
+    with closing(opened(folder_)) as into, closing(opened(path.parent)) as above:
+        if identity(into, name) != was:
+            raise Refused(f"{folder_ / name} is another file than was put aside, so {path} is not"
+                          " put back")
+        os.rename(name, path.name, src_dir_fd=into, dst_dir_fd=above)
+
+
+def identity(above: int, name: str) -> tuple[int, int]:
+    """Which file a name of a folder is."""
+    found = os.stat(name, dir_fd=above, follow_symlinks=False)
+    return found.st_dev, found.st_ino
+
+
+def copy_as_desk(path: pathlib.Path, target: pathlib.Path) -> None:
+    """Copies a file of the user of the desks with its times, in one step."""
+    with as_desk():
+        part = target.with_name(f".{target.name}.part")
+        try:
+            shutil.copy2(path, part)
+            part.rename(target)
+        except BaseException:
+            part.unlink(missing_ok=True)
+            raise
 
 
 def link(path: pathlib.Path, target: str) -> bool:

@@ -1,5 +1,5 @@
 """What is found of the registers of a machine, and how it is printed: as text, as one line, and as
-one object of JSON. The names of JSON are in docs/DEPLOYMENT.md, and do not change."""
+one object of JSON. The names of JSON are in docs/admin/OPERATE.md, and do not change."""
 import datetime
 import enum
 import json

@@ -1,17 +1,20 @@
 """The history of an office's application, as the commands of a machine read it: while it is
 written, from a copy, and of one that was changed as far as it holds."""
+import collections
 import dataclasses
 import datetime
 import gzip
 import io
 import json
+import os
 import pathlib
+import stat
 import typing
 import zlib
 
-from office import commands
-from office.web import history, lineage
-from office.web.history import Entry
+from office.core import commands
+from office.web.register import history, lineage
+from office.web.register.history import Entry
 from register_files import Refused
 
 from . import files
@@ -36,21 +39,9 @@ class Request:
     is_done: bool | None = None
 
     @property
-    def command(self) -> str | None:
-        """Its command as one line, as the application sends it; None for an import, and for a line
-        that the application knows no command of."""
-        if "command" not in self.entry.about:
-            return None
-        return json.dumps(self.entry.about["command"], separators=(",", ":"), ensure_ascii=False)
-
-    @property
-    def is_import(self) -> bool:
-        return "import" in self.entry.about
-
-    @property
-    def rows(self) -> str:
-        """The rows of an import."""
-        return str(self.entry.about["import"])
+    def is_known(self) -> bool:
+        """Whether the application knew what it sent: a command, or an import."""
+        return "line" not in self.entry.about
 
     def in_words(self, what: str) -> str:
         """Who sent it and when, and what it is in these words."""
@@ -107,6 +98,12 @@ class Record:
         there = lineage.of(self.restores, len(self.entries))
         return {number for number in self.requests if number not in there}
 
+    def since(self, moment: datetime.datetime) -> list[Request]:
+        """The requests since a moment that are done, or may be, and that no restore has undone."""
+        undone = self.undone()
+        return [it for number, it in self.requests.items()
+                if it.moment >= moment and it.is_done is not False and number not in undone]
+
     def is_on_the_way(self, since: datetime.datetime) -> bool:
         """Whether the register of now is that of this moment with all that was sent later: no
         restore has since undone what was done before, or brought back what was undone then."""
@@ -141,6 +138,12 @@ def see_request(about: dict[str, typing.Any]) -> None:
         raise ValueError("a request without a command")
 
 
+def counted(words: typing.Iterable[str]) -> str:
+    """Words in their order, each with how often it is there."""
+    counts = sorted(collections.Counter(words).items())
+    return ", ".join(f"{word} ({count})" for word, count in counts)
+
+
 def whole_lines(data: bytes) -> bytes:
     """Without a last line that is not whole."""
     return data[: data.rfind(b"\n") + 1]
@@ -161,7 +164,9 @@ def of_register(register: Register) -> Record:
 
 def of_copy(path: pathlib.Path) -> Record:
     """A history in a file, compressed or not. Of a damaged one there is what can be read."""
-    with open(path, "rb") as file:
+    with open(os.open(path, files.READ), "rb") as file:
+        if not stat.S_ISREG(os.fstat(file.fileno()).st_mode):
+            raise Refused(f"{path} is no file")
         data, problem = files.bounded(path, file.read), ""
     if data.startswith(GZIP):
         data, problem = unpacked(path, data)

@@ -149,14 +149,15 @@ def last_whole(folder: pathlib.Path) -> bytes:
 
 
 def whole(path: pathlib.Path) -> bytes:
-    """The history of a copy, which must be one from its first line to its last."""
+    """The history of a file, which must be one from its first line to its last."""
     try:
-        data = unpacked(path, files.content(path))
+        found = files.content(path)
+        data = unpacked(path, found) if path.suffix == ".gz" else histories.whole_lines(found)
     except UNREADABLE as error:
         raise Refused(f"{path} cannot be read: {error}") from error
-    found = Record(str(path), data)
-    if found.problem or not found.entries:
-        raise Refused(found.problem or f"{path} has no entry")
+    record = Record(str(path), data)
+    if record.problem or not record.entries:
+        raise Refused(record.problem or f"{path} has no entry")
     return data
 
 

@@ -19,15 +19,14 @@ import argparse
 from office.web import parts, serve
 from register_files import Refused
 
-from .registers import SETTINGS, Register, named
+from .registers import SETTINGS, Register, named, add_name
 from .sites import share
 
 # where systemd's journal takes structured entries
 JOURNAL = "/run/systemd/journal/socket"
 
 
-def arguments(reader: argparse.ArgumentParser) -> None:
-    reader.add_argument("name", metavar="NAME", help="the name of the register")
+arguments = add_name
 
 
 def main(given: argparse.Namespace) -> int:

@@ -15,7 +15,6 @@ example:
 
 exit status: 0 copied; 1 not, and the line says why; 2 wrong arguments.
 """
-import argparse
 import datetime
 import os
 import pathlib
@@ -25,18 +24,9 @@ from register_files import Refused
 from . import copies, files, office_requests
 from .office_requests import Result, Wrong
 from .programs import OFFICE, USER, call, program
-from .registers import Register, known
+from .registers import Register
 
 READ_BY_GROUP = 0o640
-
-
-def arguments(reader: argparse.ArgumentParser) -> None:
-    reader.add_argument("name", metavar="NAME", help="the name of the register")
-
-
-def main(given: argparse.Namespace) -> int:
-    register = known(given.name)
-    return office_requests.handled(register, "copy", lambda number: copied(register, number))
 
 
 def copied(register: Register, number: int) -> Result:
@@ -55,9 +45,9 @@ def copied(register: Register, number: int) -> Result:
 def give(path: pathlib.Path) -> None:
     """Lets the application's group read a copy."""
     _, group = files.numbers(USER, OFFICE)
-    fd = os.open(path, os.O_RDONLY | files.AS_IT_IS)
-    try:
+    with files.closing(os.open(path, os.O_RDONLY | files.AS_IT_IS)) as fd:
         os.fchown(fd, -1, group)
         os.fchmod(fd, READ_BY_GROUP)
-    finally:
-        os.close(fd)
+
+
+arguments, main = office_requests.command("copy", copied)

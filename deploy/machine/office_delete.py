@@ -21,7 +21,6 @@ example:
 
 exit status: 0 deleted; 1 not, and the line says why; 2 wrong arguments.
 """
-import argparse
 import dataclasses
 import datetime
 import os
@@ -34,7 +33,8 @@ from register_files import Refused
 from . import deletion, files, office_requests, second_copy
 from .office_requests import Result, Wrong
 from .programs import call, tool
-from .registers import SETTINGS, Register, known
+from .second_copy import now
+from .registers import SETTINGS, Register
 
 
 @dataclasses.dataclass(frozen=True)
@@ -48,15 +48,6 @@ class Whole:
     folders: Sequence[pathlib.Path]
     about: Mapping[str, str]
     remaining: Callable[[Register], str]
-
-
-def arguments(reader: argparse.ArgumentParser) -> None:
-    reader.add_argument("name", metavar="NAME", help="the name of the register")
-
-
-def main(given: argparse.Namespace) -> int:
-    register = known(given.name)
-    return office_requests.handled(register, "delete", lambda number: deleted(register, number))
 
 
 def deleted(register: Register, number: int) -> Result:
@@ -98,11 +89,6 @@ def delete(register: Register, day: datetime.date, whole: Whole | None = None) -
     return found
 
 
-def now() -> str:
-    """This moment."""
-    return datetime.datetime.now().astimezone().isoformat(timespec="seconds")
-
-
 def stop(register: Register) -> None:
     """Stops for good what uses the files of a register: a backup that ends, or is stopped, starts
     the second copy and the desk, so these follow it. One that has failed is forgotten, as it
@@ -133,15 +119,13 @@ def empty(folder: pathlib.Path) -> None:
         fd = os.open(folder, os.O_RDONLY | os.O_DIRECTORY | files.AS_IT_IS)
     except FileNotFoundError:
         return
-    try:
+    with files.closing(fd):
         for name in sorted(os.listdir(fd)):
             if stat.S_ISDIR(os.stat(name, dir_fd=fd, follow_symlinks=False).st_mode):
                 call(tool("rm", "coreutils"), "-rf", "--", folder / name)
             else:
                 os.unlink(name, dir_fd=fd)
         os.fsync(fd)
-    finally:
-        os.close(fd)
 
 
 def second_place(register: Register) -> str:
@@ -159,3 +143,6 @@ def has_nothing(place: str, register: Register) -> bool:
     """Whether a place of this machine is there, and has no folder of the register."""
     return second_copy.is_local(place) and os.path.isdir(place) and not os.path.lexists(
         f"{place}/{register.name}")
+
+
+arguments, main = office_requests.command("delete", deleted)

@@ -15,22 +15,12 @@ example:
 
 exit status: 0 kept; 1 not, and the line says why; 2 wrong arguments.
 """
-import argparse
 
 from register_files import Refused
 
 from . import deletion, office_requests
 from .office_requests import Result, Wrong
-from .registers import Register, known
-
-
-def arguments(reader: argparse.ArgumentParser) -> None:
-    reader.add_argument("name", metavar="NAME", help="the name of the register")
-
-
-def main(given: argparse.Namespace) -> int:
-    register = known(given.name)
-    return office_requests.handled(register, "deletion-day", lambda number: keep(register, number))
+from .registers import Register
 
 
 def keep(register: Register, number: int) -> Result:
@@ -41,3 +31,6 @@ def keep(register: Register, number: int) -> Result:
         if isinstance(error, Wrong):
             raise
         raise Wrong("NotKept", f"the day is not kept: {error}") from error
+
+
+arguments, main = office_requests.command("deletion-day", keep)

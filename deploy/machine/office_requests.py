@@ -7,6 +7,7 @@ digits alone are taken. A request that is begun is renamed, so that who asked ca
 one that is not; it is removed once it is answered. Where the machine stops before that, it is done
 again; where no answer can be written, it is removed too.
 """
+import argparse
 import contextlib
 import json
 import os
@@ -20,7 +21,7 @@ from register_files import Refused
 
 from .files import AS_IT_IS, closing
 from .programs import call, tool
-from .registers import Register
+from .registers import Register, add_name, known
 
 FOLDER, BEGUN, DONE = "requests", ".begun", ".done"
 NUMBER = re.compile(rb"([1-9][0-9]{0,8})\n?")
@@ -45,10 +46,8 @@ def opened(register: Register) -> Iterator[int]:
         folder = os.open(path, os.O_RDONLY | os.O_DIRECTORY | AS_IT_IS)
     except OSError as error:
         raise Refused(f"{path} cannot be opened: {error.strerror}") from error
-    try:
+    with closing(folder):
         yield folder
-    finally:
-        os.close(folder)
 
 
 def number_of(folder: int, name: str) -> int:
@@ -57,12 +56,10 @@ def number_of(folder: int, name: str) -> int:
         fd = os.open(name + BEGUN, os.O_RDONLY | AS_IT_IS, dir_fd=folder)
     except OSError as error:
         raise Wrong("NoFile", f"the request {name} is no file: {error.strerror}") from error
-    try:
+    with closing(fd):
         if not stat.S_ISREG(os.fstat(fd).st_mode):
             raise Wrong("NoFile", f"the request {name} is no file")
         found = NUMBER.fullmatch(os.read(fd, 64))
-    finally:
-        os.close(fd)
     if not found:
         raise Wrong("NoNumber", f"the request {name} is no number")
     return int(found[1])
@@ -124,6 +121,16 @@ def handled(register: Register, name: str, work: Callable[[int], Result]) -> int
         forget(folder, name + BEGUN)
         print(answer, file=sys.stderr if "error" in said else sys.stdout)
         return 1 if "error" in said else 0
+
+
+def command(name: str, work: Callable[[Register, int], Result]) -> tuple[
+        Callable[[argparse.ArgumentParser], None], Callable[[argparse.Namespace], int]]:
+    """The arguments and the work of a command that does what is asked by this name."""
+    def main(given: argparse.Namespace) -> int:
+        register = known(given.name)
+        return handled(register, name, lambda number: work(register, number))
+
+    return add_name, main
 
 
 def answer_of(folder: int, name: str, work: Callable[[int], Result]) -> dict[str, str | int]:

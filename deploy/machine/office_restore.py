@@ -17,7 +17,6 @@ example:
 
 exit status: 0 restored; 1 not, and the line says why; 2 wrong arguments.
 """
-import argparse
 import datetime
 import os
 import pathlib
@@ -29,19 +28,10 @@ from register_files import Refused
 from . import copies, files, office_requests
 from .office_requests import Result, Wrong
 from .programs import USER, call, program
-from .registers import Register, known, open_error
+from .registers import Register, open_error
 
 NAME = re.compile(r"office-([0-9]{6,})-[0-9-]{10}T[0-9]{6}\.db")
 KEPT = re.compile(r"; what was there is kept as (.+)\n")
-
-
-def arguments(reader: argparse.ArgumentParser) -> None:
-    reader.add_argument("name", metavar="NAME", help="the name of the register")
-
-
-def main(given: argparse.Namespace) -> int:
-    register = known(given.name)
-    return office_requests.handled(register, "restore", lambda number: restored(register, number))
 
 
 def copy_of(register: Register, number: int) -> pathlib.Path:
@@ -109,3 +99,6 @@ def set_aside(register: Register, said: str) -> str:
         # (then it is kept under the name that it has)
         return os.path.basename(kept[1])
     return os.path.basename(name)
+
+
+arguments, main = office_requests.command("restore", restored)

@@ -9,7 +9,7 @@ import time
 import typing
 import urllib.parse
 
-from register_files import Refused
+from register_files import PARTS, Refused
 
 from . import files
 from .programs import OFFICE
@@ -46,8 +46,7 @@ def opened(register: Register) -> typing.Iterator[sqlite3.Connection]:
     with files.acting_as(OFFICE):
         if not os.path.lexists(path):
             raise Refused(f"{path} is not there")
-        if not stat.S_ISREG(path.lstat().st_mode):
-            raise Refused(f"{path} is no file")
+        see_files(path)
         with named_errors(str(path)):
             address = f"file:{urllib.parse.quote(str(path))}?mode=ro"
             with contextlib.closing(sqlite3.connect(address, uri=True)) as db:
@@ -55,6 +54,13 @@ def opened(register: Register) -> typing.Iterator[sqlite3.Connection]:
                 db.execute("BEGIN")
                 distrust(db, str(path))
                 yield db
+
+
+def see_files(path: pathlib.Path) -> None:
+    """Refuses what is no file where SQLite reads one: it would wait for a pipe without end."""
+    for it in (pathlib.Path(f"{path}{end}") for end in PARTS):
+        if os.path.lexists(it) and not stat.S_ISREG(it.lstat().st_mode):
+            raise Refused(f"{it} is no file")
 
 
 def distrust(db: sqlite3.Connection, name: str) -> None:

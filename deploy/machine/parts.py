@@ -36,12 +36,11 @@ PARTS = {
     "second copy": Part(
         "no other machine has taken the register over, it is not older than 26 hours, and at the"
         " place that is named now, where nothing is of another register of this name. Where no"
-        " second place is named, its file has the line none. Whether copies are encrypted there is"
-        " a choice, which it names",
+        " second place is named, its file has the line none. A key is set, and its identity file"
+        " is not on this machine alone",
         "ATTENTION; FAILED, with desk and site, if another machine has taken over"),
     "drill": Part(
-        "it is not older than 35 days; where copies are encrypted, neither is the last one that"
-        " opened them"),
+        "it is not older than 35 days, nor is the last one that opened a copy of the second place"),
     "disk": Part(
         "the greatest of these is free: ten times the register, three times the newest archive of"
         " people and files, and 200 MB; where register, copies and application are, and at the"

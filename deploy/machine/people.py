@@ -4,7 +4,8 @@ import contextlib
 import datetime
 import typing
 
-from office.web import people, store
+from office.web.frame import people
+from office.web.register import store
 from register_files import Refused
 
 from . import answers, files, office_store
@@ -20,8 +21,10 @@ ROLES_TEXT = f"{', '.join(ROLES)}, or {SCHOOL}CODE"
 @contextlib.contextmanager
 def opened(register: Register) -> typing.Iterator[tuple[people.People, store.Store]]:
     """The people, as the user of the application, whose file it is."""
+    path = office_store.path_of(register)
     with files.acting_as(OFFICE):
-        found = store.Store(str(office_store.path_of(register)))
+        office_store.see_files(path)
+        found = store.Store(str(path))
         try:
             yield people.People(found), found
         finally:
@@ -85,7 +88,7 @@ def remove(register: Register, user: User) -> None:
 
 def set_provider(register: Register, text: str) -> None:
     """Signs people in by the accounts of the authority, as a text of JSON says; or no more."""
-    from office.web import authority
+    from office.web.frame import authority
 
     with opened(register) as (_, kept), kept.writing():
         provider = authority.provider_in(text) if text else None

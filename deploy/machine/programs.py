@@ -4,6 +4,7 @@ import pathlib
 import shutil
 import subprocess
 import sys
+import typing
 
 from register_files import Refused
 
@@ -37,13 +38,16 @@ def tool(name: str, package: str) -> str:
 
 
 def call(
-    *arguments: object, text: str = "", as_user: str | None = None, may_fail: bool = False
+    *arguments: object, text: str = "", as_user: str | None = None, may_fail: bool = False,
+    given: typing.IO[bytes] | None = None,
 ) -> "subprocess.CompletedProcess[str]":
-    """Runs a program and returns what it printed; where it fails, that is the error."""
+    """Runs a program, which reads a text or a file that is given, and returns what it printed;
+    where it fails, that is the error."""
     is_other = as_user is not None and os.geteuid() == 0
     done = subprocess.run(
         [str(it) for it in arguments],
-        input=text,
+        input=None if given else text,
+        stdin=given,
         text=True,
         capture_output=True,
         cwd="/",

@@ -1,11 +1,12 @@
 """The registers of this machine, and where the files of each are."""
+import argparse
 import contextlib
 import dataclasses
 import pathlib
 import re
 import sqlite3
 
-from office import model
+from office.core import model
 from register_files import Refused
 
 from . import copies
@@ -89,6 +90,11 @@ def named(name: str) -> Register:
             2,
         )
     return Register(name)
+
+
+def add_name(reader: argparse.ArgumentParser) -> None:
+    """Adds what each command of a unit is given: the name of the register."""
+    reader.add_argument("name", metavar="NAME", help="the name of the register")
 
 
 def known(name: str) -> Register:

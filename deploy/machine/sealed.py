@@ -1,8 +1,8 @@
 """Copies that are encrypted before they leave for the second place, by age: for the recipient whose
 public key is in the settings, who keeps the identity file that opens them.
 
-Where a recipient is set, nothing is copied there in another form: without age, or with a key that
-is none, the copy fails. An encrypted copy differs each time that it is made, so the digest of what
+Nothing is copied there in another form: without age, without a key, or with one that is none, the
+copy fails. An encrypted copy differs each time that it is made, so the digest of what
 was sent is kept beside the first copies, and what is there is compared with it.
 """
 import contextlib
@@ -22,6 +22,8 @@ from .registers import SETTINGS, Register
 
 RECIPIENT, IDENTITY, END = "second-copy-recipient", "second-copy-identity", ".age"
 SENT = "second-copy.sent"
+# the first line of an identity file that this machine has made
+MADE_HERE = "# made on this machine by admissions-admin"
 # a folder that is in memory
 MEMORY = pathlib.Path("/run")
 KEY = re.compile(r"age1[0-9a-z]{58}|ssh-(?:ed25519|rsa) [A-Za-z0-9+/=]+(?: .*)?")
@@ -40,8 +42,32 @@ def recipient() -> str | None:
     found = [line.strip() for line in lines if line.strip() and not line.lstrip().startswith("#")]
     if len(found) != 1 or not KEY.fullmatch(found[0]):
         raise Refused(f"{path} must have one line with a public key of age, as age-keygen prints it"
-                      " (age1..), so nothing is copied. To copy without encryption remove the file")
+                      " (age1..), so nothing is copied")
     return found[0]
+
+
+def needed() -> str:
+    """The public key for which copies are encrypted, without which none leaves this machine."""
+    if key := recipient():
+        return key
+    raise Refused(f"{SETTINGS / RECIPIENT} names no key, and copies leave this machine only"
+                  " encrypted: admissions-admin second-place --encrypt KEY")
+
+
+def make_here() -> str:
+    """Has this machine keep an identity file, which is made unless there is one. Returns its public
+    key."""
+    path, generate = SETTINGS / IDENTITY, tool("age-keygen", "age")
+    if not path.exists():
+        text = call(generate).stdout
+        files.write(path, f"{MADE_HERE}\n{text}", 0o400, USER, USER)
+    return call(generate, "-y", path).stdout.strip()
+
+
+def is_made_here() -> bool:
+    """Whether the identity file was made here, and is nowhere else as far as is known."""
+    path = SETTINGS / IDENTITY
+    return path.exists() and files.content_as(USER, path).startswith(MADE_HERE.encode())
 
 
 def age() -> str:
@@ -108,10 +134,13 @@ def digest(path: pathlib.Path) -> str:
         return hashlib.file_digest(file, "sha256").hexdigest()
 
 
-def sent(register: Register) -> dict[str, list[str]]:
-    """What was sent, by the name of the first copy: its digest, and that of the encrypted one."""
+def sent(register: Register, place: str) -> dict[str, list[str]]:
+    """What was sent to this place last, by the name of the first copy: its digest, and that of the
+    encrypted one."""
     try:
         found = json.loads((register.copies / SENT).read_text(encoding="utf-8"))
+        if found.pop("place", place) != place:
+            return {}
         return {str(name): [str(one), str(other)] for name, (one, other) in found.items()}
     except FileNotFoundError:
         return {}
@@ -120,8 +149,8 @@ def sent(register: Register) -> dict[str, list[str]]:
                       f" again: {error}") from error
 
 
-def keep_sent(register: Register, found: dict[str, list[str]]) -> None:
-    """Keeps what was sent, without copies that are gone here."""
+def keep_sent(register: Register, place: str, found: dict[str, list[str]]) -> None:
+    """Keeps what was sent to a place, without copies that are gone here."""
     there = {name: it for name, it in found.items() if (register.copies / name).exists()}
-    text = json.dumps(there, sort_keys=True, indent=1) + "\n"
+    text = json.dumps({"place": place, **there}, sort_keys=True, indent=1) + "\n"
     files.write_as_desk(register.copies / SENT, text.encode())

@@ -1,28 +1,25 @@
-"""Copies the nightly copies of a register to the second place, and opens the
-newest of them as it arrived there.
+"""Copies the nightly copies of a register to the second place, encrypted, and
+compares what arrived there.
 
   second-copy NAME
 
 /etc/admissions/second-copy names the place in one line, as rsync names it: a
 folder of another disk, or of another machine by ssh; or it has the line
-`none`, by which an office has decided against a second place. The folder NAME
-is made in the place. Copies that are there stay as they are. A copy of the
-history is replaced by a longer one; where the one there is longer, as another
-machine's may be, nothing of the history is copied, and the line says so. Then
-the newest copy and the archive of its settings are fetched back and compared
-with the first ones byte by byte, the copy is opened by the program, and rsync
-compares the history by checksums. What is there of an earlier register of this
-NAME, with a greater number or another history, is named: a takeover would go
-on from it. The result is in
+`none`, by which an office has decided against a second place. All of it is
+encrypted before it leaves, as NAME.age, for the public key of age in
+/etc/admissions/second-copy-recipient: without age, without a key or with a
+wrong one nothing is copied. The folder NAME is made in the place. Copies that
+are there stay as they are. A copy of the history is replaced by a longer one;
+where the one there is longer, as another machine's may be, nothing of the
+history is copied, and the line says so. Then the newest copy, the archive of
+its settings and the history are fetched back and compared with what was sent.
+Where /etc/admissions/second-copy-identity has the identity file, of the user
+admissions alone, the copy is decrypted and opened by the program. What is there
+of an earlier register of this NAME, with a greater number or another history,
+is named: a takeover would go on from it; and so is what an earlier version left
+there unencrypted. The result is in
 /var/backups/admissions/NAME/second-copy.report, which the status reads.
 Where no place is named nothing is done.
-
-With a public key of age in /etc/admissions/second-copy-recipient all of it is
-encrypted before it leaves, as NAME.age, and is compared by its digest. It is
-decrypted and opened only where /etc/admissions/second-copy-identity has the
-identity file, of the user admissions alone. Without age, or with a wrong key,
-nothing is copied. Copies from before the key was set are named: they are not
-encrypted.
 
 example:
   second-copy secondary-2025
@@ -44,7 +41,7 @@ from register_files import Refused
 from . import copies, files, history_copies, sealed
 from .history_copies import FOLDER as HISTORY
 from .programs import USER, call, tool
-from .registers import SETTINGS, Register, known, open_error
+from .registers import SETTINGS, Register, known, open_error, add_name
 
 REPORT = "second-copy.report"
 # what is written where there shall be no second place
@@ -59,8 +56,7 @@ MACHINE = pathlib.Path("/etc/machine-id")
 TAKEN_OVER = "taken-over"
 
 
-def arguments(reader: argparse.ArgumentParser) -> None:
-    reader.add_argument("name", metavar="NAME", help="the name of the register")
+arguments = add_name
 
 
 def main(given: argparse.Namespace) -> int:
@@ -202,49 +198,34 @@ def taken_over(register: Register) -> str | None:
 
 
 def copied(register: Register, place: str) -> str:
-    """Copies, fetches back, compares and opens. Returns the line of the report."""
+    """Encrypts what is not at the second place yet, copies it, fetches back and compares. Returns
+    the line of the report. Nothing is begun without a key, or the program that encrypts."""
     made = register.nightly_copies()
     if not made:
         raise Refused(f"{register.name} has no nightly copy yet")
+    key = sealed.needed()
+    sealed.age()
     if is_local(place):
         see_place(register, place)
-    there = f"{place}/{register.name}/"
-    if key := sealed.recipient():
-        return copied_sealed(register, place, key)
     see_owner(register, place)
-    filters = [it for pattern in copies.PATTERNS for it in ("--include", pattern)]
-    rsync("--ignore-existing", "--dirs", *filters, "--exclude", "*", f"{register.copies}/", there)
-    has_history = (register.copies / HISTORY).is_dir()
-    if has_history:
-        see_none_longer(register, there)
-        rsync("--recursive", register.copies / HISTORY, there)
-    settings = copies.settings_of(made[-1])
-    with tempfile.TemporaryDirectory() as room:
-        for path in (made[-1], settings):
-            if (
-                path.exists()
-                and fetched(place, register, path.name, room).read_bytes() != path.read_bytes()
-            ):
-                raise Refused(f"{there}{path.name} is not equal to {path}")
-        if error := open_error(pathlib.Path(room, made[-1].name)):
-            raise Refused(f"{there}{made[-1].name} does not open: {error}")
-    if has_history and (
-        differs := rsync(
-            "--recursive",
-            "--checksum",
-            "--dry-run",
-            "--out-format=%n",
-            register.copies / HISTORY,
-            there,
-        )
-    ):
-        raise Refused(
-            f"{there}{HISTORY} is not equal to {register.copies / HISTORY}:"
-            f" {' '.join(differs.split())}"
-        )
+    there, newest = f"{place}/{register.name}/", made[-1]
+    listed, sent = sizes(there), sealed.sent(register, place)
+    for path in to_copy(register):
+        name = str(path.relative_to(register.copies))
+        is_there, first = name + sealed.END in listed, sealed.digest(path)
+        # (of one from before whose digest is lost nothing is known: it stays as it is)
+        is_left = name not in sent and path.stem != newest.stem and path.parent == register.copies
+        if not (is_there and (is_left or sent.get(name, [""])[0] == first)):
+            sent[name] = [first, send_sealed(path, there, key, listed)]
+            sealed.keep_sent(register, place, sent)
+    see_sealed(register, place, sent)
+    opens = opened_sealed(register, place, newest)
+    plain = sorted(it for it in listed if not it.endswith(sealed.END) and it != OWNER)
     return (
-        f"{now()} {made[-1].name} is in {place}/{register.name}, equal to the first copy, and opens"
-        + warnings(register, place, sizes(there))
+        f"{now()} {newest.name}{sealed.END} is in {place}/{register.name}, encrypted for"
+        f" {key[:16]}.., {opens}" + warnings(register, place, listed)
+        + (f"; WARNING: {len(plain)} files there are not encrypted, as {plain[0]}: they are of"
+           " before, remove them there" if plain else "")
     )
 
 
@@ -268,32 +249,6 @@ def of_another(register: Register, listed: Iterable[str]) -> str:
     return next((it for it in names if copies.number(pathlib.Path(it)) > last
                  or history_copies.NAME.fullmatch(it.removeprefix(f"{HISTORY}/"))
                  and not (register.copies / it).exists()), "")
-
-
-def copied_sealed(register: Register, place: str, key: str) -> str:
-    """Encrypts what is not there yet, copies it, fetches back and compares. Returns the line of the
-    report. Nothing is begun without the program that encrypts."""
-    sealed.age()
-    see_owner(register, place)
-    there, newest = f"{place}/{register.name}/", register.nightly_copies()[-1]
-    listed, sent = sizes(there), sealed.sent(register)
-    for path in to_copy(register):
-        name = str(path.relative_to(register.copies))
-        is_there, first = name + sealed.END in listed, sealed.digest(path)
-        # (of one from before whose digest is lost nothing is known: it stays as it is)
-        is_left = name not in sent and path.stem != newest.stem and path.parent == register.copies
-        if not (is_there and (is_left or sent.get(name, [""])[0] == first)):
-            sent[name] = [first, send_sealed(path, there, key, listed)]
-            sealed.keep_sent(register, sent)
-    see_sealed(register, place, sent)
-    opens = opened_sealed(register, place, newest)
-    plain = sorted(it for it in listed if not it.endswith(sealed.END) and it != OWNER)
-    return (
-        f"{now()} {newest.name}{sealed.END} is in {place}/{register.name}, encrypted for"
-        f" {key[:16]}.., {opens}" + warnings(register, place, listed)
-        + (f"; WARNING: {len(plain)} files there are not encrypted, as {plain[0]}: they are of"
-           " before, remove them there" if plain else "")
-    )
 
 
 def send_sealed(path: pathlib.Path, there: str, key: str, listed: dict[str, int]) -> str:
@@ -364,27 +319,6 @@ def too_long(name: str, here: pathlib.Path) -> str:
     return (f"{name} is longer than {here}, and stays as it is."
             " Does another machine copy to the same place?"
             " Rename it there to keep it, and repeat this")
-
-
-def see_none_longer(register: Register, there: str) -> None:
-    """Refuses to replace a copy of the history by a shorter one: the copies here are only ever made
-    longer, so that there is of another machine."""
-    listed = rsync(
-        "--list-only",
-        "--recursive",
-        "--no-human-readable",
-        "--include",
-        f"/{HISTORY}",
-        "--include",
-        f"/{HISTORY}/*",
-        "--exclude",
-        "*",
-        there,
-    )
-    for size, name in re.findall(rf"(?m)^-\S+ +(\d+) \S+ \S+ {HISTORY}/(.+)$", listed):
-        here = register.copies / HISTORY / name
-        if here.exists() and here.stat().st_size < int(size):
-            raise Refused(too_long(f"{there}{HISTORY}/{name}", here))
 
 
 def fetched(

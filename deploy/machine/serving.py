@@ -7,7 +7,7 @@ import sys
 import time
 import typing
 
-from office.libraries import PACKAGES
+from office.core.libraries import PACKAGES
 from register_files import Refused
 
 from . import certificates, files, sites

@@ -36,7 +36,7 @@ from register_files import OWNER_ALONE, Refused
 
 from . import copies, files, history_copies, office_store, sealed
 from .programs import OFFICE
-from .registers import SETTINGS, Register, known
+from .registers import SETTINGS, Register, known, add_name
 from .second_copy import now, write_report
 
 # What is copied, of a register and of all: a secret key under whatever name is not, since whoever
@@ -46,8 +46,7 @@ SHARED = ("authority", "second-copy", sealed.RECIPIENT)
 REPORT = "settings-copy.report"
 
 
-def arguments(reader: argparse.ArgumentParser) -> None:
-    reader.add_argument("name", metavar="NAME", help="the name of the register")
+arguments = add_name
 
 
 def main(given: argparse.Namespace) -> int:
@@ -139,7 +138,9 @@ def names_of(copy: str) -> dict[str, str]:
     return {name: data.decode("utf-8").strip() for name, data in found.items()}
 
 
-def restored(register: Register, copy: pathlib.Path) -> typing.Iterator[str]:
+def restored(
+    register: Register, copy: pathlib.Path, with_history: bool = True
+) -> typing.Iterator[str]:
     """Brings back the people, settings and history that are beside a copy, where this machine has
     none of them. Returns a line for each. The site's name is set up as if it were given, and owners
     and modes are those that this program gives: whoever has the second place could write others.
@@ -158,7 +159,8 @@ def restored(register: Register, copy: pathlib.Path) -> typing.Iterator[str]:
             yield f"took {path} from the archive"
     if data := found.get(office_store.NAME):
         yield from office_store.restored(register, data, f"{office_store.NAME} of {archive}")
-    yield from history_copies.restored(register, copy.parent / history_copies.FOLDER)
+    if with_history:
+        yield from history_copies.restored(register, copy.parent / history_copies.FOLDER)
 
 
 def has_content(path: pathlib.Path) -> bool:

@@ -66,6 +66,21 @@ def machine_fixture(tmp_path: pathlib.Path, monkeypatch: pytest.MonkeyPatch) -> 
     return tmp_path
 
 
+def made_key(path: pathlib.Path) -> tuple[str, pathlib.Path]:
+    """A public key of age, and the identity file that opens what is encrypted for it."""
+    subprocess.run(["age-keygen", "-o", path], check=True, capture_output=True)
+    done = subprocess.run(["age-keygen", "-y", path], check=True, capture_output=True, text=True)
+    return done.stdout.strip(), path
+
+
+@pytest.fixture(name="key")
+def key_fixture(machine: pathlib.Path) -> tuple[str, pathlib.Path]:
+    """The key for which this machine encrypts copies, whose identity file is kept elsewhere."""
+    found = made_key(machine / "identity")
+    (machine / "etc/second-copy-recipient").write_text(f"# of the vault\n{found[0]}\n")
+    return found
+
+
 # in place of the program: a register of these tests is the text that the program would show of it
 STAND_IN = """#!/bin/sh
 [ "$1" = show ] && exec cat "$2"

@@ -5,10 +5,10 @@ import contextlib
 import typing
 
 from machine import office_store, registers
-from office.web.history import ANSWER, SENDS, History
-from office.web.notes import Notes
-from office.web.people import PERSON, Person
-from office.web.store import Store
+from office.web.children.notes import Notes
+from office.web.frame.people import PERSON, Person
+from office.web.register.history import ANSWER, SENDS, History
+from office.web.register.store import Store
 
 AT = "2025-03-03T10:00:00.000+00:00"
 NO_HASH = "$argon2id$v=19$m=65536,t=3,p=4$c2FsdA$"

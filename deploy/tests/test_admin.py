@@ -1,6 +1,7 @@
 """The frame of admissions-admin: its verbs and their help, how each ends, that one alone changes
 something at a time, and that the journal has who typed it."""
 import argparse
+import errno
 import multiprocessing
 import os
 import pathlib
@@ -14,6 +15,7 @@ import typing
 import pytest
 from conftest import ROOT
 from machine import admin, files
+from office.core import run
 from register_files import Refused
 
 FOLDER = ROOT / "deploy/machine/verbs"
@@ -79,7 +81,7 @@ def begin_fixture(
     monkeypatch: pytest.MonkeyPatch, machine: pathlib.Path
 ) -> typing.Callable[..., int]:
     """Runs a verb whose work is another, and returns the status."""
-    monkeypatch.setattr("office.run.SIGNALS", ())
+    monkeypatch.setattr("office.core.run.SIGNALS", ())
     monkeypatch.setattr(os, "geteuid", lambda: 0)
 
     def begin(verb: str, main: typing.Callable[[argparse.Namespace], int]) -> int:
@@ -126,44 +128,92 @@ def test_only_root_changes_something(
 
 
 def hold(place: pathlib.Path) -> None:
-    """Has the lock for a moment."""
-    with files.lock():
+    """Has the lock until it is ended."""
+    with files.lock("admissions-admin setup, by the administrator of the machine (ann)"):
         (place / "held").touch()
-        time.sleep(1)
-        (place / "released").touch()
+        time.sleep(60)
 
 
-@pytest.mark.parametrize("verb", ["sites", "status"])
-def test_one_verb_at_a_time_changes_something_and_the_next_one_waits(
-    verb: str, begin: typing.Callable[..., int], journal: list[str], machine: pathlib.Path,
+def test_a_second_verb_that_changes_something_is_refused_and_names_the_first(
+    begin: typing.Callable[..., int], journal: list[str], machine: pathlib.Path,
     capfd: pytest.CaptureFixture[str],
 ) -> None:
-    """What only looks waits for nobody."""
+    """At once. What only looks is not; and one that was killed stands in nobody's way."""
     other = multiprocessing.get_context("fork").Process(target=hold, args=(machine,))
     other.start()
     while not (machine / "held").exists():
         time.sleep(0.01)
-    found: list[bool] = []
-
-    def main(_: argparse.Namespace) -> int:
-        found.append((machine / "released").exists())
-        return 0
-
-    assert begin(verb, main) == 0
+    assert begin("status", lambda _: 0) == 0 and begin("sites", lambda _: 0) == 1
+    said = re.sub("[0-9]", "0", capfd.readouterr().err)
+    assert said == (
+        "admissions-admin sites: admissions-admin setup, by the administrator of the machine (ann),"
+        " since 0000-00-00 00:00:00 has not ended: nothing was done. Type it again then\n")
+    assert journal == []
+    other.kill()
     other.join()
-    assert found == [verb == "sites"]
+    assert begin("sites", lambda _: 0) == 0
+
+
+def refused_by_a_full_disk(_: argparse.Namespace) -> int:
+    raise OSError(errno.ENOSPC, "No space left on device", "/etc/admissions/x")
+
+
+def refused_by_a_program(_: argparse.Namespace) -> int:
+    raise Refused("tar: No space left on device")
+
+
+def wrong(_: argparse.Namespace) -> int:
+    raise Refused("no such register: x", 2)
+
+
+@pytest.mark.parametrize("work, said, status", [
+    (refused_by_a_full_disk, "/etc/admissions/x: No space left on device", 1),
+    (refused_by_a_program, "tar: No space left on device", 1),
+    (wrong, "no such register: x", 2),
+])
+def test_a_verb_names_the_folder_without_room(
+    work: typing.Callable[[argparse.Namespace], int], said: str, status: int,
+    begin: typing.Callable[..., int], journal: list[str], machine: pathlib.Path,
+    monkeypatch: pytest.MonkeyPatch, capfd: pytest.CaptureFixture[str],
+) -> None:
+    """Also where another program has met it; but not where the words are wrong."""
+    real = os.statvfs
+
+    def full(path: pathlib.Path) -> os.statvfs_result:
+        found = list(real(path))
+        found[4] = 0 if path == machine / "etc" else found[2]
+        return os.statvfs_result(found)
+
+    monkeypatch.setattr(os, "statvfs", full)
+    monkeypatch.setattr(admin, "ROOMS", ())
+    assert begin("sites", work) == status
+    more = (f". There is no room on the disk of {machine / 'etc'}: what was there stays. Make room,"
+            " and type it again")
     assert capfd.readouterr().err == (
-        "waiting for another admissions-admin to end\n" * (verb == "sites"))
+        f"admissions-admin sites: {said}{more if status == 1 else ''}\n")
+
+
+def interrupted(_: argparse.Namespace) -> int:
+    raise run.Stopped("ended by the signal SIGTERM")
+
+
+def test_a_verb_that_is_interrupted_says_how_it_goes_on(
+    begin: typing.Callable[..., int], journal: list[str], capfd: pytest.CaptureFixture[str]
+) -> None:
+    assert begin("sites", interrupted) == 1
+    assert capfd.readouterr().err == (
+        "admissions-admin sites: ended by the signal SIGTERM: type it again, and it goes on\n")
 
 
 @pytest.mark.parametrize("name, verb", [("setup", "setup"), ("status", "status"),
-                                        ("sent", "sent"), ("retire", "retire")])
+                                        ("sent", ""), ("retire", "retire")])
 def test_a_command_of_before_names_its_verb_and_does_nothing(
     name: str, verb: str, tmp_path: pathlib.Path
 ) -> None:
     path = tmp_path / f"admissions-{name}"
     path.symlink_to(ROOT / "deploy/programs/renamed")
-    assert verb in VERBS
+    now = f"admissions-admin {verb} (" if verb else "the screen Copies of the office"
+    assert not verb or verb in VERBS
     status, out, error = ran(path, "secondary-2025")
     assert (status, out) == (2, "")
-    assert f"admissions-{name}: this is now: admissions-admin {verb} (" in error
+    assert f"admissions-{name}: this is now: {now}" in error

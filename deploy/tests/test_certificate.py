@@ -94,14 +94,14 @@ def test_a_certificate_with_its_key_is_taken_after_a_yes_and_what_was_there_is_k
 def test_the_answer_of_a_ca_is_taken_with_the_key_of_the_site(
     at_site: registers.Register, tmp_path: pathlib.Path, capsys: pytest.CaptureFixture[str]
 ) -> None:
-    """As the warning of set-up says, which docs/DEPLOYMENT.md shows: the key and the request stay.
-    Afterwards nothing is warned of."""
+    """As the warning of set-up says, which docs/admin/INSTALL.md shows: the key and the request
+    stay. Afterwards nothing is warned of."""
     before = content(at_site)
     warning = certificates.see(at_site, HOST)
     assert warning and "no CA has signed it" in warning
-    page = (ROOT / "docs/DEPLOYMENT.md").read_text(encoding="utf-8").replace("2027", "2025")
+    page = (ROOT / "docs/admin/INSTALL.md").read_text(encoding="utf-8").replace("2027", "2025")
     shown = warning.replace(str(at_site.settings.parent), "/etc/admissions")
-    assert page.splitlines().count(shown) == 2, shown
+    assert page.splitlines().count(shown) == 1, shown
     ca = tmp_path / "ca"
     openssl("req", "-x509", "-newkey", "ec", "-pkeyopt", "ec_paramgen_curve:P-256", "-nodes",
             "-subj", "/CN=CA", "-keyout", f"{ca}.key", "-out", f"{ca}.crt")

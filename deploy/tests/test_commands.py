@@ -12,7 +12,7 @@ import types
 import pytest
 from by_path import loaded
 from conftest import ROOT
-from office import run
+from office.core import run
 from register_files import Refused
 
 COMMAND = ROOT / "office/command"
@@ -32,7 +32,7 @@ def ended(name: str, error: BaseException, monkeypatch: pytest.MonkeyPatch) -> i
 
     monkeypatch.setattr(module_of(name), "main", main)
     # (the run takes the signals and the rights of new files)
-    monkeypatch.setattr("office.run.SIGNALS", ())
+    monkeypatch.setattr("office.core.run.SIGNALS", ())
     monkeypatch.setattr(sys, "argv", [name, *GIVEN.get(name, ["secondary-2025"])])
     return run.run(name, module_of(name))
 
@@ -145,7 +145,7 @@ def test_a_signal_is_one_line(tmp_path: pathlib.Path) -> None:
     program.write_text(
         "import os, signal, sys\n"
         f"sys.path[:0] = {[str(ROOT), str(ROOT / 'tools')]!r}\n"
-        "from office import run\n"
+        "from office.core import run\n"
         "kill = lambda: os.kill(os.getpid(), signal.SIGTERM) or 0\n"
         "sys.exit(run.ended('command', kill))\n"
     )

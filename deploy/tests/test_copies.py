@@ -29,8 +29,8 @@ from machine import (
     sites,
 )
 from machine.verbs import setup, status
-from office.web import people
-from office.web.store import Store
+from office.web.frame import people
+from office.web.register.store import Store
 from office_files import (
     NO_HASH,
     add_note_and_file,
@@ -192,6 +192,7 @@ def test_the_age_of_the_second_copy(
     age: float, is_well: bool, register: registers.Register, machine: pathlib.Path
 ) -> None:
     (machine / "etc/second-copy").write_text("/mnt/copies\n")
+    (machine / "etc/second-copy-recipient").write_text(f"age1{'q' * 58}\n")
     report = register.copies / "second-copy.report"
     report.write_text(f"x.db is in /mnt/copies/{register.name}, equal to the first copy\n")
     os.utime(report, (time.time() - age, time.time() - age))
@@ -529,64 +530,6 @@ def test_copies_that_ended_before_the_history_are_reported(
     assert (is_well, "without the whole history" in text) == (False, True)
 
 
-@pytest.mark.parametrize("more, is_refused", [(-1, False), (0, False), (1, True)])
-def test_a_longer_history_at_the_second_place_is_not_replaced(
-    more: int,
-    is_refused: bool,
-    copied: pathlib.Path,
-    register: registers.Register,
-    monkeypatch: pytest.MonkeyPatch,
-) -> None:
-    """Where the place is listed as rsync lists it."""
-    path = history_copies.made(copied.parent / "history")[0]
-    sizes = {
-        path.name: path.stat().st_size + more,
-        "history-000009-0123456789abcdef.gz": 10**9,
-    }
-    listed = "drwx------          4,096 2025/03/03 02:30:00 .\n"
-    listed += "drwx------          4,096 2025/03/03 02:30:00 history\n"
-    listed += "".join(
-        f"-rw------- {size:14} 2025/03/03 02:30:00 history/{name}\n"
-        for name, size in sizes.items()
-    )
-    monkeypatch.setattr(second_copy, "rsync", lambda *_: listed)
-    if is_refused:
-        with pytest.raises(
-            Refused,
-            match=f"^vault:copies/x/history/{path.name} is longer than {path},"
-            " and stays as it is",
-        ):
-            second_copy.see_none_longer(register, "vault:copies/x/")
-    else:
-        second_copy.see_none_longer(register, "vault:copies/x/")
-
-
-def test_the_second_place_has_the_history(
-    copied: pathlib.Path,
-    register: registers.Register,
-    machine: pathlib.Path,
-    monkeypatch: pytest.MonkeyPatch,
-) -> None:
-    """By rsync; what was damaged there is found, and what this machine has longer is replaced."""
-    (machine / "mnt").mkdir()
-    monkeypatch.setattr(second_copy, "open_error", lambda _: "")
-    second_copy.copied(register, str(machine / "mnt"))
-    there = machine / "mnt" / register.name / "history"
-    name = history_copies.made(copied.parent / "history")[0].name
-    assert [it.name for it in there.iterdir()] == [name]
-    assert children_of(gzip.decompress((there / name).read_bytes())) == [1, 2]
-    record(register, 3)
-    copy_settings(register)
-    second_copy.copied(register, str(machine / "mnt"))
-    whole = (there / name).read_bytes()
-    assert children_of(gzip.decompress(whole)) == [1, 2, 3]
-    at = (there / name).stat().st_mtime_ns
-    (there / name).write_bytes(whole[:-1] + b"X")
-    os.utime(there / name, ns=(at, at))
-    with pytest.raises(Refused, match=f"^{there} is not equal to {register.copies}/history: "):
-        second_copy.copied(register, str(machine / "mnt"))
-
-
 @pytest.mark.parametrize("name", [
     "nightly-000002-2025-03-02T023000.db", "history/history-000001-0123456789abcdef.gz"])
 def test_what_an_earlier_register_has_left_at_the_second_place_is_named(
@@ -594,14 +537,13 @@ def test_what_an_earlier_register_has_left_at_the_second_place_is_named(
     copied: pathlib.Path,
     register: registers.Register,
     machine: pathlib.Path,
-    monkeypatch: pytest.MonkeyPatch,
+    key: tuple[str, pathlib.Path],
 ) -> None:
-    """As docs/DEPLOYMENT.md says where a name is used again: until its folder has another name."""
+    """As OPERATE says where a name is used again: until its folder has another name."""
     place = machine / "mnt"
     (place / register.name / "history").mkdir(parents=True)
     (machine / "etc/second-copy").write_text(f"{place}\n")
-    monkeypatch.setattr(second_copy, "open_error", lambda _: "")
-    (place / register.name / name).write_text("of before")
+    (place / register.name / f"{name}.age").write_text("of before")
     second_copy.write_report(register, second_copy.REPORT, second_copy.copied(register, str(place)))
     is_well, text = status.second_of(register)
     assert not is_well
@@ -609,7 +551,7 @@ def test_what_an_earlier_register_has_left_at_the_second_place_is_named(
     (place / register.name).rename(place / "before")
     assert "another register" not in second_copy.copied(register, str(place))
     # (what was removed here after 30 nights is no other's)
-    (place / register.name / "nightly-000000-2025-02-28T023000.db").write_text("of this register")
+    (place / register.name / "nightly-000000-2025-02-28T023000.db.age").write_text("of this one")
     assert "another register" not in second_copy.copied(register, str(place))
 
 
@@ -649,7 +591,7 @@ def test_people_settings_and_history_come_back_where_there_are_none(
 def test_people_alone_come_back_where_the_application_has_none(
     copied: pathlib.Path, register: registers.Register, machine: pathlib.Path
 ) -> None:
-    """As where docs/DEPLOYMENT.md puts the file of the application aside: all else stays."""
+    """As where docs/admin/RECOVER.md puts the file of the application aside: all else stays."""
     before = register.history.read_bytes()
     for it in register.office.glob("office.db*"):
         it.unlink()

@@ -200,7 +200,7 @@ def setting(machine: pathlib.Path) -> list[str]:
 
 def test_a_disk_is_the_second_place(
     place: pathlib.Path, machine: pathlib.Path, register: registers.Register,
-    capsys: pytest.CaptureFixture[str],
+    key: tuple[str, pathlib.Path], capsys: pytest.CaptureFixture[str],
 ) -> None:
     """The remarks of the file stay; the same line again asks nothing."""
     assert typed("second-place", f"{place}/") == 0
@@ -209,8 +209,40 @@ def test_a_disk_is_the_second_place(
         f"the second place is {place}", f"next: admissions-admin copy {NAME}"]
     assert typed("second-place", str(place)) == 0
     assert typed("second-place") == 0
-    assert "names nobody, so copies are not encrypted" in capsys.readouterr().out
+    assert f"second-copy-recipient: {key[0]}\n" in capsys.readouterr().out
     assert second_copy.place_of() == str(place)
+
+
+def test_no_place_is_named_to_which_nothing_goes_encrypted(
+    place: pathlib.Path, machine: pathlib.Path, capsys: pytest.CaptureFixture[str]
+) -> None:
+    """With the key in the same line it is."""
+    with pytest.raises(Refused, match="only encrypted: admissions-admin second-place --encrypt"):
+        typed("second-place", str(place))
+    assert setting(machine) == ["# a remark"]
+    assert typed("second-place") == 0 and "names no key, so nothing" in capsys.readouterr().out
+    assert typed("second-place", str(place), "--encrypt", f"age1{'a' * 58}") == 0
+    assert setting(machine) == ["# a remark", str(place)]
+
+
+def test_an_upgrade_gives_a_key_to_a_machine_that_has_copied_unencrypted(
+    place: pathlib.Path, machine: pathlib.Path, capsys: pytest.CaptureFixture[str]
+) -> None:
+    """Once. It says which file opens the copies, and so does the status, until it is kept
+    elsewhere; and what is encrypted for the key opens with it."""
+    for _ in range(2):
+        assert typed("second-place", "--key-here") == 0
+    key, identity = sealed.recipient(), machine / "etc/second-copy-identity"
+    first, again = capsys.readouterr().out.splitlines()
+    assert first.startswith(f"copies are encrypted for {key} from now on. {identity}, which opens")
+    assert again == f"copies are encrypted for {key} already" and sealed.is_made_here()
+    assert stat.S_IMODE(identity.stat().st_mode) == 0o400 and sealed.identity() == identity
+    (machine / "copy").write_text("of a night", encoding="ascii")
+    sealed.encrypt(machine / "copy", machine / "copy.age", str(key))
+    (machine / "copy").unlink()
+    assert sealed.decrypt(machine / "copy.age", identity).read_text() == "of a night"
+    identity.rename(machine / "elsewhere")
+    assert not sealed.is_made_here()
 
 
 @pytest.mark.parametrize("words, said", [
@@ -223,6 +255,7 @@ def test_a_wrong_place_or_key_changes_nothing(
     monkeypatch: pytest.MonkeyPatch,
 ) -> None:
     monkeypatch.setattr(sys, "stdin", io.StringIO(""))
+    monkeypatch.setattr(sealed, "needed", lambda: "a key")
     with pytest.raises(Refused, match=said) as found:
         typed("second-place", *words)
     assert (found.value.status, setting(machine)) == (2, ["# a remark"])
@@ -230,8 +263,8 @@ def test_a_wrong_place_or_key_changes_nothing(
 
 
 def test_another_place_and_the_disk_of_the_first_copies_are_confirmed(
-    place: pathlib.Path, machine: pathlib.Path, monkeypatch: pytest.MonkeyPatch,
-    capsys: pytest.CaptureFixture[str],
+    place: pathlib.Path, machine: pathlib.Path, key: tuple[str, pathlib.Path],
+    monkeypatch: pytest.MonkeyPatch, capsys: pytest.CaptureFixture[str],
 ) -> None:
     (machine / "etc/second-copy").write_text("/mnt/before\n")
     monkeypatch.setattr(second_place, "COPIES", machine)
@@ -273,7 +306,8 @@ def test_the_key_to_another_machine_is_made_once_and_printed_with_what_is_typed_
 
 
 def test_a_machine_that_is_not_reached_is_no_second_place(
-    place: pathlib.Path, machine: pathlib.Path, monkeypatch: pytest.MonkeyPatch
+    place: pathlib.Path, machine: pathlib.Path, key: tuple[str, pathlib.Path],
+    monkeypatch: pytest.MonkeyPatch,
 ) -> None:
     calls: list[list[str]] = []
 

@@ -1,13 +1,14 @@
 """admissions-admin move and rehearse: what goes along and what stays, killed at each step and typed
 again, and that a machine in use is no machine for trials."""
 import argparse
+import contextlib
 import pathlib
 import shutil
 import typing
 
 import pytest
 from conftest import Systemd, document, typed
-from machine import certificates, copies, programs, registers, second_copy, serving, sites
+from machine import certificates, copies, files, programs, registers, second_copy, serving, sites
 from machine.verbs import (
     certificate, copy as copy_verb, drill, move, rehearse, retire, takeover,
 )
@@ -49,7 +50,7 @@ def disk_fixture(
         (register.copies / f"nightly-{number:06}-2025-03-04T023000.db").write_text("last")
 
     def send() -> None:
-        line = f"{register.nightly_copies()[-1].name} is in /mnt/copies/{NAME}, equal\n"
+        line = f"{register.nightly_copies()[-1].name}.age is in /mnt/copies/{NAME}, equal\n"
         (register.copies / second_copy.REPORT).write_text(line)
 
     systemd.does = {f"start admissions-backup@{NAME}.service": back_up,
@@ -113,6 +114,35 @@ def test_what_the_second_place_does_not_have_goes_along_to_a_new_machine(
     assert content(register.office) == {
         "gazetteer/places.db": b"read in since", "archive/season.zip": b"season.zip"}
     assert f"{NAME} is moved. next: lead admissions.example" in capsys.readouterr().out
+
+
+def test_what_is_unpacked_is_so_by_the_user_whose_it_is(
+    disk: pathlib.Path, register: registers.Register, machine: pathlib.Path, systemd: Systemd,
+    monkeypatch: pytest.MonkeyPatch,
+) -> None:
+    """Otherwise a link that a service puts in its folder would have root write elsewhere."""
+    assert typed("move", "--pack", str(disk), "--yes") == 0
+    for it in (register.copies / "before-round-1.db", register.office / "archive/season.zip"):
+        it.unlink()
+    acting, by, real = ["root"], dict[str, str](), programs.call
+
+    @contextlib.contextmanager
+    def acting_as(name: str) -> typing.Iterator[None]:
+        acting.append(name)
+        yield
+        acting.pop()
+
+    def call(*words: object, **more: typing.Any) -> object:
+        before = here(machine)
+        done = real(*words, **more)
+        by.update(dict.fromkeys(here(machine).keys() - before.keys(), acting[-1]))
+        return done
+
+    monkeypatch.setattr(files, "acting_as", acting_as)
+    monkeypatch.setattr(move, "call", call)
+    assert typed("move", NAME, "--unpack", str(disk), "--yes") == 0
+    assert by == {f"{NAME}/before-round-1.db": programs.USER,
+                  f"{NAME}/archive/season.zip": programs.OFFICE}
 
 
 def test_a_last_copy_that_did_not_arrive_is_no_move(

@@ -15,7 +15,7 @@ import typing
 import pytest
 from machine import (
     copies, desk, files, histories, history_copies, metrics, office_delete, office_restore,
-    office_store, registers, settings_copy,
+    office_store, people, registers, settings_copy,
 )
 from machine.findings import Level
 from machine.verbs import status
@@ -85,6 +85,35 @@ def test_a_copy_of_the_history_that_is_no_file_is_named_and_holds_nothing_up(
     assert any(made.name in it for it in history_copies.copy(office))
     with pytest.raises(Refused, match=made.name):
         history_copies.whole(made)
+
+
+@pytest.mark.parametrize("end", ["", "-wal", "-shm", "-journal"])
+def test_a_pipe_beside_the_file_of_people_holds_nothing_up(
+    end: str, office: registers.Register
+) -> None:
+    """SQLite would read it, and wait for who writes it."""
+    path = pathlib.Path(f"{office_store.path_of(office)}{end}")
+    path.unlink(missing_ok=True)
+    os.mkfifo(path)
+    for read in (office_store.people_of, office_store.copy_of):
+        with pytest.raises(Refused, match=f"office.db{end} is no file"):
+            read(office)
+    with pytest.raises(Refused, match=f"office.db{end} is no file"):
+        people.add(office, "ann", "officer")
+
+
+def test_a_number_of_copies_that_is_no_file_holds_nothing_up(office: registers.Register) -> None:
+    os.mkfifo(office.copies / copies.LAST)
+    with pytest.raises(Refused, match=f"{copies.LAST} is no file"):
+        copies.last_number(office.copies)
+
+
+def test_a_history_that_somebody_names_and_is_no_file_holds_nothing_up(
+    tmp_path: pathlib.Path
+) -> None:
+    os.mkfifo(tmp_path / "history.jsonl")
+    with pytest.raises(Refused, match="history.jsonl is no file"):
+        histories.of_copy(tmp_path / "history.jsonl")
 
 
 def test_a_copy_of_the_history_that_unpacks_to_too_much_is_refused(

@@ -13,7 +13,7 @@ import pytest
 from by_path import loaded
 from conftest import ROOT
 from machine import serving
-from office import libraries
+from office.core import libraries
 
 GATE = """rt: adm_types proved
 All of it took 3310 seconds of wall-clock time, and 9000 of CPU time
@@ -262,22 +262,24 @@ def dependencies(package: str) -> set[str]:
 
 
 def test_the_package_depends_on_what_a_site_needs() -> None:
-    """Whatever set-up looks for, and rsync for second copies; none of what makes PDF."""
+    """Whatever set-up looks for, age and rsync for second copies; none of what makes PDF."""
     found = dependencies("admissions")
     imported = {libraries.PACKAGES[it] for it in serving.MODULES}
-    needed = {*serving.NEEDED.values(), *imported, "rsync"}
+    needed = {*serving.NEEDED.values(), *imported, "age", "rsync"}
     assert needed <= found and "python3-jinja2" in found
     assert not {libraries.PACKAGES[it] for it in libraries.LARGE} & found
 
 
-def test_the_office_package_depends_on_the_large_ones() -> None:
+def test_the_package_of_pdf_depends_on_the_large_ones() -> None:
     """And on the font of letters."""
-    found = dependencies("admissions-office")
+    found = dependencies("admissions-pdf")
     assert found == {"admissions", "fonts-dejavu-core", "python3-pikepdf", "python3-pyproj",
                      "weasyprint"}
 
 
-NAMES = ("admissions", "admissions-office")
+NAMES = ("admissions", "admissions-pdf")
+# what a trial had in place of the second one
+BEFORE = "admissions-office"
 
 
 def relation_of(name: str, version: str) -> str:
@@ -286,6 +288,14 @@ def relation_of(name: str, version: str) -> str:
     [line] = re.findall(rf"(?m)^Package: {name}\n(?:.+\n)*?Depends: (.*)$", text)
     own = [it for it in line.split(", ") if it.split()[0] in NAMES]
     return ", ".join(own).replace("${binary:Version}", version)
+
+
+def changed_by(name: str, version: str) -> str:
+    """The fields of debian/control by which a package takes the place of another one."""
+    text = (ROOT / "debian/control").read_text(encoding="utf-8")
+    [part] = [it for it in text.split("\n\n") if it.startswith(f"Package: {name}\n")]
+    lines = re.findall(r"(?m)^(?:Provides|Breaks|Replaces): .*\n", part)
+    return "".join(lines).replace("${source:Version}", version)
 
 
 @pytest.fixture(name="archive", scope="module")
@@ -299,12 +309,14 @@ def archive_fixture(tmp_path_factory: pytest.TempPathFactory) -> pathlib.Path:
     for it in "12":
         found.append((NAMES[0], it, relation_of(NAMES[0], it)))
         found.append((NAMES[1], it, f"{relation_of(NAMES[1], it)}, library-{it}"))
+    found.append((BEFORE, "1", f"{relation_of(NAMES[1], '1')}, library-1"))
     for name, version, depends in found:
         root = room / f"packages/{name}_{version}"
         (root / "DEBIAN").mkdir(parents=True)
         (root / "DEBIAN/control").write_text(
             f"Package: {name}\nVersion: {version}\nArchitecture: all\nDescription: x\n"
-            "Maintainer: x <x@x.example>\n" + (f"Depends: {depends}\n" if depends else ""))
+            "Maintainer: x <x@x.example>\n" + (f"Depends: {depends}\n" if depends else "")
+            + (changed_by(name, version) if name in NAMES else ""))
         subprocess.run(["dpkg-deb", "--build", root, f"{root}.deb"], check=True,
                        stdout=subprocess.DEVNULL)
     listed = subprocess.run(["apt-ftparchive", "packages", "."], cwd=room / "packages", check=True,
@@ -335,17 +347,17 @@ BOTH = dict.fromkeys(NAMES, "2")
 
 
 @pytest.mark.parametrize("held, command, wanted", [
-    # the line of docs/DEPLOYMENT.md
+    # the line of docs/admin/OPERATE.md
     ("", "install --no-install-recommends admissions", BOTH | {"library-2": "2"}),
-    ("", "install admissions-office", BOTH | {"library-2": "2"}),
+    ("", "install admissions-pdf", BOTH | {"library-2": "2"}),
     ("", "dist-upgrade", BOTH | {"library-2": "2"}),
     # its library is not there, and this command installs none
     ("", "upgrade", {}),
     # whichever is held holds the other one
     ("admissions", "dist-upgrade", {}),
-    ("admissions", "install admissions-office", {}),
-    ("admissions-office", "dist-upgrade", {}),
-    ("admissions-office", "install --no-install-recommends admissions", {}),
+    ("admissions", "install admissions-pdf", {}),
+    ("admissions-pdf", "dist-upgrade", {}),
+    ("admissions-pdf", "install --no-install-recommends admissions", {}),
 ])
 def test_one_of_the_two_packages_is_not_upgraded_alone(
     held: str, command: str, wanted: dict[str, str], archive: pathlib.Path
@@ -364,10 +376,19 @@ def test_back_to_an_earlier_version_both_are_named(archive: pathlib.Path) -> Non
     assert apt_get(archive, *go_back, f"{NAMES[0]}=1") == {NAMES[0]: "1", NAMES[1]: ""}
 
 
-def installed(archive: pathlib.Path, version: str, held: str = "") -> None:
+def test_the_name_of_before_gives_way_to_the_new_one(archive: pathlib.Path) -> None:
+    """Which has what it had, and is there once."""
+    installed(archive, "1", names=(NAMES[0], BEFORE))
+    assert apt_get(archive, "--simulate", "install", "--no-install-recommends", *NAMES) == BOTH | {
+        "library-2": "2", BEFORE: ""}
+
+
+def installed(
+    archive: pathlib.Path, version: str, held: str = "", names: tuple[str, ...] = NAMES
+) -> None:
     """Has apt find both packages installed in this version, one of them held."""
     text = ""
-    for name in (*NAMES, f"library-{version}"):
+    for name in (*names, f"library-{version}"):
         control = archive / f"packages/{name}_{version}/DEBIAN/control"
         state = "hold" if name == held else "install"
         text += f"{control.read_text()}Status: {state} ok installed\n\n"

@@ -4,7 +4,6 @@ import dataclasses
 import json
 import os
 import pathlib
-import re
 import shutil
 import subprocess
 from collections.abc import Callable
@@ -16,7 +15,7 @@ from conftest import ROOT
 TOOL = ROOT / "deploy/release"
 VERSION = "1.2.3"
 DEBS = {"admissions": f"admissions_{VERSION}_amd64.deb",
-        "admissions-office": f"admissions-office_{VERSION}_all.deb"}
+        "admissions-pdf": f"admissions-pdf_{VERSION}_all.deb"}
 ABOUT = {"package": f"admissions {VERSION}", "commit": "c0ffee", "program": {"sha256": "0" * 64},
          "verdict_of_the_gate": "57 passed, 0 failed"}
 # What apt prints of another digest, where it copies, another signature and another key: the apt of
@@ -170,7 +169,7 @@ def after_text(path: pathlib.Path, text: bytes) -> int:
 def test_another_byte_of_a_package_is_refused(apt: Apt, release: pathlib.Path) -> None:
     """The other package is fetched, and nothing is installed."""
     change(release / DEBS["admissions"])
-    assert apt.fetched() == [DEBS["admissions-office"]]
+    assert apt.fetched() == [DEBS["admissions-pdf"]]
     assert apt.said.refuses(DIGEST), apt.said.text
 
 
@@ -232,27 +231,6 @@ def test_the_digests_of_all_files_are_signed(
     assert run(*words).status != 0
 
 
-def test_the_lines_of_the_page_show_the_verdict_of_what_is_signed(
-    release: pathlib.Path, tmp_path: pathlib.Path
-) -> None:
-    """And no verdict of a folder that was changed, or that another key has signed."""
-    page = (ROOT / "docs/DEPLOYMENT.md").read_text(encoding="utf-8")
-    [lines] = [it for it in re.findall(r"(?ms)^```\n(.*?)^```$", page) if "gpgv" in it]
-    lines = lines.replace("/srv/admissions", str(release)).replace("/run/", f"{tmp_path}/")
-    ran, verdict = run("bash", "-c", lines), f'"verdict_of_the_gate": "{ABOUT[VERDICT]}"'
-    assert ran.status == 0 and verdict in ran.text.splitlines()[-1]
-    home = tmp_path / "other"
-    new_key(home, "another key")
-    other = run("gpg", "--homedir", home, "--armor", "--export").text
-    (tmp_path / "other.asc").write_text(other)
-    ran = run("bash", "-c", lines.replace(f"{release}/admissions-archive.asc",
-                                          f"{tmp_path}/other.asc"))
-    assert ran.status != 0 and verdict not in ran.text
-    change(release / "manifest.json")
-    ran = run("bash", "-c", lines)
-    assert ran.status != 0 and verdict not in ran.text
-
-
 def test_a_key_by_its_id(source: pathlib.Path, keys: pathlib.Path, tmp_path: pathlib.Path) -> None:
     """One of gpg's own, as of a card: it signs, and none of another name does."""
     home = str(keys.parent)
@@ -284,7 +262,7 @@ def test_without_a_key_one_is_made_and_used_again(
 
 @pytest.mark.parametrize("spoil, said", [
     (lambda it: change(it / DEBS["admissions"]), "is not the file that deploy/package made"),
-    (lambda it: (it / DEBS["admissions-office"]).unlink(), "is not the file that deploy/package"),
+    (lambda it: (it / DEBS["admissions-pdf"]).unlink(), "is not the file that deploy/package"),
     (lambda it: (it / "SHA256SUMS").unlink(), "has no packages: deploy/package makes them"),
     (lambda it: (it / "SHA256SUMS").write_text(""), "does not name the packages admissions and"),
     (lambda it: (it / "manifest.json").unlink(), "manifest.json"),

@@ -10,9 +10,9 @@ import typing
 
 import pytest
 from conftest import Systemd, Terminal, document, typed
-from machine import copies, files, office_store, people, registers, serving
+from machine import brought, copies, files, office_copy, office_store, people, registers, serving
 from machine.verbs import copy as copy_verb, restore, status, takeover
-from office.web.history import ANSWER, SENDS, History
+from office.web.register.history import ANSWER, SENDS, History
 from register_files import Refused
 
 NAME = "secondary-2025"
@@ -42,7 +42,8 @@ def damaged_fixture(
     program.chmod(0o755)
     monkeypatch.setattr(restore, "program", lambda name: str(machine / name))
     monkeypatch.setattr(restore, "USER", None)
-    monkeypatch.setattr(restore, "AGAIN", machine / "again")
+    users.office_copies.mkdir()
+    monkeypatch.setattr(office_copy, "give", lambda _: None)
     path = users.copies / COPY
     path.write_text(document(schools=1), encoding="utf-8")
     then = registers.Register("then")
@@ -72,6 +73,21 @@ def sent_at(register: registers.Register, child: int, at: str) -> None:
     record.close()
 
 
+def waiting(register: registers.Register) -> list[tuple[int, str]]:
+    """What waits on the screen of the application to be sent again: the child, and the copy that it
+    came after; and that what the register has is that of this copy."""
+    with brought.application(register) as parts:
+        found = parts.restores.present()
+        if not found:
+            return []
+        copy = parts.copies.get(found.copy)
+        assert copy.is_there and copy.name == "office-000001-2025-03-03T023000.db"
+        assert (register.office_copies / copy.name).read_bytes() == register.file.read_bytes()
+        entries = [parts.restores.sending.entry(it) for it in parts.restores.sending.rows(found)]
+        assert not any(it.number in parts.history.lineage() for it in entries)
+        return [(it.about["command"]["child"], copy.purpose) for it in entries]
+
+
 def names(register: registers.Register) -> list[str]:
     return list(people.users_of(register))
 
@@ -92,7 +108,7 @@ def test_the_newest_copy_takes_the_place_of_a_register_that_does_not_open(
     assert names(damaged) == ["ben", "jane"]
 
 
-def test_what_was_sent_since_is_counted_before_and_keeps_the_office_closed(
+def test_what_was_sent_since_is_counted_before_and_waits_to_be_sent_again(
     damaged: registers.Register, systemd: Systemd, monkeypatch: pytest.MonkeyPatch,
     capsys: pytest.CaptureFixture[str],
 ) -> None:
@@ -101,18 +117,43 @@ def test_what_was_sent_since_is_counted_before_and_keeps_the_office_closed(
     with pytest.raises(Refused, match="nothing was changed"):
         typed("restore", NAME, COPY)
     said = capsys.readouterr().out
-    assert "since then 1 commands and imports were sent, which are undone: jane (1)\n" in said
+    assert "since then 1 commands and imports were sent, which are undone until" in said
     assert f"on {os.uname().nodename} the register of {NAME} (admissions.example) become" in said
     assert damaged.file.read_text(encoding="ascii") == "damaged" and systemd.calls == []
     assert typed("restore", NAME, COPY) == 0
-    assert systemd.lines("stop", "start") == STOPS
-    assert "TIME=2025-03-03T02:30:00; or, to go on without them, admissions-admin open" in (
-        capsys.readouterr().out)
+    assert systemd.lines("stop", "start") == [*STOPS, *STARTS, *COPIES]
+    assert ("waits on the screen Copies of https://admissions.example/: jane (1). Recording is"
+            " paused until") in capsys.readouterr().out
+    assert waiting(damaged) == [(2, f"restored by IT support: {COPY[:-3]}")]
+
+
+def test_another_copy_is_restored_where_the_first_was_the_wrong_one(
+    damaged: registers.Register, systemd: Systemd
+) -> None:
+    """What came since it waits, and what was still to be sent since the first one; also where the
+    same is restored twice."""
+    earlier = "nightly-000011-2025-03-01T023000.db"
+    (damaged.copies / earlier).write_bytes((damaged.copies / COPY).read_bytes())
+    sent_at(damaged, 2, "2025-03-03T10:00:00")
+    new = damaged.copies / "nightly-000013-2025-03-04T023000.db"
+    found = []
+    for name in (COPY, earlier, earlier, COPY):
+        assert typed("restore", NAME, name, "--yes") == 0
+        new.unlink()
+        with brought.application(damaged) as parts:
+            present = parts.restores.present()
+            assert present is not None
+            rows = parts.restores.sending.rows(present)
+            found.append([parts.restores.sending.entry(it).about["command"]["child"]
+                          for it in rows])
+            assert [it.is_ended for it in parts.restores.listed()].count(False) == 1
+    assert found == [[2], [1, 2], [1, 2], [2]]
 
 
 @pytest.mark.parametrize("place", [
     (serving, "stop"), (restore, "restore"), (files, "put_aside"), (office_store, "restored"),
-    (serving, "start"), (copy_verb, "made"), (copy_verb, "sent")])
+    (files, "copy_as_desk"), (brought, "begin"), (serving, "start"), (copy_verb, "made"),
+    (copy_verb, "sent")])
 def test_killed_at_each_step_and_typed_again_it_goes_on(
     place: tuple[typing.Any, str], damaged: registers.Register, systemd: Systemd,
     monkeypatch: pytest.MonkeyPatch,
@@ -138,13 +179,12 @@ def test_killed_at_each_step_and_typed_again_it_goes_on(
     assert kept.read_text(encoding="ascii") == "damaged"
 
 
-def test_without_a_history_the_office_stays_closed(
+def test_without_a_history_the_copy_is_restored_with_a_warning(
     damaged: registers.Register, systemd: Systemd, capsys: pytest.CaptureFixture[str]
 ) -> None:
     damaged.history.unlink()
-    assert typed("restore", "--yes") == 0 and systemd.lines("start") == []
-    assert f"{NAME} is closed, since what was sent since then is not known. next: " in (
-        capsys.readouterr().out)
+    assert typed("restore", "--yes") == 0 and systemd.lines("start") == [*STARTS, *COPIES]
+    assert "WARNING: what was done since then is not known: " in capsys.readouterr().out
 
 
 def test_people_alone_come_back_and_the_register_stays(
@@ -160,16 +200,39 @@ def test_people_alone_come_back_and_the_register_stays(
     assert "Whoever was removed or locked since may sign in again" in capsys.readouterr().out
 
 
+def fail(*_: object) -> typing.NoReturn:
+    raise Refused("No space left on device")
+
+
 def test_people_that_cannot_be_brought_back_leave_those_of_now(
     damaged: registers.Register, monkeypatch: pytest.MonkeyPatch
 ) -> None:
-    def fail(*_: object) -> typing.NoReturn:
-        raise Refused("No space left on device")
-
     monkeypatch.setattr(office_store, "restored", fail)
     with pytest.raises(Refused, match="No space left"):
         typed("restore", "--people-alone", "--yes")
     assert names(damaged) == ["ben", "jane"]
+
+
+def test_another_file_than_was_put_aside_is_not_put_back(
+    damaged: registers.Register, machine: pathlib.Path, monkeypatch: pytest.MonkeyPatch
+) -> None:
+    """The folder is one of the application, which may have others with the rights of these: its
+    users may be renamed or replaced meanwhile, and so may the folder."""
+    aside = damaged.office / restore.ASIDE
+    other = machine / "other"
+
+    def replaced(*words: object) -> typing.NoReturn:
+        [name] = [it.name for it in aside.iterdir() if it.name.endswith("office.db")]
+        aside.rename(other)
+        aside.mkdir()
+        (aside / name).write_bytes(b"another head")
+        fail()
+
+    monkeypatch.setattr(office_store, "restored", replaced)
+    with pytest.raises(Refused, match="is another file than was put aside, so .* is not put back"):
+        typed("restore", "--people-alone", "--yes")
+    assert not os.path.lexists(office_store.path_of(damaged))
+    assert [it.name.endswith("office.db") for it in other.iterdir()].count(True) == 1
 
 
 @pytest.mark.parametrize("words, said", [
@@ -190,12 +253,19 @@ def test_what_stands_in_the_way_is_named(
     damaged: registers.Register, systemd: Systemd, machine: pathlib.Path,
     monkeypatch: pytest.MonkeyPatch,
 ) -> None:
-    """Commands that are being sent again, people that are not beside the copy, a takeover, a copy
-    that is none."""
-    (machine / "again" / NAME).mkdir(parents=True)
-    with pytest.raises(Refused, match="a restore would undo what of it was sent"):
+    """A changed history, a file of the application that cannot be read, people that are not beside
+    the copy, a takeover, a copy that is none."""
+    whole = damaged.history.read_bytes()
+    damaged.history.write_bytes(whole.replace(b"jane", b"jony"))
+    with pytest.raises(Refused, match=f"First: admissions-admin history {NAME} --mend"):
         typed("restore", "--yes")
-    (machine / "again" / NAME).rmdir()
+    damaged.history.write_bytes(whole)
+    office = office_store.path_of(damaged)
+    whole = office.read_bytes()
+    office.write_bytes(b"no database")
+    with pytest.raises(Refused, match="cannot be read: .*: restore with --people"):
+        typed("restore", "--yes")
+    office.write_bytes(whole)
     archive = copies.settings_of(damaged.copies / COPY)
     archive.rename(machine / "away")
     with pytest.raises(Refused, match="has no people beside it"):

@@ -1,5 +1,5 @@
 """Copies that are encrypted before they leave for the second place: what arrives there, what opens
-it, and that nothing leaves otherwise where a key is set. With the real age and rsync."""
+it, and that nothing leaves otherwise. With the real age and rsync."""
 import argparse
 import os
 import pathlib
@@ -9,6 +9,7 @@ import time
 import typing
 
 import pytest
+from conftest import made_key
 from machine import copies, drill, programs, registers, sealed, second_copy
 from machine.verbs import status
 from register_files import Refused
@@ -16,18 +17,6 @@ from register_files import Refused
 PLACE = "mnt"
 # what a copy here has, which is no register: it opens where this program says so
 SECRET = b"SECRET name of a child"
-
-
-@pytest.fixture(name="key")
-def key_fixture(tmp_path: pathlib.Path) -> tuple[str, pathlib.Path]:
-    """A public key, and the identity file that opens what is encrypted for it."""
-    return made_key(tmp_path / "identity")
-
-
-def made_key(path: pathlib.Path) -> tuple[str, pathlib.Path]:
-    subprocess.run(["age-keygen", "-o", path], check=True, capture_output=True)
-    done = subprocess.run(["age-keygen", "-y", path], check=True, capture_output=True, text=True)
-    return done.stdout.strip(), path
 
 
 @pytest.fixture(name="copied")
@@ -39,7 +28,6 @@ def copied_fixture(
     monkeypatch.setattr(second_copy, "open_error", lambda _: "")
     (machine / PLACE).mkdir()
     (machine / "etc/second-copy").write_text(f"{machine / PLACE}\n")
-    (machine / "etc/second-copy-recipient").write_text(f"# of the vault\n{key[0]}\n")
     for number in (1, 2):
         path = register.copies / f"nightly-00000{number}-2025-03-0{number}T023000.db"
         path.write_bytes(SECRET + b" %d" % number)
@@ -142,6 +130,9 @@ def test_with_a_wrong_key_nothing_leaves(
     (machine / "etc/second-copy-recipient").write_text(text)
     with pytest.raises(Refused, match="public key of age|age: "):
         send(copied, machine)
+    (machine / "etc/second-copy-recipient").unlink()
+    with pytest.raises(Refused, match="copies leave this machine only encrypted: admissions-admin"):
+        send(copied, machine)
     assert there(machine) == {}
 
 
@@ -184,14 +175,13 @@ def test_where_age_fails_at_any_file_nothing_leaves_unencrypted(
     assert not any(b"SECRET" in data for data in there(machine).values())
 
 
-def test_copies_of_before_the_key_are_named(
+def test_what_an_earlier_version_left_there_unencrypted_is_named(
     copied: registers.Register, machine: pathlib.Path
 ) -> None:
-    recipient = machine / "etc/second-copy-recipient"
-    text = recipient.read_text()
-    recipient.unlink()
-    send(copied, machine)
-    recipient.write_text(text)
+    for it in second_copy.to_copy(copied):
+        path = machine / PLACE / copied.name / it.relative_to(copied.copies)
+        path.parent.mkdir(parents=True, exist_ok=True)
+        path.write_bytes(it.read_bytes())
     line = send(copied, machine)
     assert "WARNING: 5 files there are not encrypted" in line
     (copied.copies / "second-copy.report").write_text(f"{line}\n")
@@ -328,6 +318,20 @@ def test_a_record_of_what_was_sent_that_is_lost_or_damaged(
         send(copied, machine)
 
 
+def test_another_place_and_the_first_one_again(
+    copied: registers.Register, machine: pathlib.Path, key: tuple[str, pathlib.Path]
+) -> None:
+    """Each has all of it; what was sent to the other is no record of what is here."""
+    (machine / "other").mkdir()
+    for place in (PLACE, "other", PLACE):
+        second_copy.copied(copied, str(machine / place))
+        names = sorted(it.name for it in (machine / place / copied.name).rglob("*.age"))
+        assert names == [
+            "history-000001-0123456789abcdef.gz.age", "nightly-000001-2025-03-01T023000.db.age",
+            "nightly-000001-2025-03-01T023000.tar.age", "nightly-000002-2025-03-02T023000.db.age",
+            "nightly-000002-2025-03-02T023000.tar.age"]
+
+
 def test_the_archive_of_settings_has_the_recipient_and_not_the_identity() -> None:
     from machine import settings_copy
 
@@ -339,7 +343,7 @@ def test_another_key_needs_another_folder_there(
     copied: registers.Register, machine: pathlib.Path, key: tuple[str, pathlib.Path],
     tmp_path: pathlib.Path,
 ) -> None:
-    """As docs/DEPLOYMENT.md says where an identity file is lost: once the folder has another name,
+    """As RECOVER says where an identity file is lost: once the folder has another name,
     all that this machine has is sent for the new key."""
     send(copied, machine)
     new, identity = made_key(tmp_path / "new")
@@ -359,12 +363,10 @@ def test_another_key_needs_another_folder_there(
         assert SECRET in opened(path, identity)
 
 
-@pytest.mark.parametrize("is_sealed", [False, True])
 def test_a_key_that_may_do_nothing_but_copy(
-    is_sealed: bool, copied: registers.Register, machine: pathlib.Path,
-    monkeypatch: pytest.MonkeyPatch,
+    copied: registers.Register, machine: pathlib.Path, monkeypatch: pytest.MonkeyPatch
 ) -> None:
-    """As docs/DEPLOYMENT.md has another machine admit it: by rrsync, which deletes nothing."""
+    """As docs/admin/OPERATE.md has another machine admit it: by rrsync, which deletes nothing."""
     vault, ssh, place = machine / "vault", machine / "ssh", "vault.example:copies"
     (vault / "copies").mkdir(parents=True)
     ssh.write_text(
@@ -372,14 +374,11 @@ def test_a_key_that_may_do_nothing_but_copy(
         encoding="utf-8")
     ssh.chmod(0o755)
     monkeypatch.setattr(second_copy, "SSH", str(ssh))
-    if not is_sealed:
-        (machine / "etc/second-copy-recipient").unlink()
     line = second_copy.copied(copied, place)
     assert f"is in {place}/{copied.name}, " in line
-    end = ".age" if is_sealed else ""
     there_now = {str(it.relative_to(vault)) for it in vault.rglob("*") if it.is_file()}
     assert there_now == {
-        f"copies/{copied.name}/{it}{end}" for it in (
+        f"copies/{copied.name}/{it}.age" for it in (
             "nightly-000001-2025-03-01T023000.db", "nightly-000001-2025-03-01T023000.tar",
             "nightly-000002-2025-03-02T023000.db", "nightly-000002-2025-03-02T023000.tar",
             "history/history-000001-0123456789abcdef.gz")} | {f"copies/{copied.name}/owner"}

@@ -58,9 +58,10 @@ class Machines(typing.NamedTuple):
 @pytest.fixture(name="machines")
 def machines_fixture(
     register: registers.Register, machine: pathlib.Path, write_as_me: None,
-    monkeypatch: pytest.MonkeyPatch,
+    key: tuple[str, pathlib.Path], monkeypatch: pytest.MonkeyPatch,
 ) -> Machines:
-    """The first of them."""
+    """The first of them. Each has the identity file."""
+    key[1].rename(machine / "etc/second-copy-identity").chmod(0o400)
     monkeypatch.setattr(second_copy, "open_error", lambda _: "")
     monkeypatch.setattr(takeover, "USER", "root" if os.getuid() == 0 else None)
     place = machine / "mnt"
@@ -77,7 +78,7 @@ def test_a_place_belongs_to_the_machine_that_copies_there_first(machines: Machin
     assert os.uname().nodename in owner and FIRST not in owner
     machines.copy(2)
     assert machines.owner() == owner
-    assert (machines.place / NAME / COPY.format(2)).exists()
+    assert (machines.place / NAME / f"{COPY.format(2)}.age").exists()
 
 
 def test_another_machine_copies_nothing_there_and_works_on(machines: Machines) -> None:
@@ -87,7 +88,7 @@ def test_another_machine_copies_nothing_there_and_works_on(machines: Machines) -
     machines.be(SECOND)
     with pytest.raises(Refused, match=f"{NAME} is the place of the machine .*second-copy; or, if"):
         machines.copy(2)
-    assert not (machines.place / NAME / COPY.format(2)).exists()
+    assert not (machines.place / NAME / f"{COPY.format(2)}.age").exists()
     assert (machines.owner(), machines.taken_over()) == (owner, False)
 
 
@@ -104,7 +105,7 @@ def test_a_takeover_stops_the_first_machine_at_its_next_copy(
     machines.be(FIRST)
     with pytest.raises(Refused, match=f"has taken {NAME} over, and copies to {machines.place}"):
         machines.copy(3)
-    assert not (machines.place / NAME / COPY.format(3)).exists()
+    assert not (machines.place / NAME / f"{COPY.format(3)}.age").exists()
     assert machines.taken_over()
     parts = status.report(machines.register)
     for part in ("desk", "site", "second copy"):
@@ -173,7 +174,7 @@ def test_a_takeover_that_cannot_write_there_says_so(
 # in place of rsync: it copies, and then another byte stands in the copies of the second place
 BROKEN_DISK = """#!/bin/sh
 {rsync} "$@" || exit
-for it in {there}/nightly-*.db; do [ ! -e "$it" ] || printf X | dd of="$it" bs=1 conv=notrunc; done
+for it in {there}/nightly-*.age; do [ ! -e "$it" ] || printf X | dd of="$it" bs=1 conv=notrunc; done
 """
 # in place of the program: it opens what has not lost its end
 OPENS = """#!/bin/sh
@@ -192,7 +193,7 @@ def test_a_copy_that_arrives_otherwise_than_it_was_sent_is_no_copy(
     rsync.write_text(BROKEN_DISK.format(rsync=shutil.which("rsync"), there=there))
     rsync.chmod(0o755)
     monkeypatch.setenv("PATH", f"{rsync.parent}:{os.environ['PATH']}")
-    with pytest.raises(Refused, match=f"{there}/{COPY.format(2)} is not equal to "):
+    with pytest.raises(Refused, match=f"{there}/{COPY.format(2)}.age is not what was sent"):
         machines.copy(2)
     assert COPY.format(2) not in status.second_of(machines.register)[1]
 
@@ -210,9 +211,9 @@ def test_a_copy_that_does_not_open_is_no_copy(
         if number == 1:
             assert second_copy.main(given) == 0
         else:
-            with pytest.raises(Refused, match=f"{path.name} does not open: "):
+            with pytest.raises(Refused, match=f"{path.name}.age does not open: "):
                 second_copy.main(given)
-    assert (machines.place / NAME / COPY.format(2)).read_text() == "from begin to e"
+    assert (machines.place / NAME / f"{COPY.format(2)}.age").exists()
     assert COPY.format(2) not in status.second_of(machines.register)[1]
 
 

@@ -249,11 +249,14 @@ def test_options_that_do_not_belong_together(given: list[str], said: str) -> Non
 
 
 def add_to(path: pathlib.Path, turns: int) -> None:
-    """Reads a number and writes the next one, as a set-up reads and replaces a file."""
-    for _ in range(turns):
-        with files.lock():
+    """Reads a number and writes the next one, as a set-up reads and replaces a file; again where
+    another one had the lock.
+    """
+    while turns:
+        with contextlib.suppress(Refused), files.lock("a set-up"):
             count = int(path.read_text())
             path.write_text(str(count + 1))
+            turns -= 1
 
 
 def test_the_lock_lets_one_change_at_a_time(

@@ -13,12 +13,12 @@ import time
 
 import pytest
 from machine import (
-    certificates, deletion, metrics, office_store, registers, second_copy, serving,
+    certificates, deletion, metrics, office_store, registers, sealed, second_copy, serving,
 )
 from machine.findings import Level
 from machine.verbs import status
-from office.web.history import SENDS, SETTLED
-from office.web.store import Store
+from office.web.register.history import SENDS, SETTLED
+from office.web.register.store import Store
 from office_files import add_people, history, record
 from register_files import Refused
 
@@ -100,21 +100,28 @@ def test_the_room_at_the_second_place(
     assert rooms["second_place"] == free
 
 
-@pytest.mark.parametrize("key, said", [
-    (None, "; not encrypted there, as "), ("age1" + "q" * 58, None), ("no key", "copied")])
-def test_whether_copies_are_encrypted_is_said(
-    key: str | None, said: str | None, register: registers.Register, machine: pathlib.Path
+@pytest.mark.parametrize("key, identity, said", [
+    (None, None, "names no key, and copies leave this machine only encrypted"),
+    ("no key", None, "must have one line"), ("age1" + "q" * 58, None, ""),
+    ("age1" + "q" * 58, "AGE-SECRET-KEY-1", ""),
+    ("age1" + "q" * 58, f"{sealed.MADE_HERE}\nAGE-SECRET-KEY-1", "and is lost with it: keep it"),
+])
+def test_copies_that_nobody_could_open_need_attention(
+    key: str | None, identity: str | None, said: str, register: registers.Register,
+    machine: pathlib.Path, write_as_me: None,
 ) -> None:
-    """Without a key it is a choice, and well."""
+    """Without a key nothing leaves; and one that this machine has made is lost with it, until it is
+    kept elsewhere."""
     (machine / "etc/second-copy").write_text("/mnt/copies\n", encoding="ascii")
     line = f"now x.db is in /mnt/copies/{register.name}, equal to the first copy, and opens"
     (register.copies / second_copy.REPORT).write_text(f"{line}\n", encoding="ascii")
     if key is not None:
         (machine / "etc/second-copy-recipient").write_text(f"{key}\n", encoding="ascii")
+    if identity is not None:
+        (machine / "etc/second-copy-identity").write_text(identity, encoding="ascii")
     found = status.report(register)["second copy"]
-    assert found.level is (Level.ATTENTION if said == "copied" else Level.OK)
-    assert ("not encrypted" in found.text, "must have one line" in found.text) == (
-        key is None, said == "copied")
+    assert found.level is (Level.ATTENTION if said else Level.OK)
+    assert said in found.text
 
 
 @pytest.mark.parametrize(

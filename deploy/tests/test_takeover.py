@@ -1,5 +1,5 @@
 """admissions-admin takeover on a second machine: what it fetches, from which copy it goes on, and
-what it prints to be sent again."""
+what waits on the office's screen to be sent again."""
 import argparse
 import datetime
 import getpass
@@ -13,10 +13,10 @@ import tempfile
 import typing
 
 import pytest
-from conftest import typed
-from machine import copies, files, registers, sealed, serving
-from machine.verbs import sent, setup, status, takeover
-from office.web.history import ANSWER, RESTORED, SENDS, History
+from conftest import document, typed
+from machine import brought, copies, files, office_copy, registers, sealed, serving
+from machine.verbs import setup, status, takeover
+from office.web.register.history import ANSWER, RESTORED, SENDS, History
 from register_files import Refused
 
 NAME = "secondary-2025"
@@ -199,36 +199,6 @@ def written_at(register: registers.Register, at: str) -> History:
     return History(str(register.history), lambda: at)
 
 
-def test_what_is_to_be_sent_again(
-    register: registers.Register, write_as_me: None, tmp_path: pathlib.Path,
-    capfd: pytest.CaptureFixture[str],
-) -> None:
-    """Commands of after the copy that were done, in their order."""
-    moments = ["2025-03-03T02:29:00", "2025-03-03T02:31:00", "2025-03-03T02:32:00",
-               "2025-03-03T02:33:00"]
-    for child, moment in enumerate(moments, 1):
-        at = datetime.datetime.fromisoformat(moment).astimezone(datetime.timezone.utc).isoformat()
-        record = written_at(register, at)
-        of = record.add("jane", SENDS, {"command": {"cmd": "accept", "child": child}}).number
-        record.add("jane", ANSWER, {"of": of, "answer": {"done": child != 3}})
-        record.close()
-    copy = tmp_path / COPIES[2]
-    copy.touch()
-    takeover.report(register, copy)
-    lines = capfd.readouterr().out.splitlines()
-    assert lines[0] == (f"{NAME} is as at 2025-03-03 02:30:00, when {COPIES[2]} was made. Send"
-                        " again what follows, line by line:")
-    assert lines[1:3] == ['{"child":2,"cmd":"accept"}', '{"child":4,"cmd":"accept"}']
-    assert lines[3] == (
-        f"These are all until 2025-03-03 02:33:00, and `admissions-admin sent {NAME}"
-        " 2025-03-03T02:30:00` prints them again. What was sent later is in no copy: ask who"
-        " worked then.")
-    register.history.unlink()
-    takeover.report(register, copy)
-    assert capfd.readouterr().out.startswith(
-        "WARNING: what was sent since 2025-03-03 02:30 is not known: ")
-
-
 def sent_at(register: registers.Register, child: int, moment: str) -> None:
     """Records in the history of a register a command that was done at this local time."""
     at = datetime.datetime.fromisoformat(moment).astimezone(datetime.timezone.utc).isoformat()
@@ -248,7 +218,7 @@ class Takeover:
 
     def ended(self, step: typing.Callable[[], int], *more: str) -> int:
         """The status with which it ends, if a step sets the register up."""
-        def set_up(given: argparse.Namespace) -> int:
+        def set_up(given: argparse.Namespace, _: object) -> int:
             self.given = given
             return step()
 
@@ -261,102 +231,128 @@ def takes_over_fixture(monkeypatch: pytest.MonkeyPatch, place: pathlib.Path) -> 
     return Takeover(monkeypatch, place)
 
 
-def test_a_takeover_that_was_killed_goes_on_and_prints_the_same(
-    place: pathlib.Path, machine: pathlib.Path, write_as_me: None, takes_over: Takeover,
-    monkeypatch: pytest.MonkeyPatch, capfd: pytest.CaptureFixture[str],
-) -> None:
-    """Wherever it was killed: before anything is made, and when the office already works here. Only
-    what was sent to the other machine is printed. When it has ended, it is not begun again.
-    """
+@pytest.fixture(name="other")
+def other_fixture(
+    place: pathlib.Path, machine: pathlib.Path, write_as_me: None, monkeypatch: pytest.MonkeyPatch
+) -> registers.Register:
+    """The register as it was on the other machine, with its history at the second place: a command
+    before the second copy, one before the last, and one after it."""
     monkeypatch.setattr(registers, "is_blank", lambda _: False)
-    register = registers.Register(NAME)
+    monkeypatch.setattr(office_copy, "give", lambda _: None)
     other = registers.Register("other")
     other.office.mkdir()
-    sent_at(other, 1, "2025-03-03T02:31:00")
-    folder = place / NAME / "history"
-    (folder / "history-1-a.gz").unlink()
-    data = other.history.read_bytes()
-    (folder / "history-000001-0123456789abcdef.gz").write_bytes(gzip.compress(data))
-
-    def killed() -> int:
-        raise KeyboardInterrupt
-
-    def set_up() -> int:
-        register.office.mkdir(exist_ok=True)
-        register.folder.mkdir(exist_ok=True)
-        if not register.file.exists():
-            register.file.write_text("made", encoding="ascii")
-            register.history.write_bytes(data)
-        return 0
-
-    def set_up_and_killed() -> int:
-        set_up()
-        sent_at(register, 2, "2025-03-03T10:00:00")
-        raise KeyboardInterrupt
-
-    for step in (killed, set_up_and_killed):
-        with pytest.raises(KeyboardInterrupt):
-            takes_over.ended(step)
-    assert status.file_of(register) == (
-        False, f"its takeover has not ended: type `admissions-admin takeover {NAME}`, which goes"
-        " on")
-    capfd.readouterr()
-    (machine / "etc/second-copy").write_text(f"{place}\n", encoding="utf-8")
-    assert takes_over.ended(set_up) == 0
-    assert os.uname().nodename in (place / NAME / "owner").read_text(encoding="utf-8")
-    lines = capfd.readouterr().out.splitlines()
-    assert lines[0] == (f"goes on with the takeover of {NAME} from"
-                        f" {register.copies / COPIES[2]}")
-    assert [it for it in lines if it.startswith("{")] == ['{"child":1,"cmd":"accept"}']
-    with pytest.raises(Refused, match="is there already, so this machine does not take over"):
-        takes_over.ended(set_up)
-
-
-def test_a_takeover_by_an_older_copy(
-    place: pathlib.Path, machine: pathlib.Path, write_as_me: None, takes_over: Takeover,
-    monkeypatch: pytest.MonkeyPatch, capfd: pytest.CaptureFixture[str],
-) -> None:
-    """It prints the commands since that copy, of which somebody must leave out what it was chosen
-    for. Once the register is made from one, no other is taken."""
-    monkeypatch.setattr(registers, "is_blank", lambda _: False)
-    other = registers.Register("other")
-    other.office.mkdir()
-    for child, moment in enumerate(("02-02:31", "02-09:00", "03-09:00"), 1):
-        sent_at(other, child, f"2025-03-{moment.replace('-', 'T')}:00")
+    for child, moment in enumerate(("02T02:29", "02T09:00", "03T09:00"), 1):
+        sent_at(other, child, f"2025-03-{moment}:00")
     folder = place / NAME / "history"
     (folder / "history-1-a.gz").unlink()
     (folder / "history-000001-0123456789abcdef.gz").write_bytes(
         gzip.compress(other.history.read_bytes()))
-    register = registers.Register(NAME)
+    return other
 
+
+class Made:
+    """What set-up does in these tests, up to the start of the office."""
+
+    def __init__(self, other: registers.Register) -> None:
+        self.register, self.other = registers.Register(NAME), other
+        self.copy = ""
+
+    def register_alone(self) -> None:
+        """Makes the register."""
+        for it in (self.register.folder, self.register.office, self.register.settings,
+                   self.register.office_copies):
+            it.mkdir(parents=True, exist_ok=True)
+        if not self.register.file.exists():
+            self.register.file.write_text(document(), encoding="utf-8")
+        (self.register.settings / "site-name").write_text("admissions.example\n")
+
+    def all_of_it(self, given: argparse.Namespace) -> None:
+        """Makes all of it, and has what came since wait."""
+        self.register_alone()
+        if not self.register.history.exists():
+            self.register.history.write_bytes(self.other.history.read_bytes())
+        copy = pathlib.Path(given.copy)
+        self.copy = copy.name
+        serving.report(takeover.bring(self.register, copy))
+
+    def waiting(self) -> list[list[int]]:
+        """The children of the commands that wait to be sent again, of each takeover."""
+        with brought.application(self.register) as parts:
+            return [[parts.restores.sending.entry(it).about["command"]["child"]
+                     for it in parts.restores.sending.rows(one)]
+                    for one in parts.restores.listed()]
+
+
+@pytest.fixture(name="made")
+def made_fixture(other: registers.Register) -> Made:
+    return Made(other)
+
+
+def test_a_takeover_that_was_killed_goes_on(
+    place: pathlib.Path, machine: pathlib.Path, made: Made, takes_over: Takeover,
+    capfd: pytest.CaptureFixture[str],
+) -> None:
+    """Wherever it was killed: before anything is made, before what came since waits, and when the
+    office already works here. Only what was sent to the other machine waits, once. When it has
+    ended, it is not begun again.
+    """
     def killed() -> int:
         raise KeyboardInterrupt
 
     def made_and_killed() -> int:
-        register.folder.mkdir()
-        register.file.write_text("made", encoding="ascii")
+        made.register_alone()
         raise KeyboardInterrupt
 
-    def set_up() -> int:
-        register.office.mkdir()
-        register.history.write_bytes(other.history.read_bytes())
+    def brought_and_killed() -> int:
+        made.all_of_it(takes_over.given)
+        sent_at(made.register, 9, "2025-03-03T10:00:00")
+        raise KeyboardInterrupt
+
+    def done() -> int:
+        made.all_of_it(takes_over.given)
+        return 0
+
+    for step in (killed, made_and_killed, brought_and_killed):
+        with pytest.raises(KeyboardInterrupt):
+            takes_over.ended(step)
+        assert status.file_of(made.register) == (
+            False, f"its takeover has not ended: type `admissions-admin takeover {NAME}`, which"
+            " goes on") or not made.register.file.exists()
+    said = capfd.readouterr().out
+    assert "waits on the screen Copies of https://admissions.example/: jane (1)." in said
+    assert "The history ends at 2025-03-03 09:00:00: what was done later is in no copy." in said
+    (machine / "etc/second-copy").write_text(f"{place}\n", encoding="utf-8")
+    assert takes_over.ended(done) == 0
+    assert os.uname().nodename in (place / NAME / "owner").read_text(encoding="utf-8")
+    assert made.waiting() == [[3]]
+    assert capfd.readouterr().out.splitlines()[0] == (
+        f"goes on with the takeover of {NAME} from {made.register.copies / COPIES[2]}")
+    with pytest.raises(Refused, match="is there already, so this machine does not take over"):
+        takes_over.ended(done)
+
+
+def test_a_takeover_by_an_older_copy(made: Made, takes_over: Takeover) -> None:
+    """What came since that copy waits, of which the office leaves out what it was chosen for. Once
+    the register is made from one, no other is taken."""
+    def killed() -> int:
+        raise KeyboardInterrupt
+
+    def made_and_killed() -> int:
+        made.register_alone()
+        raise KeyboardInterrupt
+
+    def done() -> int:
+        made.all_of_it(takes_over.given)
         return 0
 
     for step, name in ((killed, COPIES[0]), (made_and_killed, f"{COPIES[1]}.age")):
         with pytest.raises(KeyboardInterrupt):
             takes_over.ended(step, "--copy", name)
     with pytest.raises(Refused, match=f"reg.db is made from {COPIES[1]} already"):
-        takes_over.ended(set_up, "--copy", COPIES[2])
-    assert not register.history.exists()
-    capfd.readouterr()
-    assert takes_over.ended(set_up, "--copy", COPIES[1]) == 0
-    lines = capfd.readouterr().out.splitlines()
-    assert takes_over.given.copy == str(register.copies / COPIES[1])
-    assert lines[1] == (
-        f"{NAME} is as at 2025-03-02 02:30:00, when {COPIES[1]} was made. Send again what follows,"
-        " line by line, without what shall not come back:")
-    assert [it for it in lines if it.startswith("{")] == [
-        f'{{"child":{it},"cmd":"accept"}}' for it in (1, 2, 3)]
+        takes_over.ended(done, "--copy", COPIES[2])
+    assert not made.register.history.exists()
+    assert takes_over.ended(done, "--copy", COPIES[1]) == 0
+    assert (made.copy, made.waiting()) == (COPIES[1], [[2, 3]])
 
 
 def restored_at(register: registers.Register, position: int, moment: str) -> None:
@@ -396,59 +392,29 @@ def test_a_copy_that_has_what_a_restore_has_undone_is_not_taken(
     assert (said in capsys.readouterr().out) == (wanted != COPIES[2])
 
 
-def test_a_copy_of_before_a_restore_is_named(
-    register: registers.Register, write_as_me: None, tmp_path: pathlib.Path,
-    capfd: pytest.CaptureFixture[str],
-) -> None:
-    """Where it was chosen all the same, and by admissions-admin sent with its time."""
-    sent_at(register, 1, "2025-03-03T02:00:00")
-    restored_at(register, 0, "2025-03-03T09:00:00")
-    sent_at(register, 2, "2025-03-03T09:30:00")
-    copy = tmp_path / COPIES[2]
-    copy.touch()
-    takeover.report(register, copy)
-    found = capfd.readouterr()
-    assert '{"child":2,"cmd":"accept"}' in found.out.splitlines()
-    said = "since 2025-03-03 02:30:00 the office has restored a copy, so that a copy of that moment"
-    assert said in found.err
-    reader = argparse.ArgumentParser()
-    sent.arguments(reader)
-    for time, status_of_it in (("2025-03-03T02:30", 1), ("2025-03-03T01:30", 0),
-                               ("2025-03-03T09:15", 0)):
-        assert sent.main(reader.parse_args([NAME, time])) == status_of_it
-        assert (said in capfd.readouterr().err) == (status_of_it == 1)
-
-
 def test_what_else_was_done_since_is_counted(
-    register: registers.Register, write_as_me: None, tmp_path: pathlib.Path,
-    capfd: pytest.CaptureFixture[str],
+    made: Made, takes_over: Takeover, capfd: pytest.CaptureFixture[str]
 ) -> None:
-    """Without a child: the copy of the application's own file lacks it."""
+    """Without a child: the copy of the application's own file lacks it. Its screen says so too."""
     for what, moment in (("added a note", "02:00:00"), ("added a note", "03:00:00"),
                          ("gave a role", "03:01:00"), ("added a note", "03:02:00")):
         at = datetime.datetime.fromisoformat(f"2025-03-03T{moment}").astimezone(
             datetime.timezone.utc).isoformat()
-        record = written_at(register, at)
+        record = written_at(made.other, at)
         record.add("jane", what, {"child": 7})
         record.close()
-    sent_at(register, 1, "2025-03-03T03:03:00")
-    copy = tmp_path / COPIES[2]
-    copy.touch()
-    takeover.report(register, copy)
-    assert ("whose own file is as at that moment: added a note (2), gave a role (1). The screen"
-            " Activity has each of them") in capfd.readouterr().out
 
+    def done() -> int:
+        made.all_of_it(takes_over.given)
+        return 0
 
-def test_nothing_to_be_sent_again_is_said(
-    register: registers.Register, write_as_me: None, tmp_path: pathlib.Path,
-    capfd: pytest.CaptureFixture[str],
-) -> None:
-    sent_at(register, 1, "2025-03-03T02:29:00")
-    copy = tmp_path / COPIES[2]
-    copy.touch()
-    takeover.report(register, copy)
-    out = capfd.readouterr().out
-    assert "so nothing is to be sent again." in out and "line by line" not in out
+    assert takes_over.ended(done) == 0
+    said = ("people also did this, which is not brought back: added a note (2), gave a role (1)."
+            " The screen Activity has each of them")
+    assert said in capfd.readouterr().out
+    with brought.application(made.register) as parts:
+        found = parts.restores.present()
+        assert found and said in found.done[0].said
 
 
 def test_the_identity_that_remains_is_named(

@@ -1,4 +1,4 @@
-"""The lines of units and scripts that decide when copies are made and how many are kept, and that docs/DEPLOYMENT.md promises; and what a purge removes."""
+"""The lines of units and scripts that decide when copies are made and how many are kept, and that docs/admin/OPERATE.md promises; and what a purge removes."""
 import hashlib
 import os
 import pathlib
@@ -11,7 +11,7 @@ from machine import sites
 
 UNITS = ROOT / "deploy/systemd"
 MAIN = "user www-data;\nevents {\n\tworker_connections\t768; # as Debian has it\n\t# multi_accept on;\n}\n"
-# Each line is what docs/DEPLOYMENT.md says in the words beside it
+# Each line is what docs/admin/OPERATE.md says in the words beside it
 LINES = {
     "admissions-backup@.timer": {
         "OnCalendar": ("*-*-* 02:30", "every night at 02:30"),
@@ -58,13 +58,13 @@ def test_each_unit_names_its_documentation() -> None:
     assert len(units) > 15
     for it in units:
         found = re.findall(r"(?m)^Documentation=(.*)$", it.read_text(encoding="utf-8"))
-        assert found == ["file:///usr/local/share/doc/admissions/DEPLOYMENT.md"], it.name
+        assert found == ["file:///usr/local/share/doc/admissions/admin/OPERATE.md"], it.name
 
 
 @pytest.mark.parametrize("unit", LINES)
 def test_the_lines_of_a_unit_are_those_that_the_page_promises(unit: str) -> None:
     found = dict(re.findall(r"(?m)^(\w+)=(.*)$", (UNITS / unit).read_text(encoding="utf-8")))
-    page = " ".join((ROOT / "docs/DEPLOYMENT.md").read_text(encoding="utf-8").split())
+    page = " ".join((ROOT / "docs/admin/OPERATE.md").read_text(encoding="utf-8").split())
     for key, (value, words) in LINES[unit].items():
         assert (key, found.get(key), words in page) == (key, value, True)
 

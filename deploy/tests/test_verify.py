@@ -100,20 +100,30 @@ def test_what_was_changed_added_or_signed_by_others_is_refused(
         typed("verify", str(folder), "--key", str(tmp_path / "key"))
 
 
-@pytest.mark.parametrize("is_own", [True, False])
-def test_the_installed_program_is_that_of_its_manifest(
-    is_own: bool, tmp_path: pathlib.Path, monkeypatch: pytest.MonkeyPatch
+@pytest.mark.parametrize("has, verdict, said", [
+    ("a program", "30 passed, 0 failed", ""),
+    ("another", "30 passed, 0 failed", "admissions is not the program of"),
+    ("a program", None, "no gate has passed this release: it is for trials only"),
+    ("a program", "29 passed, 1 failed", "no gate has passed this release"),
+])
+def test_the_installed_program_is_that_of_its_manifest_and_a_gate_has_passed_it(
+    has: str, verdict: str | None, said: str, tmp_path: pathlib.Path,
+    monkeypatch: pytest.MonkeyPatch, capsys: pytest.CaptureFixture[str],
 ) -> None:
-    (tmp_path / "admissions").write_text("a program" if is_own else "another")
+    (tmp_path / "admissions").write_text(has)
     digest = hashlib.sha256(b"a program").hexdigest()
-    (tmp_path / "manifest.json").write_text(json.dumps({"program": {"sha256": digest}}))
+    about = {"program": {"sha256": digest}, "verdict_of_the_gate": verdict}
+    (tmp_path / "manifest.json").write_text(json.dumps(about))
     monkeypatch.setattr(verify, "program", lambda name: str(tmp_path / name))
     monkeypatch.setattr(verify, "MANIFEST", tmp_path / "manifest.json")
-    if is_own:
-        assert typed("verify") == 0
-    else:
-        with pytest.raises(Refused, match="admissions is not the program of"):
+    if said:
+        with pytest.raises(Refused, match=said):
             typed("verify")
+    else:
+        assert typed("verify") == 0
+        assert "the gate: 30 passed, 0 failed" in capsys.readouterr().out
+    if has == "a program":
+        assert typed("verify", "--trial") == 0
 
 
 @pytest.fixture(name="left")
@@ -154,5 +164,5 @@ def test_all_is_removed_but_not_what_cannot_be_made_again(
     assert typed("uninstall", "--yes") == 0
     assert not any((left / it).exists() for it in ("lib", "office", "backups", "etc", "log"))
     assert not (left / "admissions.list").exists()
-    assert "next: apt purge admissions-office admissions; userdel" in capsys.readouterr().out
+    assert "next: apt purge admissions-pdf admissions; userdel" in capsys.readouterr().out
     assert typed("uninstall", "--yes") == 0

@@ -21,7 +21,8 @@ def main() -> None:
     """Serves it."""
     setattr(datetime, "date", Day)
     # (what it imports takes the class from there)
-    from office.web import __main__, copies
+    from office.web import __main__
+    from office.web.copies import copies
 
     # (on a machine that is busy a copy takes longer than on that of an office)
     copies.BEGIN_SECONDS = copies.BACK_SECONDS = 600.0

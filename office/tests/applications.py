@@ -15,8 +15,9 @@ import flask.testing
 from conftest import ROOT, make
 from served import served
 
-from office.web import app, people
-from office.web.copies import Copies
+from office.web import app
+from office.web.copies.copies import Copies
+from office.web.frame import people
 from office.web.parts import Config, Parts
 
 ORIGIN = "https://admissions.example"
@@ -60,7 +61,7 @@ class Form(html.parser.HTMLParser):
 
 
 class Browser:
-    """A browser of one person."""
+    """A browser of one person, which reads each answer to its end: a long one keeps a turn."""
 
     def __init__(self, site: flask.Flask, address: str = "192.0.2.1") -> None:
         self.client: flask.testing.FlaskClient = site.test_client()
@@ -68,7 +69,8 @@ class Browser:
 
     def get(self, path: str) -> Answer:
         """A page."""
-        found = self.client.get(path, base_url=ORIGIN, headers={"Accept": "text/html"})
+        found = self.client.get(path, base_url=ORIGIN, headers={"Accept": "text/html"},
+                                buffered=True)
         if found.mimetype == "text/html":
             self.secret = Form(found.text).secret or self.secret
         return found
@@ -77,7 +79,8 @@ class Browser:
         """A form that is sent."""
         headers = {"Accept": "text/html", "Origin": ORIGIN, "X-Real-IP": self.address}
         data = {"form": self.secret, **(given or {})}
-        found = self.client.post(path, base_url=ORIGIN, headers=headers, data=data, **more)
+        found = self.client.post(path, base_url=ORIGIN, headers=headers, data=data,
+                                 buffered=True, **more)
         if found.mimetype == "text/html":
             self.secret = Form(found.text).secret or self.secret
         return found

@@ -16,11 +16,12 @@ from conftest import PROGRAM, ROOT, apply, child, do, make, school
 from machine import office_delete, office_deletion_day
 from register_files import Refused
 
-from office.model import Pair
-from office.web import app, people
-from office.web.draws import Draws
-from office.web.draws_drafts import Typed
+from office.core.model import Pair
+from office.web import app
+from office.web.frame import people
 from office.web.parts import Config
+from office.web.rounds.drafts import Typed
+from office.web.rounds.draws import Draws
 
 NAME = "secondary-2025"
 HAL, JANE = people.Person("hal", "head"), people.Person("jane", "officer")

@@ -12,7 +12,7 @@ from typing import Any
 
 from conftest import PROGRAM
 
-from office import model
+from office.core import model
 
 KINDS = {"offered": 1, "accepted": 2, "plan": 3}
 # a school or a child as the commands have it

@@ -112,6 +112,15 @@ SHEETS: dict[str, tuple[Callable[[pathlib.Path], object], str]] = {
         ),
         "shared.xlsx is too large once it is unpacked, 100 MB",
     ),
+    "one-text.xlsx": (
+        lambda it: workbook(
+            it,
+            GOOD + many_rows(20_000, ' t="s"><v>0</v></c>'),
+            more={"xl/s.bin": f"<sst {MAIN}><si><t>{'x' * 32_000}</t></si></sst>"},
+            types=SHARED,
+        ),
+        "one-text.xlsx has too much text, by row 252: a sheet has at most 8,000,000 characters",
+    ),
     "million.xlsx": (
         lambda it: workbook(it, GOOD + many_rows(1_000_000, "><v>1</v></c>")),
         "million.xlsx is too large once it is unpacked",

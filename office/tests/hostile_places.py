@@ -21,7 +21,7 @@ from applications import ORIGIN, Answer, Browser, Site
 from pages import Page
 from werkzeug.datastructures import ImmutableMultiDict
 
-from office.web import uploads
+from office.web.frame import uploads
 
 # an answer takes less time, and the application less memory, on any machine at work
 SECONDS, KILOBYTES = 60.0, 1_500_000

@@ -15,8 +15,8 @@ from applications import Browser, Site, site
 from conftest import apply, child, make, school
 from served import do_over, served
 
-from office.model import Register
-from office.web import letters_audits
+from office.core.model import Register
+from office.web.letters import audits as letters_audits
 
 NAMES = {
     1: 'Ann "Nan" O\'Abel', 2: "<script>alert(1)</script>", 3: "=SUM(A1)", 4: "Siân Tŷ Gwyn",

@@ -7,8 +7,9 @@ import time
 
 from applications import site
 
-from office.web import letters_sets, people
-from office.web.letters_sets import Asked, Sets
+from office.web.frame import people
+from office.web.letters import sets as letters_sets
+from office.web.letters.sets import Asked, Sets
 
 MANY, AT_A_TIME = 12, 4
 

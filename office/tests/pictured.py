@@ -44,13 +44,16 @@ from draw_site import JANE, SUP  # noqa: E402
 from explained import COPY, after_round  # noqa: E402
 from letter_site import asked, hidden, made, typed  # noqa: E402
 
-from office import days  # noqa: E402
-from office.model import OFFERED, WAITS  # noqa: E402
-from office.web import (  # noqa: E402
-    draws_lots, letters_audits, letters_sets, letters_whom, staging_commit, staging_files,
-)
-from office.web.draws_drafts import Typed  # noqa: E402
-from office.web.draws_terms import CLOSED, COPIED, LOTS  # noqa: E402
+from office.core import days  # noqa: E402
+from office.core.model import OFFERED, WAITS  # noqa: E402
+from office.web.applications import commit as staging_commit  # noqa: E402
+from office.web.applications import files as staging_files  # noqa: E402
+from office.web.letters import audits as letters_audits  # noqa: E402
+from office.web.letters import sets as letters_sets  # noqa: E402
+from office.web.letters import whom as letters_whom  # noqa: E402
+from office.web.rounds import lots as draws_lots  # noqa: E402
+from office.web.rounds.drafts import Typed  # noqa: E402
+from office.web.rounds.terms import CLOSED, COPIED, LOTS  # noqa: E402
 
 sys.path.append(str(ROOT / "deploy"))
 from checks.season import town  # noqa: E402

@@ -160,9 +160,18 @@ class Screens:
 
     def bring_back(self, row: int) -> Answer:
         """A row is put back by its button."""
-        version = next(it["value"] for (_, name), it in self.see("withdrawn").fields.items()
-                       if name == "version")
-        return self.browser.post(f"/applications/row/{row}", {"version": version})
+        seen = self.see("withdrawn")
+        return self.browser.post(seen.actions[TABLE], {**seen.sent(), "back": str(row)})
+
+    def set_aside(self, words: str, path: str = "", note: str = "") -> Seen:
+        """Many rows are set aside by a button, whose question is confirmed with a note."""
+        at = f"/applications/{path}"
+        asked = press(self.browser, at, Page(self.browser.get(at).text), words)
+        assert asked.status_code == 303, asked.text
+        question = Page(self.browser.get(asked.location).text)
+        done = press(self.browser, asked.location, question, words, remark=note)
+        assert done.status_code == 303, done.text
+        return Seen(self.browser.get(done.location).text)
 
     def press(self, words: str, path: str = "", status: int = 303, **given: str) -> Seen:
         """A button of a page is pressed; the page that it leads to."""

@@ -12,11 +12,12 @@ import pytest
 from applications import ROUND, Browser, Site, child, office_over, town
 from pages import Page
 
-from office.web import entry_words, kinds, wording
-from office.web.entry_words import Names
-from office.web.history import SENDS, Entry
-from office.web.people import Person
-from office.web.screens import activity
+from office.core import kinds, wording
+from office.web.frame.people import Person
+from office.web.frame.views import activity
+from office.web.register import entry_words
+from office.web.register.entry_words import Names
+from office.web.register.history import SENDS, Entry
 
 HEADER = "child,name,east,north,looked_after,flags,siblings,day,preferences\n"
 

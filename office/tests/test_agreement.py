@@ -15,7 +15,7 @@ from applications import Browser, Site, office_over
 from conftest import apply, child, school
 from pages import Page
 
-from office.web.screens import season
+from office.web.lists.views import season
 
 CRITERIA = ["flag:2", "sibling", "within:1500"]
 TODAY = datetime.date(2025, 3, 20)

@@ -14,10 +14,11 @@ from pages import Page, press
 from register_files import Refused
 from served import served
 
-from office.web import answers, piles
-from office.web.desk import LOST, Result
-from office.web.people import Person
-from office.web.screens import answers as screen
+from office.web.answers import piles
+from office.web.answers import entries as answers
+from office.web.answers.views import answers as screen
+from office.web.frame.people import Person
+from office.web.register.desk import LOST, Result
 
 
 @pytest.fixture(name="office")

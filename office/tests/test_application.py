@@ -21,11 +21,13 @@ from conftest import ROOT
 from pages import Page, press
 from register_files import Refused
 
-from office import turns
-from office.web import (
-    attempts, guard, history, letters_whom, list_views, people, serve, store, uploads,
-)
-from office.web.screens import people as people_screen
+from office.core import turns
+from office.web import serve
+from office.web.frame import attempts, guard, people, uploads
+from office.web.frame.views import people as people_screen
+from office.web.letters import whom as letters_whom
+from office.web.lists import saved as list_views
+from office.web.register import history, store
 
 ACCEPT = {"cmd": "accept", "child": 1, "school": "A"}
 DECLINE = {"cmd": "decline", "child": 1, "school": "A"}
@@ -194,7 +196,7 @@ def test_what_seems_to_be_no_command_is_on_record_too(
     found = jane.command({"cmd": "no_such"})
     assert (found.status_code, (found.json or {}).get("name")) == (400, "UnknownCommand")
     assert "no_such" in Page(office.browser("bo").get("/activity/").text).text
-    monkeypatch.setattr("office.commands.wrong_field", lambda _: "a field is new")
+    monkeypatch.setattr("office.core.commands.wrong_field", lambda _: "a field is new")
     said = "Recording is paused for draw 2 by hal."
     monkeypatch.setattr(office.parts.desk, "closed", lambda: said)
     assert jane.command(ACCEPT).status_code == 503
@@ -323,7 +325,8 @@ def test_a_program_has_a_token(office: Site) -> None:
 
 def test_a_password_is_dear_to_guess(tmp_path: pathlib.Path) -> None:
     """Seen in a process of its own: in this one the tests make it cheap."""
-    code = ("import sys; sys.path[:0] = sys.argv[1:3]; from office.web import people, store;"
+    code = ("import sys; sys.path[:0] = sys.argv[1:3]; from office.web.frame import people;"
+            "from office.web.register import store;"
             "people.People(store.Store(sys.argv[3])).add('jane', people.HEAD)")
     kept = tmp_path / "office.db"
     words = [sys.executable, "-c", code, str(ROOT), str(ROOT / "tools"), str(kept)]

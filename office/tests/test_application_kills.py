@@ -22,9 +22,10 @@ import pytest
 from applications import child, town
 from conftest import PROGRAM, ROOT, make
 
-from office import model, senders
-from office.web import history, kinds, people
-from office.web.store import Store
+from office.core import kinds, model, senders
+from office.web.frame import people
+from office.web.register import history
+from office.web.register.store import Store
 
 MOMENTS = 50
 TOKEN = "portal"

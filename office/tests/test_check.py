@@ -20,10 +20,13 @@ from conftest import HEADER, PROGRAM, child, do, make, school
 from files import register_of
 from register_files import Refused
 
-from office import check, sheet, texts
-from office.model import Register
-from office.web import staging_check, staging_files
-from office.web.staging_rows import OPEN, Staged
+from office.core import texts
+from office.core.model import Register
+from office.files import sheet
+from office.web.applications import check as staging_check
+from office.web.applications import files as staging_files
+from office.web.applications.rows import OPEN, Staged
+from office.work import check
 
 # what is found: the row of the spreadsheet, the column, the kind
 Found = set[tuple[int, str, str]]

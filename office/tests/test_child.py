@@ -16,13 +16,17 @@ from pages import Page, history, press
 from register_files import Refused
 from werkzeug.datastructures import MultiDict
 
-from office.model import CLASS, DISTANCE, LOT, NOBODY, Cutoff, Draw, Drawn, School
-from office.senders import Ended
-from office.web import children, corrections, effects, flags, reasons, wording
-from office.web.asked import MOST_CHARACTERS, MOST_KEPT, Asked
-from office.web.desk import LOST
-from office.web.people import Person
-from office.web.screens import child as screen
+from office.core import effects, wording
+from office.core.model import CLASS, DISTANCE, LOT, NOBODY, Cutoff, Draw, Drawn, School
+from office.core.senders import Ended
+from office.web.children import corrections
+from office.web.children import actions as children
+from office.web.children.views import child as screen
+from office.web.explain import reasons
+from office.web.frame.people import Person
+from office.web.machinery.asked import MOST_CHARACTERS, MOST_KEPT, Asked
+from office.web.register.desk import LOST
+from office.web.schools import flags
 
 TODAY = datetime.date(2025, 3, 18)
 
@@ -58,7 +62,8 @@ def test_a_child_is_shown_with_its_place_its_list_and_its_data(office: Site) -> 
     assert page.by_id["heading"] == "Child 3, Cyd <b>Cole</b>"
     assert page.by_id["place"] == (
         "The child was offered a place at Beta on 3 March 2025. There is no answer yet.")
-    assert page.by_id["deadline"] == "A reminder is due from 18 March 2025 on."
+    assert page.by_id["deadline"] == (
+        "The last day to answer is 17 March 2025; from the next day a reminder is due.")
     assert page.by_id["stays"] == (
         "If the family accepts: the child stays on the waiting list of Alpha. If a later draw"
         " offers a place there, this place ends; a family that does not want that leaves the list.")
@@ -233,7 +238,7 @@ def test_a_withdrawal_needs_a_reminder(office: Site, monkeypatch: pytest.MonkeyP
     found = act(jane, "/children/3/remind", "Record the reminder of Cyd <b>Cole</b> about Beta")
     page = Page(jane.get(found.location).text)
     assert page.by_id["deadline"] == (
-        "The offer may be withdrawn from 2 April 2025 on, if it is not answered.")
+        "The last day to answer is 1 April 2025; from the next day the offer may be withdrawn.")
     path = "/children/3/lapse?day=2 April 2025"
     early = Page(jane.get(path).text)
     assert early.error("day") == "today or an earlier day" and "confirm" not in early.fields

@@ -13,7 +13,8 @@ import pytest
 from conftest import PROGRAM, Command, apply, child, do, make, school
 from files import register_of
 
-from office import commands, model, risks, rules, senders
+from office.core import commands, model, rules, senders
+from office.work import risks
 
 ROUND: Command = {"cmd": "round", "draw": 1, "day": "2025-03-03", "lots": [1, 2, 1, 2]}
 

@@ -9,12 +9,13 @@ from typing import Any
 
 import pytest
 from applications import Site, child, office_over
+from register_files import Refused
 
-from office import rules
-from office.model import Register
-from office.web.desk import FRESH_SECONDS, Command, seen_of
-from office.web.kinds import KINDS
-from office.web.people import Person
+from office.core import rules
+from office.core.kinds import KINDS
+from office.core.model import Register, drawn_in, of_document
+from office.web.frame.people import Person
+from office.web.register.desk import FRESH_SECONDS, Command, seen_of
 
 BO, JANE = Person("bo", "head"), Person("jane", "officer")
 SCHOOLS: list[Command] = [
@@ -261,3 +262,47 @@ def test_the_lots_of_another_draw_of_this_number_are_read(
     monkeypatch.setattr(desk.sender, "read", other)
     assert desk.now().children is register.children
     assert desk.now().lots(1)["A", 1] == 99
+
+
+# names that end a text, a child or all children, if they were not in quotes
+NAMES = ('],"draws":[', '},{"application":', '"', '\\"},{"application":', "Siân", "{")
+
+
+def test_a_document_that_differs_in_few_children_is_read_as_a_whole_one_is(office: Site) -> None:
+    """Whatever their names are; and what has another shape is refused as before."""
+    desk = office.parts.desk
+    reader, value = desk.reader, json.loads(desk.document())
+    for at, name in enumerate(NAMES * 2):
+        value["children"][at]["name"] = f"{name}{at}"
+        if at == len(NAMES):
+            value["children"].pop()
+        found = reader.register(text_of(value))
+        whole = of_document(reader.source, value)
+        assert found == whole and list(found.children) == list(whole.children)
+        assert found.children[at + 1].name == f"{name}{at}"
+    shapes = ("application", "left", "place", "north")
+    for member in shapes:
+        wrong = json.loads(json.dumps(value))
+        del wrong["children"][3][member]
+        with pytest.raises(Refused, match="another document than is read here"):
+            reader.register(text_of(wrong))
+    with pytest.raises(Refused, match="another document than is read here"):
+        reader.register(text_of(value)[:-9])
+    assert reader.register(text_of(value)) == of_document(reader.source, value)
+
+
+def text_of(value: object) -> bytes:
+    """A document as the program writes it."""
+    return json.dumps(value, sort_keys=True, separators=(",", ":"), ensure_ascii=False).encode()
+
+
+def test_the_lots_of_a_draw_are_made_out_once(office: Site) -> None:
+    """While what explains the draw follows from other data."""
+    value = json.loads(office.parts.desk.asked("/draw/1")[1])
+    first = drawn_in("a draw", text_of(value))
+    before = text_of(value), first
+    value["cutoffs"][0]["metres"] += 1
+    found = drawn_in("a draw", text_of(value), before)
+    assert found == drawn_in("a draw", text_of(value)) != first and found.lots is first.lots
+    value["lots"][0]["lot"] += 100
+    assert drawn_in("a draw", text_of(value), before) == drawn_in("a draw", text_of(value))

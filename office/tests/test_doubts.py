@@ -9,7 +9,7 @@ from applications import Browser, Site, office_over
 from offers import offered
 from pages import Page
 
-from office.web.history import ANSWER, SENDS, SETTLED
+from office.web.register.history import ANSWER, SENDS, SETTLED
 
 ROWS = "child,name,east,north,looked_after,flags,siblings,day,preferences\n{},Zo,1,1,no,,,{},A\n"
 

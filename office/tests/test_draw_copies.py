@@ -17,7 +17,7 @@ from machine.registers import Register
 from register_files import Refused
 from served import do_over
 
-from office.web import copies
+from office.web.copies import copies
 
 
 @pytest.fixture(name="register", scope="module")

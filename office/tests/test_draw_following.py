@@ -14,8 +14,8 @@ from draw_site import (
 )
 from register_files import Refused
 
-from office.web import draws_page
-from office.web.draws import Draws
+from office.web.rounds import page as draws_page
+from office.web.rounds.draws import Draws
 
 # what only the office may see of a draw: names, what came of it, and why it does not go on
 HIDDEN = ("Child 1", "new place", "keeps its place", "moves", "Audit of", "rehears", "no answer")
@@ -196,7 +196,7 @@ def test_what_differs_stays_closed(small: Machine, monkeypatch: pytest.MonkeyPat
         brought(office, number, "confirmed")
         hal, jane = Person(office, "hal", "head"), Person(office, "jane", "officer")
         with monkeypatch.context() as patch:
-            patch.setattr("office.web.rehearsal.audit.audit",
+            patch.setattr("office.web.rounds.rehearsal.audit.audit",
                           lambda *_: (["not best: child 1"], False))
             assert hal.step(number, "send").status_code == 303
         draw = office.parts.draws.get(number)

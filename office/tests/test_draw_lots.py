@@ -15,10 +15,12 @@ from draw_site import (
 from pages import Page
 from register_files import Refused
 
-from office.model import Pair
-from office.web import draws_lots, draws_sheet, people
-from office.web.draws_drafts import Typed
-from office.web.screens import lots as screen
+from office.core.model import Pair
+from office.web.frame import people
+from office.web.rounds import lots as draws_lots
+from office.web.rounds import sheet as draws_sheet
+from office.web.rounds.drafts import Typed
+from office.web.rounds.views import lots as screen
 
 
 @pytest.fixture(name="register", scope="module")
@@ -231,7 +233,7 @@ def test_a_seed_with_two_equal_lots_is_refused(
     small: Machine, monkeypatch: pytest.MonkeyPatch
 ) -> None:
     """Which no seed that anybody has found leads to: so the numbers are made equal here."""
-    monkeypatch.setattr("office.web.draws_drafts.by_seed", lambda *_: 5)
+    monkeypatch.setattr("office.web.rounds.drafts.by_seed", lambda *_: 5)
     with small.office() as office:
         number = begun(office)
         brought(office, number, "lots")
@@ -403,3 +405,26 @@ def test_a_made_up_supervisor_neither_sees_nor_draws_lots(small: Machine, when: 
         assert office.parts.lots.sheet(number)[1].text() == before
         sealed(office, number)
         assert "90000" in sue.get(f"/lots/{number}/seal").text
+
+
+@pytest.mark.parametrize("who", ["hal", "jane"])
+def test_a_made_up_supervisor_sees_no_lots_of_a_cancelled_draw(small: Machine, who: str) -> None:
+    """They are drawn again for the next one, before whose seal they would be known."""
+    with small.office() as office:
+        office.add("sup", "supervisor")
+        number = begun(office)
+        brought(office, number, "lots")
+        typed(office, number, lambda pair, at: 90_000_000 + lot_of(pair, at))
+        office.parts.history.add(who, "added", {"person": "sue"})
+        sue, sup = at_lots(office, "sue"), at_lots(office)
+        hal = Person(office, "hal", "head")
+        assert hal.step(number, "give-up", reason=MISTYPED).status_code == 303
+        for is_begun_again in (False, True):
+            if is_begun_again:
+                begun(office)
+            for path in ("", "/seal", "/sheet.csv"):
+                page = sue.get(f"/lots/{number}{path}")
+                assert page.status_code == 403 and "90000" not in page.text, path
+            assert "These lots were never sealed, and are not shown to you" in sue.get(
+                f"/lots/{number}").text
+            assert "90000" in sup.get(f"/lots/{number}").text

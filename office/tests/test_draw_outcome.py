@@ -16,9 +16,9 @@ from draw_site import (
 )
 from pages import Page
 
-from office.model import Cutoff
-from office.web import people
-from office.web.draws_outcome import OfSchool, last_in_words
+from office.core.model import Cutoff
+from office.web.frame import people
+from office.web.rounds.outcome import OfSchool, last_in_words
 
 CODES = ("ASH", "BAY", "CLY", "DUN")
 # more children than a page has; 131 is prime, so that each has a lot of its own
@@ -180,13 +180,36 @@ def test_children_to_look_at_are_found_by_group(town: Machine) -> None:
         assert "Hold round 1" in office.browser("hal").get("/").text
         assert "What was checked" in page and "119 children take part." in page
         assert "No change since the applications were stored" in page
-        audit = shown.at("audit=1").text
-        assert "<details open><summary>The audit in full" in audit
-        assert audit.count("Class: the place of the criterion that the child met") == 1
+        assert f'href="/draws/{number}/audit"' in shown.at("").text
         assert "Go to it" not in page and re.search(r"Copy 1, made .* before it", page)
         office.parts.draws.send(HAL, number, version(office, number))
         assert said not in shown.jane.get("/children/1").text
         assert "119 children take part." in " ".join(shown.at("").by_id["checked"].split())
+
+
+def test_an_audit_is_read_in_words(town: Machine) -> None:
+    """Each school with whom it has behind, as many as the lines of the second program have; and
+    these lines as a text.
+    """
+    with town.office() as office:
+        number = rehearsed(office)
+        rita = office.browser("rita", "reader")
+        lines = rita.get(f"/draws/{number}/audit.txt").text.splitlines()
+        page = Page(rita.get(f"/draws/{number}/audit").text)
+        rows = page.tables["Each school, with the child who was the last to get a place"][1:]
+        assert f"{lines[-1]}." in page.text
+        assert len(rows) == sum(it.startswith("School ") for it in lines)
+        behind = sum(it.startswith("  turned away") for it in lines)
+        assert behind and behind == sum(int(it[4].split()[0].replace(",", "")) for it in rows)
+        assert "turned away" not in page.text
+        code = next(it[0].split()[-1] for it in rows if not it[4].startswith("0"))
+        one = Page(rita.get(f"/draws/{number}/audit?school={code}").text)
+        found = next(it for title, it in one.tables.items() if title.endswith("children"))[1:]
+        at = next(at for at, it in enumerate(lines) if it.startswith(f"School {code}:"))
+        said = next(iter(lines[at + 1:]))
+        assert found[0][1] in said and f"lot {found[0][4].replace(',', '')}: by" in said
+        assert {it[5] for it in found} <= {"the criterion", "the distance", "the lot"}
+        assert rita.get(f"/draws/{number}/audit?of=register").status_code == 404
 
 
 def test_who_may_not_confirm_reads_who_does(town: Machine) -> None:

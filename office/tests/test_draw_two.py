@@ -18,11 +18,13 @@ from pages import Page, press
 from register_files import Refused
 from served import do_over
 
-from office.web import copies, draws_page, people
-from office.web.draws_drafts import Typed
-from office.web.draws_terms import Draw, Terms
-from office.web.history import Entry
-from office.web.step_store import Done
+from office.web.copies import copies
+from office.web.frame import people
+from office.web.machinery.steps import Done
+from office.web.register.history import Entry
+from office.web.rounds import page as draws_page
+from office.web.rounds.drafts import Typed
+from office.web.rounds.terms import Draw, Terms
 
 STATES = ("begun", "closed", "copied", "lots", "sealed", "rehearsed", "confirmed", "sending",
           "audited")
@@ -373,7 +375,7 @@ def test_one_restores_alone_what_cannot_go_on(
         found = hal.step(number, "restore-alone")
         assert found.status_code == 409 and "is as it was rehearsed: the draw goes" in found.text
         with monkeypatch.context() as patch:
-            patch.setattr("office.web.rehearsal.audit.audit",
+            patch.setattr("office.web.rounds.rehearsal.audit.audit",
                           lambda *_: (["not best: child 1"], False))
             assert hal.step(number, "go-on").status_code == 303
         assert jane.step(number, "restore-alone").status_code == 409

@@ -4,8 +4,9 @@ import random
 import re
 import xml.etree.ElementTree as ET
 
-from office.web import home, pictures
-from office.web.pictures import LEAST, SIDE, Circle, Home, Places, Span
+from office.web.lists import home
+from office.web.machinery import pictures
+from office.web.machinery.pictures import LEAST, SIDE, Circle, Home, Places, Span
 
 SVG = "{http://www.w3.org/2000/svg}"
 

@@ -28,10 +28,14 @@ from pages import Page, tasks
 from register_files import Refused
 from served import do_over
 
-from office.model import Pair
-from office.web import copies, draws_checks, draws_outcome, kinds, people
-from office.web.draws_terms import Terms
-from office.web.rehearsal import Rehearsal
+from office.core import kinds
+from office.core.model import Pair
+from office.web.copies import copies
+from office.web.frame import people
+from office.web.rounds import checks as draws_checks
+from office.web.rounds import outcome as draws_outcome
+from office.web.rounds.rehearsal import Rehearsal
+from office.web.rounds.terms import Terms
 
 CODES = "ABCD"
 PAT = "a password of pat's own"
@@ -833,7 +837,7 @@ def test_an_audit_that_differs_after_the_draw_leads_to_a_restore(
         brought(office, number, "sending")
         hal, jane = Person(office, "hal", "head"), Person(office, "jane", "officer")
         with monkeypatch.context() as patch:
-            patch.setattr("office.web.rehearsal.audit.audit",
+            patch.setattr("office.web.rounds.rehearsal.audit.audit",
                           lambda *_: (["not best: child 1"], False))
             assert hal.step(number, "go-on").status_code == 303
         draw = office.parts.draws.get(number)

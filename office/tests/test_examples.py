@@ -19,7 +19,7 @@ import pytest
 from conftest import PROGRAM, ROOT, Command, apply, child, do, make, school
 from served import served
 
-from office.rules import RULES
+from office.core.rules import RULES
 
 PAGE = (ROOT / "docs/trust/GUARANTEES.md").read_text("utf-8")
 NUMBERS = {"Ann": 1, "Bo": 2, "Cy": 3, "Di": 4}

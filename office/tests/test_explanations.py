@@ -36,11 +36,11 @@ def test_the_child_leads_to_each_school_that_it_did_not_get(office: Site) -> Non
     page = Page(rita.get("/children/3").text)
     assert " ".join(page.by_id["why"].split()) == (
         "Round 1, 3 March 2025: why the place at Beta, why not Alpha;"
-        " what if it had another list, criterion or day")
+        " what if: another list, criterion or day")
     assert 'href="/children/3/why/1/family#school-A"' in page.text
     assert " ".join(Page(rita.get("/children/1").text).by_id["why"].split()) == (
         "Round 1, 3 March 2025: why the place at Alpha;"
-        " what if it had another list, criterion or day")
+        " what if: another list, criterion or day")
     assert "why no place, why not Alpha, why not Beta;" in (
         " ".join(Page(rita.get("/children/4").text).by_id["why"].split()))
 
@@ -79,7 +79,7 @@ def test_who_took_no_part_is_explained_too(office: Site) -> None:
     """One that was late, and one that was added after the round."""
     rita = office.browser("rita")
     assert " ".join(Page(rita.get("/children/5").text).by_id["why"].split()) == (
-        "Round 1, 3 March 2025: why it took no part; what if it had applied on another day")
+        "Round 1, 3 March 2025: why no part; what if: another day of the application")
     said = ("The application of 20 November 2024 came after the closing date, 31 October 2024, and"
             " took no part in the first round.")
     assert said in rita.get("/children/5/why/1/family").text

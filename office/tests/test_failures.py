@@ -10,8 +10,8 @@ from collections.abc import Iterator
 import pytest
 from applications import ORIGIN, ROUND, Browser, Site, office_over, town
 
-from office.web import attempts, failures, journal
-from office.web.failures import Failures
+from office.web.frame import attempts, failures, journal
+from office.web.frame.failures import Failures
 
 
 @pytest.fixture(name="office")

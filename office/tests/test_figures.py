@@ -19,9 +19,10 @@ from figures_page import Page, beside_model, table
 from files import register_of, write
 from register_files import Refused
 
-from office import charts, figure_counts, rounds
-from office import figures as published
-from office.withheld import withheld
+from office.files import charts
+from office.work import figure_counts, rounds
+from office.work import figures as published
+from office.work.withheld import withheld
 
 
 @pytest.mark.parametrize(

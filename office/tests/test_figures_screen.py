@@ -15,9 +15,9 @@ from applications import Browser, Site, office_over
 from conftest import apply, child, do, make, school
 from test_figures import move
 
-from office.web import figures
-from office.web.figures import MOST, FiguresStore
-from office.web.store import Store
+from office.web.explain import figures
+from office.web.explain.figures import MOST, FiguresStore
+from office.web.register.store import Store
 
 # OAK has 7 places and ELM 2, and 10 children live ever farther from both. All want OAK first but
 # the last two, who want ELM alone; the first is looked after. So OAK offers 7 places (1 to a child

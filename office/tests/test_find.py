@@ -10,8 +10,8 @@ from applications import Site, office_over
 from conftest import apply, child, school
 from pages import Page
 
-from office.web.letters_addresses import Addresses
-from office.web.people import Person
+from office.web.frame.people import Person
+from office.web.letters.addresses import Addresses
 
 HAL = Person("hal", "head")
 ZOE = "Zoë Abel"

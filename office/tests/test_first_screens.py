@@ -11,9 +11,9 @@ import pytest
 from applications import ROUND, Site, office_over, town
 from pages import Page, tasks
 
-from office.web import guard
-from office.web.people import Person
-from office.web.screens import season
+from office.web.frame import guard
+from office.web.frame.people import Person
+from office.web.lists.views import season
 
 HAL = Person("hal", "head")
 

@@ -21,13 +21,14 @@ from pages import Page, press
 from register_files import Refused
 from staged import workbook
 
-from office import turns
-from office.web import gazetteer_file, gazetteer_rows, points, uploads
-from office.web.gazetteer import GIVEN, SETTING, Gazetteer, Lookup
-from office.web.gazetteer_file import Summary
-from office.web.history import History
-from office.web.staging_tools import Tools
-from office.web.store import Store
+from office.core import turns
+from office.web.applications import gazetteer_file, gazetteer_rows, points
+from office.web.applications.gazetteer import GIVEN, SETTING, Gazetteer, Lookup
+from office.web.applications.gazetteer_file import Summary
+from office.web.applications.tools import Tools
+from office.web.frame import uploads
+from office.web.register.history import History
+from office.web.register.store import Store
 
 # in the middle of a town, by which swapped columns are seen
 TOWN = [{**school("OAK", east=430100), "north": 210200},
@@ -496,7 +497,7 @@ def test_a_file_that_fails_leaves_the_one_before(
     def full(*_: object) -> None:
         raise OSError(28, "No space left on device")
 
-    monkeypatch.setattr("office.web.gazetteer.os.replace", full)
+    monkeypatch.setattr("office.web.applications.gazetteer.os.replace", full)
     found = jane.post(f"{PATH}read", gazetteers.choice(jane))
     assert found.status_code == 409 and "No space left" in said(found)
     assert find(office, "100023336956") == (430000, 210000)
@@ -552,7 +553,7 @@ def test_a_file_that_ends_in_the_middle_never_has_the_name_of_another(
             replace(*given)
 
         with monkeypatch.context() as patch, pytest.raises(Refused):
-            patch.setattr("office.web.gazetteer.os.replace", ended)
+            patch.setattr("office.web.applications.gazetteer.os.replace", ended)
             made.receive("jane", "new.csv", io.BytesIO(csv_of(HEAD, "5,a,AB1 2CD,430000,210000")))
         given = Gazetteer(folder, store, history).given()
         data = (folder / GIVEN).read_bytes() if given else b""

@@ -11,9 +11,9 @@ from conftest import ROOT
 from pages import plain
 from test_plain_words import texts_of
 
-from office import rules
-from office.web import topics, wording
-from office.web.people import Person
+from office.core import rules, wording
+from office.web.frame import topics
+from office.web.frame.people import Person
 
 # views that are no page of the application: their answers are read by programs, or are a page of
 # their own without the frame
@@ -78,7 +78,7 @@ def test_a_page_without_a_topic_leads_to_all_of_them(jane: Browser) -> None:
 def test_each_topic_is_in_the_contents_of_the_handbook_and_of_the_help(jane: Browser) -> None:
     book = topics.HANDBOOK.read_text("utf-8")
     listed = LINK.findall(book.partition("## Contents")[2].partition("\n## ")[0])
-    assert [f"#{it}" for it in topics.topics()] == listed[:-1]
+    assert [f"#{it}" for it in topics.topics()] == listed
     shown = ADDRESS.findall(jane.get("/help/").text.partition("<main>")[2])
     assert [f"/help/{it}" for it in topics.topics()] == shown[:-1] and shown[-1] == "/help/refusals"
 

@@ -48,10 +48,9 @@ TEXTS: dict[str, set[str]] = {
     "answers.several": {"pasted"},
     "answers_of.take": {"digest"},
     "applications.bring_back": {"seen"},
-    "applications.bring_one_back": {"version"},
     "applications.decide": {"what", "one", "other", "one-version", "other-version"},
-    "applications.mend": {"mend", "by", "seen"},
-    "applications.save": {"aside", "confirm", "meant"},
+    "applications.mend": {"mend", "by", "seen", "confirmed", "remark"},
+    "applications.save": {"aside", "back", "confirm", "meant"},
     "applications.undo": {"entry"},
     "applications_add.add": {"what", "seen", "proposed", "looked_after"},
     "applications_commit.store": {"digest"},
@@ -238,8 +237,8 @@ def one_of_each(fields: set[str]) -> list[str]:
 
 def screens() -> dict[str, str]:
     """The sources of the screens."""
-    folder = ROOT / "office" / "web" / "screens"
-    return {it.stem: it.read_text("utf-8") for it in folder.glob("*.py")}
+    texts = (it.read_text("utf-8") for it in (ROOT / "office" / "web").rglob("*.py"))
+    return {found[1]: it for it in texts if (found := re.search(r'Blueprint\("(\w+)"', it))}
 
 
 def test_each_view_that_takes_a_form_or_a_file_is_in_the_list(world: World) -> None:
@@ -248,7 +247,7 @@ def test_each_view_that_takes_a_form_or_a_file_is_in_the_list(world: World) -> N
              if "POST" in (it.methods or ())}
     assert views == set(TEXTS)
     pages = "".join(it.read_text("utf-8") for it in (
-        ROOT / "office" / "web" / "templates").glob("*.html"))
+        ROOT / "office" / "web").glob("*/templates/*.html"))
     inputs = [it for it in re.findall(r"<input[^>]*>", re.sub(r"\{\{.*?\}\}", "", pages))
               if 'type="file"' in it]
     there = {re.search('name="([a-z_]+)"', it)[1] for it in inputs}  # type: ignore[index]

@@ -13,8 +13,9 @@ import pytest
 from conftest import Office
 from files import register_of
 
-from office import inputs, model, senders
-from office.run import Refused
+from office.core import model, senders
+from office.core.run import Refused
+from office.files import inputs
 
 # in CPU time, on a machine at work
 SECONDS = 8

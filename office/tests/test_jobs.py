@@ -6,7 +6,7 @@ import threading
 import pytest
 from register_files import Refused
 
-from office.web.jobs import BROKEN, Jobs
+from office.web.machinery.jobs import BROKEN, Jobs
 
 PATIENCE = 60.0
 

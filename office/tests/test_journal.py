@@ -10,9 +10,10 @@ from typing import Any
 import pytest
 from applications import ROUND, office_over, town
 
-from office.web import history, journal
-from office.web.history import ANSWER, SENDS, SETTLED, Entry, History
-from office.web.journal import Journal
+from office.web.frame import journal
+from office.web.frame.journal import Journal
+from office.web.register import history
+from office.web.register.history import ANSWER, SENDS, SETTLED, Entry, History
 
 NAME = "secondary-2025"
 COMMAND = {"cmd": "add_child", "child": 7, "name": "Ada Abel\nPRIORITY=0", "east": 1, "north": 2}

@@ -16,8 +16,8 @@ from letter_site import pages, waited
 from letters_in_a_process import AT_A_TIME, MANY
 from served import do_over, served
 
-from office.web import letters_sets
-from office.web.store import Store
+from office.web.letters import sets as letters_sets
+from office.web.register.store import Store
 
 
 def commands() -> list[dict[str, object]]:

@@ -19,10 +19,10 @@ from letter_site import (
 from pages import Page, press
 from test_letter_templates import number_of, own
 
-from office import letter_pdf
-from office.web import letters_back
-from office.web.history import ANSWER, SENDS, History
-from office.web.letters_examples import ADDRESS, DAY, OFFERED, SENDER
+from office.web.letters import back as letters_back
+from office.web.letters.examples import ADDRESS, DAY, OFFERED, SENDER
+from office.web.register.history import ANSWER, SENDS, History
+from office.work import letter_pdf
 
 
 @pytest.fixture(name="address", scope="module")

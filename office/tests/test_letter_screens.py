@@ -23,11 +23,12 @@ from pages import Page, press, tasks
 from register_files import Refused
 from served import do_over, served
 
-from office import printed
-from office.web import choices, letters_whom
-from office.web.screens import letters as screen
-from office.web.letters_sets import Asked
-from office.web.people import Person
+from office.web.frame.people import Person
+from office.web.letters import whom as letters_whom
+from office.web.letters.sets import Asked
+from office.web.letters.views import letters as screen
+from office.web.machinery import choices
+from office.work import printed
 
 
 @pytest.fixture(name="address", scope="module")
@@ -346,6 +347,21 @@ def test_a_day_on_which_letters_cannot_have_been_sent_is_refused(
     assert hidden(jane.get(path), "day") == "3 March 2025"
     monkeypatch.setattr(screen, "today", lambda: datetime.date(2025, 3, 10))
     assert recorded(jane, path, "3 March 2025", sure_of="")[0] == 303
+
+
+def test_letters_that_a_clock_has_made_later_than_now_are_recorded(
+    office: Site, monkeypatch: pytest.MonkeyPatch,
+) -> None:
+    """It was ahead, as was the date that it proposed for them, and is right since: they were sent
+    today, and not before.
+    """
+    jane = office.browser("jane")
+    ahead = datetime.date.today().isoformat()
+    path = made(jane, asked(jane, "offers", "1", child=["1"], day_of_letters=ahead))
+    monkeypatch.setattr(screen, "today", lambda: datetime.date(2025, 3, 10))
+    status, page = recorded(jane, path, "9 March 2025")
+    assert status == 400 and "10 March 2025 or a later day" in page
+    assert recorded(jane, path, "10 March 2025")[0] == 303
 
 
 def test_a_set_of_another_number_is_not_recorded(office: Site) -> None:

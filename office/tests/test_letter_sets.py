@@ -19,19 +19,24 @@ import openpyxl
 import pytest
 from register_files import Refused
 
-from office import audit, letters_apart
-from office.letters_apart import Running
-from office.model import Draw
-from office.web import letters_audits, letters_sets, letters_whom, people, rehearsal
-from office.web.draws_store import DrawStore
-from office.web.draws_terms import AUDITED
-from office.web.history import History, now
-from office.web.jobs import Jobs
-from office.web.letters_audits import Audits
-from office.web.letters_sets import Asked, Sets
-from office.web.letters_templates import Templates
-from office.web.letters_whom import Lists, Whom
-from office.web.store import Store
+from office import audit
+from office.core.model import Draw
+from office.web.frame import people
+from office.web.letters import audits as letters_audits
+from office.web.letters import sets as letters_sets
+from office.web.letters import whom as letters_whom
+from office.web.letters.audits import Audits
+from office.web.letters.sets import Asked, Sets
+from office.web.letters.versions import Templates
+from office.web.letters.whom import Lists, Whom
+from office.web.machinery.jobs import Jobs
+from office.web.register.history import History, now
+from office.web.register.store import Store
+from office.web.rounds import rehearsal
+from office.web.rounds.store import DrawStore
+from office.web.rounds.terms import AUDITED
+from office.work import letters_apart
+from office.work.letters_apart import Running
 
 JANE = people.Person("jane", "officer")
 ASKED = Asked("Offers", [1, 2], 1, 1, "2025-03-03", "pdf")
@@ -209,6 +214,39 @@ def test_a_clock_that_is_put_right_moves_no_end_of_a_set(
     assert there(1.1) == {kept} and there(23.9) == {kept} and there(24.1) == set()
 
 
+@pytest.mark.parametrize("wrong", [-9000 * DAY, 3 * DAY, 4000 * DAY], ids=str)
+def test_a_clock_that_was_wrong_under_an_earlier_application_moves_no_end_of_a_set(
+    office: Office, wrong: datetime.timedelta
+) -> None:
+    """It has ended before the clock was put right: what it made then is kept as if it were made
+    when the next one begins; and what was made by the right clock is kept as long as before.
+    """
+    steady, moment = [1000.0], datetime.datetime.now(UTC)
+    office.sets.steady = lambda: steady[0]
+    right, early, late = (office.add(
+        letters_sets.MADE, at=it.isoformat(timespec="milliseconds"),
+        ended=it.isoformat(timespec="milliseconds"))
+        for it in (moment - DAY / 2, moment + wrong, moment + wrong + DAY / 24))
+    for number in (right, early, late):
+        office.sets.room(number).mkdir()
+        office.sets.keep(office.sets.get(number), [(0, number, "about", "words", "text")])
+    office.sets.doubt(moment)
+
+    def there(after: float) -> set[int]:
+        """Those whose file is there so many hours later."""
+        steady[0] = 1000.0 + 3600 * after
+        office.sets.sweep_at(moment + datetime.timedelta(hours=after))
+        assert len(office.store.rows("SELECT id FROM letter")) == 3
+        return {it for it in (right, early, late) if office.sets.room(it).exists()}
+
+    assert there(0.1) == {right, early, late}
+    # (a third one finds nothing to doubt)
+    office.sets.stamped.clear()
+    office.sets.doubt(moment + DAY / 24)
+    assert not office.sets.stamped
+    assert there(12.5) == {early, late} and there(23.9) == {early, late} and there(24.1) == set()
+
+
 def test_who_has_a_letter_is_known_without_the_children_of_each_set(office: Office) -> None:
     """With ten sets of 2,000 letters, each of which names all its children, a page takes no more
     than their results.
@@ -337,6 +375,15 @@ def test_a_mail_merge_is_written_by_a_process_that_can_be_ended(tmp_path: pathli
     with pytest.raises(Refused):
         letters_apart.merge([["child"], [1]], "Offers", str(tmp_path / "other.xlsx"), ended)
     assert not (tmp_path / "other.xlsx").exists()
+
+
+def test_a_process_that_the_system_ends_for_memory_says_so(
+    monkeypatch: pytest.MonkeyPatch, tmp_path: pathlib.Path
+) -> None:
+    """It is the first to go, and a status tells nobody why."""
+    monkeypatch.setattr(letters_apart, "BEGIN", "import os; os.kill(os.getpid(), 9)")
+    with pytest.raises(Refused, match="^the file: the letters take too much memory$"):
+        letters_apart.merge([["child"], [1]], "Offers", str(tmp_path / "letters.xlsx"))
 
 
 def test_a_process_that_cannot_write_names_no_path(tmp_path: pathlib.Path) -> None:

@@ -14,9 +14,9 @@ from applications import ROUND, Browser, Site, office_over, town
 from letter_site import asked, count, letter_pages, made, pages
 from register_files import Refused
 
-from office import letters_apart
-from office.letters_apart import Source
-from office.web import letters_templates
+from office.web.letters import versions as letters_templates
+from office.work import letters_apart
+from office.work.letters_apart import Source
 
 GOOD = "<h1>{{ letter.name }}</h1>\n<p>{{ date }}</p>\n"
 LOOP = ("<p>x</p>\n{% for a in range(99999) %}{% for b in range(99999) %}\n"
@@ -114,13 +114,13 @@ def test_an_operation_that_does_not_return_is_ended_with_its_line(
     monkeypatch.setattr(letters_apart, "BEGIN", letters_apart.BEGIN.replace(
         "letters_apart.main()", "letters_apart.SECONDS = 3; letter_pdf.see_product = stuck;"
         " letters_apart.main()").replace(
-        "from office import letters_apart;",
-        "from office import letters_apart, letter_pdf;"
+        "from office.work import letters_apart;",
+        "from office.work import letters_apart, letter_pdf;"
         " stuck = lambda *_: (signal.signal(signal.SIGPROF, signal.SIG_IGN), 9 ** 99999999);"
         " import signal;"))
     monkeypatch.setattr(letters_apart, "SECONDS", 3)
     source = letters_apart.Source("Mine", "<p>\n\n{{ 2 * 3 }}", {})
-    from office.web.letters_examples import DAY, OFFERED
+    from office.web.letters.examples import DAY, OFFERED
     with pytest.raises(Exception, match="Mine, line 3: the letters take more than 3 seconds"):
         letters_apart.letters(source, [(OFFERED, [])], DAY, letters_apart.Form(),
                               str(tmp_path / "x.pdf"))

@@ -17,8 +17,9 @@ from conftest import PROGRAM, Command, apply, child, do, make, school
 from files import register_of
 from register_files import Refused
 
-from office import letter_fields, letter_pdf, model, printed
-from office.letter_fields import Letter
+from office.core import model
+from office.work import letter_fields, letter_pdf, printed
+from office.work.letter_fields import Letter
 
 # a picture of one point
 RED_PNG = (

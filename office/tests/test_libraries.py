@@ -9,15 +9,17 @@ import pytest
 from conftest import ROOT
 from register_files import Refused
 
-from office import apart, letters_apart, pdf_apart, run
-from office.letters_apart import Form, Source
-from office.web import points
+from office.core import run
+from office.files import processes as apart
+from office.web.applications import points
+from office.work import letters_apart, pdf_apart
+from office.work.letters_apart import Form, Source
 
-HOW = "which is not here: apt-get install admissions-office"
+HOW = "which is not here: apt-get install admissions-pdf"
 EACH = """
 import importlib, pkgutil, sys
 sys.path[:0] = sys.argv[1:]
-from office import libraries
+from office.core import libraries
 for it in libraries.LARGE:
     sys.modules[it] = None
 import machine, office
@@ -30,7 +32,7 @@ for package in (office, machine):
 EXCEL = """
 import sys
 sys.path[:0] = sys.argv[1:]
-from office import book, sheet
+from office.files import book, sheet
 data = book.data([book.Page("children", "a list", [["child"], [17]])], "a title")
 print(*(it.cells for it in sheet.of_bytes("a.xlsx", data, None, "").rows))
 """
@@ -42,7 +44,8 @@ def test_each_module_loads_without_them() -> None:
     done = subprocess.run([sys.executable, "-B", "-c", EACH, *places], capture_output=True,
                           text=True, check=False)
     assert done.returncode == 0, done.stderr
-    assert {"office.worklists", "office.web.app", "machine.verbs.setup"} <= set(done.stdout.split())
+    found = set(done.stdout.split())
+    assert {"office.work.worklists", "office.web.app", "machine.verbs.setup"} <= found
 
 
 def test_excel_files_need_no_numpy(tmp_path: pathlib.Path) -> None:

@@ -12,7 +12,7 @@ from conftest import PROGRAM
 from draw_site import after_round, begun, brought, machine_over, small_register
 from pages import Page
 
-from office.web import pictures
+from office.web.machinery import pictures
 
 
 def in_copy(office: Site, number: int) -> dict[int, int]:

@@ -19,9 +19,12 @@ from applications import ROUND, Browser, Site, child, office_over, town
 from conftest import apply, school
 from pages import Page, press
 
-from office import book, texts
-from office.register_lists import Rows
-from office.web import flags, list_choice, tables
+from office.core import texts
+from office.files import book
+from office.web.lists import choice as list_choice
+from office.web.machinery import tables
+from office.web.schools import flags
+from office.work.register_lists import Rows
 
 # A has two places and B one: the nearest two have A, the third B, and the fourth none
 ADA, BEN, CYD, DAI = "Ada Abel", "Ben Bell", "Cyd <b>Cole</b>", "Dai O'Dare"

@@ -11,8 +11,8 @@ from files import register_of
 from register_files import Refused
 from seasons import Town, file_of
 
-from office import lot_sheets
-from office.model import Pair
+from office.core.model import Pair
+from office.work import lot_sheets
 
 PAIRS: list[Pair] = [("A", 1), ("A", 2), ("B", 1), ("B", 2), ("B", 3)]
 LOTS = {("A", 1): 10, ("A", 2): 20, ("B", 1): 10, ("B", 2): 20, ("B", 3): 30}

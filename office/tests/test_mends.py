@@ -13,11 +13,11 @@ import pytest
 from applications import Site, office_over
 from conftest import apply, child, school
 from pages import Page, press
-from staged import COLUMNS, Screens, Seen, csv_of
+from staged import COLUMNS, TABLE, Screens, Seen, csv_of
 
-from office import sheet
-from office.web import subject
-from office.web.staging_rows import OPEN, WITHDRAWN
+from office.files import sheet
+from office.web.applications.rows import OPEN, WITHDRAWN
+from office.web.children import subject
 
 TOWN = [school("OAK", pan=180, name="Oak School", criteria=["flag:2", "sibling"]),
         school("ELM", pan=120, name="Elm Grove", east=4000),
@@ -153,7 +153,7 @@ def test_a_button_says_what_it_did_and_takes_it_back(office: Site, screens: Scre
         " a.csv; 1 other day can only be day/month/year 3 rows" in kinds(seen)
     assert len(seen.rows()) == 3
     done = screens.press("Read all as day/month/year")
-    assert "Read all as day/month/year" in done.texts["answer"]
+    assert "All read as day/month/year in 3 rows." in done.texts["answer"]
     assert '"04/09/2024" to "2024-09-04"' in " ".join(done.text.split())
     assert {it["day"] for it in stored(office).values()} == {
         "2024-09-04", "2024-09-05", "2024-09-06", "21/09/2024"}
@@ -309,7 +309,8 @@ def test_a_home_is_typed_where_there_is_no_gazetteer(office: Site, screens: Scre
     assert "Save the point" in seen.buttons and "Look up" not in seen.buttons
     typing = " ".join(seen.texts["typing"].split())
     assert typing.startswith("Type the point of the home on the British National Grid in whole"
-                             " metres, as 430010 east and 210020 north, and press ‘Save the point’")
+                             " metres, such as 123456 east and 654321 north, and press ‘Save the"
+                             " point’")
     assert "its point on a map that shows the National Grid" in typing
     assert "Property number" not in seen.text and "East, in metres" in seen.text
     done = screens.press("Save the point", "points/", east="1000", north="2000")
@@ -343,7 +344,7 @@ def test_rows_of_one_kind_and_those_that_are_set_aside(office: Site, screens: Sc
     assert "Names that are missing shown below" in kinds(screens.see(key))
     assert screens.see("?kind=names-that-are-missing").rows() == [1, 2]
     assert screens.see("?kind=days-that-cannot-be-read").rows() == [1, 3]
-    screens.press("Set 2 rows aside", "?kind=names-that-are-missing")
+    screens.set_aside("Set 2 rows aside", "?kind=names-that-are-missing")
     assert screens.see("?show=aside").rows() == [1, 2] and screens.see("?show=errors").rows() == [3]
     assert screens.see("?show=ready").rows() == [4]
     screens.press("Put back 2 rows", "?show=aside")
@@ -351,7 +352,7 @@ def test_rows_of_one_kind_and_those_that_are_set_aside(office: Site, screens: Sc
 
 
 def test_each_row_that_is_set_aside_says_why(screens: Screens) -> None:
-    """What is wrong in it, also beside the rows of the table; and no cell of it is a field. Its
+    """What is wrong in it, also beside the rows of the table; and only its note is a field. Its
     screen has these rows alone.
     """
     screens.add(("a.csv", lines(
@@ -360,15 +361,43 @@ def test_each_row_that_is_set_aside_says_why(screens: Screens) -> None:
     for number in (1, 2, 4):
         screens.withdraw(number)
     seen = screens.see("withdrawn")
-    assert seen.rows() == [1, 2, 4] and not any(seen.values(it) for it in seen.rows())
+    assert seen.rows() == [1, 2, 4]
+    assert all(seen.values(it) == {"remark": ""} for it in seen.rows())
     assert seen.said(1, "name") == "The name is missing."
     assert seen.said(1, "day") == "There is no such day."
     assert seen.said(4, "child") == "Also in row 4 of a.csv."
     assert seen.said(4, "preferences") == "There is no school ELK."
     said = "No error was found in it."
     assert [said in seen.texts[f"row-{it}"] for it in seen.rows()] == [False, True, False]
-    assert not {"kinds", "next", "sources"} & {*seen.texts}
-    assert {"next", "sources"} <= {*screens.see("?show=aside").texts}
+    assert not {"kinds", "next", "sources", "by-day"} & {*seen.texts}
+
+
+def test_rows_that_are_set_aside_are_asked_about_noted_and_edited(
+    office: Site, screens: Screens,
+) -> None:
+    """A note stays with its row; an edited row stays aside until it is put back."""
+    screens.add(("a.csv", lines(row(101, "Ada Abbot", day="31/11/2024"), row(102, "Ben Brook"))))
+    asked = screens.press("Set 2 rows of a.csv aside")
+    assert "takes no part in a round until the row is put back" in asked.text
+    assert screens.see().rows() == [1, 2]
+    note = "the family was asked on 3 November"
+    screens.set_aside("Set 2 rows of a.csv aside", note=note)
+    seen = screens.see("?show=aside")
+    assert [seen.values(it) for it in (1, 2)] == [{"remark": note}] * 2
+    assert screens.see().rows() == []
+    edited = screens.see("?show=aside&edit=1")
+    assert edited.values(1)["day"] == "31/11/2024" and edited.values(2) == {"remark": note}
+    typed = {"day-1": "30/11/2024", "remark-1": "it was the 30th"}
+    found = screens.browser.post(edited.actions[TABLE], {**edited.sent(), **typed})
+    assert found.status_code == 303
+    seen = screens.see("?show=aside")
+    assert seen.values(1) == {"remark": "it was the 30th"}
+    assert seen.said(1, "day") == "Late: no part in the first round."
+    entry = office.parts.history.entries[-1].about
+    assert entry["remark"] == f'"{note}" to "it was the 30th"'
+    assert screens.bring_back(1).status_code == 303
+    seen = screens.see()
+    assert seen.rows() == [1] and "Note: it was the 30th" in " ".join(seen.texts["row-1"].split())
 
 
 def test_only_wrong_cells_are_fields(screens: Screens) -> None:

@@ -19,7 +19,8 @@ import pytest
 from conftest import HEADER, OMITTED, PROGRAM, ROOT, Command, Office, apply, child, school
 from test_audit import change
 
-from office import audit, fields
+from office import audit
+from office.core import fields
 
 NAME = "later_field"
 FIELD = {"field": NAME, "kind": "truth", "optional": True, "omitted": False}
@@ -54,14 +55,14 @@ BEGIN = """
 import json, sys
 folder, tools, program, *given = sys.argv[1:]
 sys.path[:0] = [folder, tools]
-from office import model
+from office.core import model
 def register(name):
     return model.read_stored(name, program, name)
 """
 ALL = BEGIN + """
 import datetime
-from office import figures, letter_fields, rounds, why, worklists
-from office.trial_registers import Program
+from office.work import figures, letter_fields, rounds, why, worklists
+from office.work.trial_registers import Program
 before, after = map(register, given)
 options = {"day": datetime.date(2025, 3, 20), "child": 1, "draw": 1, "round": 1, "text": "child"}
 writer = letter_fields.Writer(after, before)
@@ -77,21 +78,21 @@ print(json.dumps({
 }, default=str))
 """
 AMEND = BEGIN + """
-from office import persons
+from office.core import persons
 print(json.dumps(persons.command_of("amend", register(given[0]).children[1])))
 """
 TRIAL = BEGIN + """
-from office import trial
-from office.trial_registers import Program
+from office.work import trial
+from office.work.trial_registers import Program
 before, after = map(register, given)
 schools, _ = trial.changed_schools(before, [("OAK", 2)])
 found = trial.Trial(before, after, schools, {}, Program(program))
 print(json.dumps(len(found.plain.outcomes[1])))
 """
 TABLE = BEGIN + """
-from office import check, fields, sheet
-from office.web import staging_check, staging_files
-from office.web.staging_rows import OPEN, Staged
+from office.work import check; from office.core import fields; from office.files import sheet
+from office.web.applications import check as staging_check, files as staging_files
+from office.web.applications.rows import OPEN, Staged
 read = staging_files.rows_of("it", sheet.of_bytes("it", open(given[0], "rb").read(), None, ""))
 rows = [Staged(at, 1, "it", False, False, it.number, it.cells, it.others, it.notes, OPEN, 1, "",
                "", "", "", None) for at, it in enumerate(read.rows, 1)]

@@ -15,10 +15,10 @@ from applications import ORIGIN, Browser, Site, office_over, town
 from pages import Page, press
 from register_files import Refused
 
-from office.web import notes
-from office.web.people import Person
-from office.web.schema import STEPS
-from office.web.store import Store
+from office.web.children import notes
+from office.web.frame.people import Person
+from office.web.register.schema import STEPS
+from office.web.register.store import Store
 
 ADD, UPLOAD = "Add the note to child {}", "Add the file to child {}"
 

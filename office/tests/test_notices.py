@@ -18,12 +18,13 @@ from letter_site import (
 )
 from register_files import Refused
 
-from office.senders import Ended
-from office.web import choices, notices
-from office.web.answers import Meant
-from office.web.notice_marks import Marks
-from office.web.people import Person
-from office.web.screens import notices as screen
+from office.core.senders import Ended
+from office.web.answers import notices
+from office.web.answers.entries import Meant
+from office.web.answers.notice_marks import Marks
+from office.web.answers.views import notices as screen
+from office.web.frame.people import Person
+from office.web.machinery import choices
 
 
 @pytest.fixture(name="address", scope="function")
@@ -38,7 +39,7 @@ def office_fixture(
     address: str, tmp_path: pathlib.Path, monkeypatch: pytest.MonkeyPatch
 ) -> Iterator[Site]:
     """An application over it, of which a test wants what came of a row."""
-    monkeypatch.setattr("office.web.screens.notices.WAIT_SECONDS", 600.0)
+    monkeypatch.setattr("office.web.answers.views.notices.WAIT_SECONDS", 600.0)
     with audited(tmp_path, address) as found:
         yield found
 
@@ -373,7 +374,7 @@ def test_a_row_that_runs_says_so_while_the_register_is_away(
         return make(*given)
 
     monkeypatch.setattr(office.parts.copies, "make", slow)
-    monkeypatch.setattr("office.web.screens.notices.WAIT_SECONDS", 0.05)
+    monkeypatch.setattr("office.web.answers.views.notices.WAIT_SECONDS", 0.05)
     row = confirmed(jane, shown(jane, "remind", "18 March 2025", [2, 3])).location
     monkeypatch.setattr(office.parts.desk, "register", away)
     page = jane.get(row)

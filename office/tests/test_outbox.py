@@ -11,19 +11,20 @@ from conftest import make
 from served import served
 from test_desk import APPLIED, CHILDREN, JANE, ROUND, ROW, ROWS, SCHOOLS, about
 
-from office import senders
-from office.web import desk, kinds, schools
-from office.web.copies import Copies
-from office.web.desk import Command
-from office.web.history import ANSWER, History
-from office.web.jobs import Jobs
-from office.web.outbox import DONE, FAILED, WAITS, Item, Outbox
-from office.web.people import Person
-from office.web.school_drafts import DRAFT, Draft
-from office.web.staging import Staging
-from office.web.staging_commit import Imports
-from office.web.staging_rows import COMMITTED, OPEN
-from office.web.store import Store
+from office.core import kinds, senders
+from office.web.applications.commit import Imports
+from office.web.applications.rows import COMMITTED, OPEN
+from office.web.applications.staging import Staging
+from office.web.copies.copies import Copies
+from office.web.frame.people import Person
+from office.web.machinery.jobs import Jobs
+from office.web.machinery.outbox import DONE, FAILED, WAITS, Item, Outbox
+from office.web.register import desk
+from office.web.register.desk import Command
+from office.web.register.history import ANSWER, History
+from office.web.register.store import Store
+from office.web.schools import rows as schools
+from office.web.schools.drafts import DRAFT, Draft
 
 BATCH = "a batch"
 

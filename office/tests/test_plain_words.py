@@ -23,10 +23,15 @@ from pages import Page
 from register_files import Refused
 from werkzeug.datastructures import FileStorage
 
-from office.web import copies, entry_words, held_again, plain, rehearsal, trials, uploads
-from office.web.draws_terms import GIVEN_UP
-from office.web.people import Person
-from office.web.trials import Asked, Run
+from office.core import plain
+from office.web.copies import copies
+from office.web.explain import held_again, trials
+from office.web.explain.trials import Asked, Run
+from office.web.frame import uploads
+from office.web.frame.people import Person
+from office.web.register import entry_words
+from office.web.rounds import rehearsal
+from office.web.rounds.terms import GIVEN_UP
 
 # what no text for an officer has
 FORBIDDEN = re.compile(
@@ -235,8 +240,8 @@ def test_an_error_of_the_application_keeps_what_was_typed(
     def fail(*_: object) -> Any:
         raise KeyError("/var/lib/admissions/office")
 
-    monkeypatch.setattr("office.web.flags.change", fail)
-    monkeypatch.setattr("office.web.flags.present", fail)
+    monkeypatch.setattr("office.web.schools.flags.change", fail)
+    monkeypatch.setattr("office.web.schools.flags.present", fail)
     found = hal.post("/flags/", FORMS["/flags/"])
     assert found.status_code == 500 and "lives in the parish" in found.text
     assert "Something went wrong in the application" in Page(found.text).said()
@@ -254,8 +259,9 @@ def test_no_template_and_no_script_names_anything_of_the_machine() -> None:
     for path in scripts:
         # (an address of the site, which is asked for)
         assert is_plain(re.sub("[`\"]/[a-z/]+", "", path.read_text("utf-8"))), path.name
-    folder = ROOT / "office" / "web" / "templates"
-    for path in folder.glob("*.html"):
+    paths = list((ROOT / "office" / "web").glob("*/templates/*.html"))
+    assert paths
+    for path in paths:
         shown = re.sub(r"{#.*?#}|{%.*?%}|{{.*?}}|<[^>]*>", " ", path.read_text("utf-8"), flags=re.S)
         assert is_plain(shown), path.name
 
@@ -286,7 +292,7 @@ def test_no_screen_has_a_word_that_was_replaced() -> None:
     files and of steps in the history stay.
     """
     folder = ROOT / "office" / "web"
-    paths = [it for it in (*folder.rglob("*.py"), *(folder / "templates").glob("*.html"))
+    paths = [it for it in (*folder.rglob("*.py"), *folder.glob("*/templates/*.html"))
              if it.name != "archive.py"]
     assert len(paths) > 200
     found = [f"{path.name}: {text.strip()[:90]!r}: say {new}" for path in paths

@@ -13,12 +13,12 @@ from gazetteers import csv_of
 from pages import Page, history, press
 from staged import Cells, Screens, workbook
 
-from office.web import points
-from office.web.gazetteer import Found, Lookup
-from office.web.points import Point
-from office.web.staging_points import SETTING, Keys, looked_up, typed_point
-from office.web.staging_rows import OPEN, Staged
-from office.web.staging_tools import Tools
+from office.web.applications import points
+from office.web.applications.gazetteer import Found, Lookup
+from office.web.applications.points import Point
+from office.web.applications.row_points import SETTING, Keys, looked_up, typed_point
+from office.web.applications.rows import OPEN, Staged
+from office.web.applications.tools import Tools
 
 TOWN = [{**school("OAK", east=430100), "north": 210200},
         {**child(7, name="Old Hand", east=430000), "north": 210000}, apply(7, ["OAK"])]
@@ -166,7 +166,7 @@ def test_each_row_is_decided_by_what_is_typed_taken_or_kept(office: Site, jane: 
             row(117, "Gus", "430000", "", "100023336956")]
     Screens(jane).add(("a.csv", csv_of(HEAD, *rows)))
     seen = to_see(jane)
-    assert ("Type a property number, as 100023336956, or a postcode, as AB1 2CD, and press"
+    assert ("Type a property number (UPRN) or a postcode, and press"
             " ‘Look up’. Or type the point of the home") in jane.get(PATH).text
     assert seen.keys() == {"Ada", "Ben", "Dov", "Eve", "Finn", "Gus"}
     assert "are east and north swapped? property number 100023336956" in seen["Ada"]

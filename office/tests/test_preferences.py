@@ -10,7 +10,7 @@ import pytest
 from applications import ROUND, Browser, Site, child, office_over, town
 from pages import Page, press
 
-from office.web.screens import preferences
+from office.web.children.views import preferences
 
 EVE = child(5, "Eve <i>Eden</i>", 50)
 PATH = "/children/5/application"

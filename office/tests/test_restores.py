@@ -4,11 +4,13 @@ a small model of the commands.
 """
 import contextlib
 import copy
+import datetime
 import hashlib
 import html
 import json
 import pathlib
 import re
+import shutil
 import sqlite3
 import threading
 from collections.abc import Callable, Iterator
@@ -25,18 +27,21 @@ from draw_site import (
 from pages import Page, press
 from register_files import Refused
 
-from office.model import Register
-from office.senders import Ended
-from office.web import copies, draws_again, lineage, restores
-from office.web.answers import Meant
-from office.web.desk import Result
-from office.web.draws_drafts import Typed
-from office.web.history import RESTORED, Entry, History
+from office.core.model import Register
+from office.core.senders import Ended
+from office.web.answers.entries import Meant
+from office.web.answers.piles import Piles
+from office.web.copies import copies, restores
+from office.web.copies.terms import Restore
+from office.web.frame import people
+from office.web.machinery.steps import Done
 from office.web.parts import Parts
-from office.web.piles import Piles
-from office.web.restores_terms import Restore
-from office.web.step_store import Done
-from office.web.store import Store
+from office.web.register import lineage
+from office.web.register.desk import Result
+from office.web.register.history import RESTORED, Entry, History, now
+from office.web.register.store import Store
+from office.web.rounds import again as draws_again
+from office.web.rounds.drafts import Typed
 
 Command = dict[str, Any]
 
@@ -853,6 +858,99 @@ def held_again(room: Room, lots: dict[tuple[str, int], list[int]]) -> None:
     assert office.parts.desk.send(HAL, held, None, True).is_done
 
 
+def moment_now() -> datetime.datetime:
+    """This moment, as an entry of the history has it."""
+    return datetime.datetime.fromisoformat(now())
+
+
+def restored_by_it(small: Machine, night: pathlib.Path, since: datetime.datetime) -> int:
+    """Has IT support put a copy of the night in the place of the register, while the application is
+    closed. Returns the number of the restore."""
+    small.stop()
+    shutil.copy(night, small.file)
+    name = "office-000099-2025-03-03T023000.db"
+    shutil.copy(night, small.copies / name)
+    parts = Parts(small.config())
+    support = people.Person("administrator of the machine", "")
+    copy = parts.copies.next_number("of the night", support.name)
+    parts.restores.bring(support, copy, name, since, "Since then people also added a note (1).")
+    found = parts.restores.present()
+    parts.close()
+    small.start()
+    return found.number if found else 0
+
+
+def test_what_came_since_a_copy_of_it_support_is_sent_again_by_two_people(small: Machine) -> None:
+    """With a draw, as it was held; also where they have new passwords since. Nobody records
+    anything before, and it cannot be cancelled. What is not ticked is lost.
+    """
+    night = small.folder / "night.db"
+    small.stop()
+    shutil.copy(small.file, night)
+    small.start()
+    since = moment_now()
+    with small.office() as office:
+        room = Room(office)
+        draw = begun(office)
+        brought(office, draw, "opened")
+        had = {at: it.school for at, it in room.now().places.items()}
+        sent(office, (JANE, {"cmd": "accept", "child": 4, "school": had[4]}), (JANE, ADDED),
+             (HAL, RAISED))
+        lots, passwords = room.now().lots(1), dict(office.passwords)
+    number = restored_by_it(small, night, since)
+    with small.office() as office:
+        office.passwords.update(passwords)
+        room, path = Room(office), f"/restores/{number}"
+        assert room.now().draws == [] and office.parts.draws.get(draw).state == "restored"
+        assert office.parts.desk.send(JANE, NEW_NAME).said.startswith("Recording is paused for the")
+        page = room.hal.get(path).text
+        assert "Since then people also added a note (1)." in page and "Cancel the" not in page
+        entries = room.since()
+        assert [row[0] for row in Page(page).tables["since"][1:]] == [""] * 4
+        assert room.press(room.hal, number, "give-up").status_code == 409
+        office.parts.history.add("root", "drew a new password", {"person": "jane"})
+        ticked = tuple(entries[it] for it in ("round", "accept", "add_child"))
+        assert room.press(room.hal, number, "ask", ticked).status_code == 303
+        refused = room.press(room.hal, number, "confirm")
+        assert refused.status_code == 409 and "hal has asked for the restore" in refused.text
+        seen = " ".join(room.jane.get(path).text.split())
+        assert ("hal has chosen what is sent again. 4 entries came since then: 3 of them are sent"
+                " again, and 1 is lost.") in seen
+        assert "May confirm it: jane." in seen and "would refuse" not in seen
+        assert press(room.jane, path, Page(seen), "Send again what is ticked").status_code == 303
+        assert room.state(number) == "opened" and not office.parts.desk.closed()
+        register = room.now()
+        assert {at: it.school for at, it in register.places.items()} == had
+        assert (register.places[4].kind, 6 in register.children) == ("accepted", True)
+        assert (register.lots(1), register.schools["OAK"].pan) == (lots, 1)
+        assert office.parts.draws.get(draw).state == "opened"
+        assert "recorded first by jane" in room.hal.get("/activity/").text
+
+
+def test_another_copy_of_it_support_keeps_what_waits(small: Machine) -> None:
+    """What is not sent again yet waits still, with what that copy lacks; and where nothing came
+    since, recording goes on at once.
+    """
+    night, since = small.folder / "night.db", moment_now()
+    small.stop()
+    shutil.copy(small.file, night)
+    small.start()
+    assert restored_by_it(small, night, since) == 0
+    with small.office() as office:
+        assert not office.parts.desk.closed()
+        sent(office, (HAL, RAISED))
+        second = moment_now()
+        sent(office, (JANE, NEW_NAME))
+    waiting = []
+    for moment in (second, since, second):
+        number = restored_by_it(small, night, moment)
+        parts = Parts(small.config())
+        rows = parts.restores.sending.rows(parts.restores.get(number))
+        waiting.append([parts.restores.sending.entry(it).about["command"]["cmd"] for it in rows])
+        parts.close()
+    assert waiting == [["amend"], ["raise_pan", "amend"], ["amend"]]
+
+
 def test_the_lineage_of_a_register_follows_its_restores() -> None:
     """Worked out by hand: a copy after entry 3; its restore is entry 6; a copy after 5 is restored
     by entry 9, which takes the first restore back.
@@ -976,7 +1074,7 @@ def test_a_disk_that_is_full_is_named_and_no_file(
         raise OSError(28, "No space left on device", "/tmp/admissions-x/copy.db")
 
     with monkeypatch.context() as patch:
-        patch.setattr("office.web.copy_tests.tempfile.TemporaryDirectory", full_room)
+        patch.setattr("office.web.copies.testing.tempfile.TemporaryDirectory", full_room)
         found = away.browser("hal", "head").post("/copies/1/test")
     assert found.status_code == 409
     assert Page(found.text).by_id["answer"] == "Copy 1 was not tested: its disk is full."

@@ -17,7 +17,7 @@ from draw_site import (
     HAL, MISTYPED, SUP, begun, brought, machine_over, small_register, typed,
 )
 
-from office.web import guard
+from office.web.frame import guard
 
 HEAD, OFFICER, SUPERVISOR, READER = "head", "officer", "supervisor", "reader"
 ADMINISTRATOR, SCHOOL = "administrator", "school-A"

@@ -11,7 +11,7 @@ import pytest
 from conftest import HEADER, PROGRAM, apply, child, make, school
 from served import served
 
-from office import commands, fields, rules
+from office.core import commands, fields, rules
 
 LIMITS = rules.LIMITS
 NAMES = [f"S{number}" for number in range(1, 12)]

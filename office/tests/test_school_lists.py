@@ -11,8 +11,8 @@ from applications import Browser, Site, office_over
 from conftest import apply, child, school
 from pages import Page
 
-from office import days
-from office.web.screens import schools
+from office.core import days
+from office.web.schools.views import schools
 
 # OAK has two places, and ELM as many as there are children: all want OAK, most of them ELM too
 MANY, NAMESAKE = 40, "Zoë Abel"

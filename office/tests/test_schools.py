@@ -19,11 +19,12 @@ from pages import Page, press, tasks
 from register_files import Refused
 from served import served
 
-from office.model import Register
-from office.web import flags, schools
-from office.web.people import Person
-from office.web.school_drafts import Draft, digest, seen_line
-from office.web.schools import Line
+from office.core.model import Register
+from office.web.frame.people import Person
+from office.web.schools import flags
+from office.web.schools import rows as schools
+from office.web.schools.drafts import Draft, digest, seen_line
+from office.web.schools.rows import Line
 
 OAK: dict[str, Any] = {
     "cmd": "add_school", "school": "OAK", "name": "Oak \"School\" <b>&</b> Co", "pan": 30,

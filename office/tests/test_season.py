@@ -13,13 +13,15 @@ import pytest
 from applications import ROUND, Site, office_over, town
 from pages import Page, plain, press, tasks
 
-from office import worklists as office_worklists
-from office.model import OFFERED, Place
-from office.register_lists import Rows, lapse_due, remind_due
-from office.web import frame, home, wording, worklists
-from office.web.draws_terms import IN_ORDER, Draw, Terms
-from office.web.people import Person
-from office.web.screens import lists, season
+from office.core import wording
+from office.core.model import OFFERED, Place
+from office.web.frame import navigation as frame
+from office.web.frame.people import Person
+from office.web.lists import home, worklists
+from office.web.lists.views import lists, season
+from office.web.rounds.terms import IN_ORDER, Draw, Terms
+from office.work import worklists as office_worklists
+from office.work.register_lists import Rows, lapse_due, remind_due
 
 REMIND = {"cmd": "remind", "child": 1, "school": "A", "day": "2025-03-18"}
 HAL = Person("hal", "head")
@@ -57,6 +59,18 @@ def test_the_supervisor_draws_only_lots_that_a_draw_waits_for(tmp_path: pathlib.
                     "rehearsed": "A second person has to confirm it."}
             assert due(draw) == [
                 f"Draw 1: a round. {turn.get(state, 'A head of the office goes on with it.')}"]
+
+
+def test_rows_that_a_round_would_leave_out_come_before_it(tmp_path: pathlib.Path) -> None:
+    """Those to correct and those that are set aside, also once the round is late."""
+    with office_over(tmp_path, town()) as office:
+        register, known = office.parts.desk.now(), home.Known(rows=2, withdrawn=3)
+        for day in (datetime.date(2024, 11, 1), datetime.date(2025, 3, 4)):
+            found = [it for _, rows in home.tasks(register, day, known) for it in rows]
+            assert [(it.title, it.state) for it in found[:2]] == [
+                ("Correct applications, and add them to the register", "2 rows"),
+                ("Put back what a family still wants", "3 rows")]
+            assert found[2].title == "Hold the first round"
 
 
 def test_a_season_goes_step_by_step(
@@ -134,8 +148,8 @@ def test_nothing_is_due_on_a_day_on_which_a_family_may_answer() -> None:
     assert due(lapse_due, "2025-04-04") == [[2, "B", "2025-03-20", "2025-04-04", "Ben"]]
     assert [str(it) for it in home.last_days(register)] == ["2025-03-17", "2025-04-03"]
     assert [wording.deadline(it) for it in register.places.values()] == [
-        "A reminder is due from 18 March 2025 on.",
-        "The offer may be withdrawn from 4 April 2025 on, if it is not answered."]
+        "The last day to answer is 17 March 2025; from the next day a reminder is due.",
+        "The last day to answer is 3 April 2025; from the next day the offer may be withdrawn."]
 
 
 def test_each_task_leads_to_its_screen(office: Site, monkeypatch: pytest.MonkeyPatch) -> None:

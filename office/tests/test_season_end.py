@@ -28,15 +28,19 @@ from machine import deletion, office_delete, office_deletion_day, registers, sec
 from register_files import Refused
 from served import served
 
-from office import days
-from office.trial_registers import Program
-from office.web import archive, history, letters_sets, people, season_end
-from office.web.copies import Copies
-from office.web.draws_terms import Terms
+from office.core import days
+from office.web.copies.copies import Copies
+from office.web.explain.trials import Run
+from office.web.frame import people
+from office.web.letters import sets as letters_sets
 from office.web.parts import Config, Parts
-from office.web.season_end import End, SeasonEnd
-from office.web.store import Store
-from office.web.trials import Run
+from office.web.register import history
+from office.web.register.store import Store
+from office.web.rounds.terms import Terms
+from office.web.season_end import archive
+from office.web.season_end import end as season_end
+from office.web.season_end.end import End, SeasonEnd
+from office.work.trial_registers import Program
 
 TODAY = datetime.date(2026, 1, 10)
 DAY = TODAY + days.DELETION_NOTICE
@@ -362,9 +366,9 @@ def test_no_file_of_the_season_stays(alone: Parts) -> None:
 def test_what_root_has_put_aside_is_left_to_root(
     tmp_path: pathlib.Path, monkeypatch: pytest.MonkeyPatch
 ) -> None:
-    """As by the lines of docs/DEPLOYMENT.md that restore people or replace a history: folders that
-    the application cannot open. The deletion ends without them, and names them on the screen and
-    in the history.
+    """As by the lines of docs/admin/RECOVER.md that restore people or replace a history: folders
+    that the application cannot open. The deletion ends without them, and names them on the screen
+    and in the history.
     """
     folder = tmp_path / "office"
     monkeypatch.setattr(Copies, "asked", lambda *given: {"number": given[2], "files": "2"})

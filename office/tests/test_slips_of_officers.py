@@ -43,7 +43,7 @@ from applications import Browser, Site, office_over
 from offers import PAGE, enter, offered, pile, record, sent, shown
 from pages import Page, press
 
-from office.web import guard
+from office.web.frame import guard
 
 
 @pytest.fixture(name="office", scope="module")

@@ -23,15 +23,20 @@ from served import served
 from staged import COLUMNS, Screens, Seen, csv_of, workbook
 from werkzeug.datastructures import FileStorage
 
-from office import apart, fields, inputs, sheet, sheet_apart, turns
-from office.model import Register
-from office.senders import Ended
-from office.web import (
-    draws_sheet, schema, staging_check, staging_commit, staging_form, store, uploads,
-)
-from office.web.people import Person
-from office.web.screens import applications_commit
-from office.web.staging_rows import COMMITTED, OPEN, SENDING, WITHDRAWN
+from office.core import fields, turns
+from office.core.model import Register
+from office.core.senders import Ended
+from office.files import inputs, sheet, sheet_apart
+from office.files import processes as apart
+from office.web.applications import check as staging_check
+from office.web.applications import commit as staging_commit
+from office.web.applications import form as staging_form
+from office.web.applications.rows import COMMITTED, OPEN, SENDING, WITHDRAWN
+from office.web.applications.views import commit as applications_commit
+from office.web.frame import uploads
+from office.web.frame.people import Person
+from office.web.register import schema, store
+from office.web.rounds import sheet as draws_sheet
 
 TOWN = [school("OAK", name="Oak School"), school("ELM", name="Elm School", east=500),
         child(7, name="Old Hand", east=9000), apply(7, ["ELM"])]
@@ -269,7 +274,7 @@ def test_a_file_of_another_kind_is_refused(
 
 @pytest.mark.parametrize("name", [
     "shared.xlsx", "million.xlsx", "rows.xlsx", "merges.xlsx", "parts.xlsx", "columns.csv",
-    "lines.csv", "rows.csv", "cells.csv", "quote.csv"])
+    "lines.csv", "rows.csv", "cells.csv", "quote.csv", "one-text.xlsx"])
 def test_a_file_that_is_too_much_is_refused(
     office: Site, screens: Screens, tmp_path: pathlib.Path, name: str
 ) -> None:
@@ -304,6 +309,30 @@ def test_a_sheet_that_takes_too_long_ends_alone(monkeypatch: pytest.MonkeyPatch)
         sheet_apart.read("a.csv", csv_of(), None, "")
 
 
+@pytest.mark.parametrize("end", [
+    # (as Linux does it to the largest, as Python does, and as a library may)
+    "os.kill(os.getpid(), signal.SIGKILL)", "raise MemoryError", "os.abort()",
+])
+def test_a_sheet_that_takes_too_much_memory_ends_alone(
+    monkeypatch: pytest.MonkeyPatch, end: str
+) -> None:
+    """And that is said, and neither a status nor a time that it never took."""
+    monkeypatch.setattr(apart, "BEGIN", f"import os, signal; {end}")
+    with pytest.raises(Refused, match="^reading a.csv takes too much memory$"):
+        sheet_apart.read("a.csv", csv_of(), None, "")
+
+
+def test_a_process_that_takes_too_long_is_not_told_for_one_without_memory(
+    monkeypatch: pytest.MonkeyPatch
+) -> None:
+    """Its limit of time ends it before anything kills it."""
+    monkeypatch.setattr(apart, "BEGIN", apart.BEGIN.replace(
+        "importlib.import_module(name).main()",
+        "from office.files import processes as apart; apart.given(seconds=-9);\nwhile True: pass"))
+    with pytest.raises(Refused, match="^a try takes more than 20 seconds$"):
+        apart.done("any", "a try", {}, b"")
+
+
 def test_a_sheet_waits_for_others_and_not_for_ever(monkeypatch: pytest.MonkeyPatch) -> None:
     """The threads that serve all screens do not all wait for two files, of whatever kind."""
     monkeypatch.setattr(turns, "SECONDS", 0.01)
@@ -325,7 +354,7 @@ def test_a_process_that_reads_a_file_is_ended_first(monkeypatch: pytest.MonkeyPa
     monkeypatch.setenv("ADMISSIONS_SECRET", "x")
     monkeypatch.setattr(apart, "BEGIN", apart.BEGIN.replace(
         "import importlib; importlib.import_module(name).main()",
-        "import os, resource; from office import apart; apart.given();"
+        "import os, resource; from office.files import processes; processes.given();"
         " print(open('/proc/self/oom_score_adj').read().strip(),"
         " resource.getrlimit(resource.RLIMIT_AS)[1], 'ADMISSIONS_SECRET' in os.environ)"))
     assert apart.done("any", "a try", {}, b"") == b"1000 500000000 False\n"
@@ -351,7 +380,7 @@ def test_a_process_that_is_ended_leaves_no_core(monkeypatch: pytest.MonkeyPatch)
     """It would have what somebody sent, where the machine keeps cores."""
     monkeypatch.setattr(apart, "BEGIN", apart.BEGIN.replace(
         "import importlib; importlib.import_module(name).main()",
-        "import resource; from office import apart; apart.given();"
+        "import resource; from office.files import processes; processes.given();"
         " print(*resource.getrlimit(resource.RLIMIT_CORE))"))
     before = resource.getrlimit(resource.RLIMIT_CORE)
     resource.setrlimit(resource.RLIMIT_CORE, (before[1], before[1]))
@@ -547,7 +576,7 @@ def test_a_row_is_withdrawn_and_brought_back(office: Site, screens: Screens) -> 
     assert states(office) == {OPEN: 3}
     refused = screens.browser.post("/applications/mend", {"mend": "0" * 64})
     assert refused.status_code == 409 and states(office) == {OPEN: 3}
-    screens.press("Set 3 rows of a.csv aside")
+    screens.set_aside("Set 3 rows of a.csv aside")
     assert states(office) == {WITHDRAWN: 3}
     screens.press("Put back 3 rows", "withdrawn")
     assert states(office) == {OPEN: 3}
@@ -648,7 +677,7 @@ def test_rows_that_the_register_has(office: Site, screens: Screens) -> None:
     assert "row 4 of b.csv 103 Preferences ELM OAK" in text
     assert "1 row with equal values" in text and "2 rows must be corrected or set aside" in text
     assert screens.store().status_code == 409 and len(imports(office)) == 1
-    screens.press("Set 2 rows aside for now", "commit/")
+    screens.set_aside("Set 2 rows aside", "commit/")
     assert "Add 1 application" in screens.see("commit/").buttons
     assert screens.store().status_code == 303
     assert has(office.parts.desk.now()) == expected(GOOD[:4])
@@ -797,6 +826,7 @@ def as_before(path: pathlib.Path) -> None:
     before = next(at for at, it in enumerate(schema.STEPS) if "staged_import" in it)
     with contextlib.closing(sqlite3.connect(path)) as db:
         db.executescript("DROP VIEW staged_import; DELETE FROM sending WHERE kind='import';"
+                         "ALTER TABLE staged_row DROP COLUMN remark;"
                          f"PRAGMA user_version={before}")
 
 
@@ -1158,7 +1188,7 @@ def test_the_next_free_number() -> None:
 def test_each_role_sees_what_is_its_own(office: Site, screens: Screens) -> None:
     """Rows of applications have more than the register: they are for who records alone."""
     screens.add(("a.csv", lines(GOOD[:1])))
-    posts = ("", "files", "row/1", "file/1", "file/1/replace", "mend", "undo", "withdrawn",
+    posts = ("", "files", "file/1", "file/1/replace", "mend", "undo", "withdrawn",
              "duplicates", "add/", "commit/")
     for role in ("reader", "supervisor", "administrator", "school-OAK"):
         other = office.browser(f"kim-{role.lower()}", role)
@@ -1210,7 +1240,7 @@ def test_the_table_has_a_limit(office: Site, screens: Screens) -> None:
     page = screens.see("commit/")
     assert "a register has at most 2,000 children: it has 1, and 2,000 are new" in page.text
     assert screens.store(page.texts.get("", "x")).status_code == 409
-    screens.press("Set 2,000 rows of a.csv aside")
+    screens.set_aside("Set 2,000 rows of a.csv aside")
     screens.add(("b.csv", rows(4001, 1)))
     screens.press("Put back 2,000 rows", "withdrawn", 409)
     assert states(office) == {OPEN: 1, WITHDRAWN: 2000}

@@ -15,11 +15,11 @@ import pytest
 from applications import ROUND, SCHOOLS, Browser, Site, child, office_over, town
 from pages import Page, press
 
-from office.web import history
-from office.web.outbox import Outbox
-from office.web.people import Person
-from office.web.schema import IN_LINES, OF_CHILD, OF_NOBODY, TABLES
-from office.web.store import Store
+from office.web.frame.people import Person
+from office.web.machinery.outbox import Outbox
+from office.web.register import history
+from office.web.register.schema import IN_LINES, OF_CHILD, OF_NOBODY, TABLES
+from office.web.register.store import Store
 
 NAMES_OF_OTHERS = ("Ben Bell", "Cole", "Dare", "OTHERS")
 FILE = b"%PDF-1.7 a letter of a doctor\x00\xff"

@@ -2,6 +2,7 @@
 a sign-in keeps its threads.
 """
 import contextlib
+import hashlib
 import http.client
 import json
 import os
@@ -23,13 +24,16 @@ from conftest import ROOT, make
 from served import served
 from werkzeug.wrappers import Response
 
-from office import book, turns
-from office.web import authority, guard, people, serve, uploads
-from office.web.store import Store
+from office.core import turns
+from office.files import book, inputs
+from office.web import serve
+from office.web.children import subject
+from office.web.frame import authority, guard, people, uploads
+from office.web.register.store import Store
 
-# more than the application has threads, and people each of whom asks for so many of these as one
-# person may at once
-MANY, READERS = 40, ("rita", "ruth", "rosa", "rex", "ron")
+# more than are served at once, and more than the application has threads; and people each of whom
+# asks for so many of these as one person may at once
+MANY, MORE, READERS = 40, serve.THREADS + 8, ("rita", "ruth", "rosa", "rex", "ron")
 # what is answered while something hangs is answered within so many seconds, on a busy machine too
 SOON = 30.0
 BEGIN = """
@@ -130,8 +134,77 @@ def silent() -> Iterator[str]:
 
 def statuses(asked: Callable[[], int]) -> list[int]:
     """What came of asking many times at once."""
-    with ThreadPoolExecutor(MANY) as threads:
-        return [it.result() for it in [threads.submit(asked) for _ in range(MANY)]]
+    with ThreadPoolExecutor(MORE) as threads:
+        return [it.result() for it in [threads.submit(asked) for _ in range(MORE)]]
+
+
+FILE = b"a" * inputs.MB * 5
+
+
+def add_file(store: Store) -> None:
+    """A file of a child, which is longer than what is kept on the way to a browser."""
+    with store.writing() as db:
+        db.execute(
+            "INSERT INTO child_file (child, name, called, size, digest, data, who, at) VALUES"
+            " (1, 'Ada Abel', 'a.pdf', ?, ?, ?, 'hal', '2025-01-01T00:00:00.000+00:00')",
+            (len(FILE), hashlib.sha256(FILE).hexdigest(), FILE))
+
+
+def test_who_reads_long_answers_slowly_holds_few_threads(tmp_path: pathlib.Path) -> None:
+    """One person asks for a file over many connections, and reads none of them to the end."""
+    with serving(tmp_path, add_file) as office, contextlib.ExitStack() as stack:
+        hal = office.sign_in("hal")
+        asked = (f"GET /children/1/files/1 HTTP/1.1\r\nHost: a\r\nCookie: {hal}\r\n"
+                 "Accept: text/html\r\n\r\n").encode()
+        slow = []
+        for _ in range(MANY):
+            # (each is served before the next one asks)
+            it = stack.enter_context(socket.socket())
+            it.setsockopt(socket.SOL_SOCKET, socket.SO_RCVBUF, 4096)
+            it.settimeout(SOON)
+            it.connect(("127.0.0.1", office.port))
+            it.sendall(asked)
+            slow.append(it)
+            if len(slow) <= turns.MOST_SERVED:
+                assert it.recv(16).startswith(b"HTTP/1.1 200")
+        for path in ("/healthz", "/ui.css", "/sign-in"):
+            assert office.ask(path)[0] == 200, path
+        assert office.sign_in("rita")
+        # (and they have as many turns as before, once nobody reads them any more)
+        for it in slow:
+            it.close()
+        assert all(office.ask("/children/1", hal)[0] == 200 for _ in range(MANY))
+        assert office.ask("/children/1/files/1", hal)[1] == FILE.decode()
+
+
+def test_what_is_held_of_one_child_is_collected_at_a_time(
+    tmp_path: pathlib.Path, monkeypatch: pytest.MonkeyPatch
+) -> None:
+    """It has all files of the child, some times over, in memory."""
+    with office_over(tmp_path, town()) as office:
+        officers = [office.browser(it, "officer") for it in READERS]
+        monkeypatch.setattr(turns, "SECONDS", 0.5)
+        present, most, go_on = 0, 0, threading.Event()
+        held = subject.held
+
+        def slow(*given: Any) -> dict[str, Any]:
+            nonlocal present, most
+            present += 1
+            most = max(most, present)
+            assert go_on.wait(60)
+            present -= 1
+            return held(*given)
+
+        monkeypatch.setattr(subject, "held", slow)
+        with ThreadPoolExecutor(MANY) as threads:
+            asked = [threads.submit(officers[it % 5].get, f"/children/1/held.{form}")
+                     for it, form in enumerate(("html", "json") * (MANY // 2))]
+            while sum(it.done() for it in asked) < MANY - 1:
+                time.sleep(0.01)
+            go_on.set()
+            pages = [it.result() for it in asked]
+        assert most == 1
+        assert sorted(it.status_code for it in pages) == [200] + [503] * (MANY - 1)
 
 
 def test_a_provider_that_is_silent_holds_few_threads(tmp_path: pathlib.Path) -> None:
@@ -148,7 +221,7 @@ def test_a_provider_that_is_silent_holds_few_threads(tmp_path: pathlib.Path) -> 
             for path in ("/healthz", "/ui.css", "/sign-in"):
                 assert office.ask(path)[0] == 200, path
             thread.join()
-            assert found == [503] * MANY
+            assert found == [503] * MORE
             # (each of the few gives up after some seconds)
             assert time.monotonic() - begun < 60
             assert "or sign in with a password" in office.ask("/sign-in/authority")[1]
@@ -172,9 +245,9 @@ def test_a_copy_that_hangs_holds_few_threads(tmp_path: pathlib.Path) -> None:
         # (what the machine has begun nobody takes back, and it does not end)
         (requests / "copy").rename(requests / "copy.begun")
         pages: list[tuple[int, str, str]] = []
-        with ThreadPoolExecutor(MANY) as threads:
+        with ThreadPoolExecutor(MORE) as threads:
             asked = [threads.submit(office.ask, "/schools/", readers[it % 5], seconds=120)
-                     for it in range(MANY)]
+                     for it in range(MORE)]
             time.sleep(1)
             assert office.ask("/healthz")[0] in (200, 503)
             for path in ("/ui.css", "/sign-in"):
@@ -182,8 +255,10 @@ def test_a_copy_that_hangs_holds_few_threads(tmp_path: pathlib.Path) -> None:
             assert office.sign_in("rita")
             pages = [it.result() for it in asked]
         assert {status for status, _, _ in pages} == {503}
-        assert all("being copied" in text and "try again in a minute" in text
-                   for _, text, _ in pages)
+        assert all("try again in a minute" in text for _, text, _ in pages)
+        # (of each reader few are served, and few wait beside these)
+        served = [it for _, it, _ in pages if "ou have asked for very much at once" not in it]
+        assert len(served) >= MANY and all("being copied" in it for it in served)
 
 
 def test_one_person_has_few_of_the_threads(
@@ -211,7 +286,7 @@ def test_one_person_has_few_of_the_threads(
         refused = [it.text for it in pages if it.status_code == 503]
         assert len(refused) == MANY - turns.MOST_SERVED - turns.MOST_OF_ONE
         assert all("You have asked for very much at once" in it for it in refused)
-        assert turns.MOST_SERVED + turns.MOST_OF_ONE < serve.THREADS // 2
+        assert turns.MOST_SERVED + turns.MOST_OF_ONE < serve.OF_PEOPLE // 2
         assert all(rita.get("/flags/").status_code == 200 for _ in range(MANY))
 
 
@@ -235,17 +310,25 @@ def test_one_person_takes_not_all_places_of_those_who_wait(tmp_path: pathlib.Pat
 
 
 def test_a_program_waits_with_all_its_requests(tmp_path: pathlib.Path) -> None:
-    """It asks for more at once than a person does."""
+    """It asks for more at once than a person does. Few of them are served at once, so that people
+    find a place beside them; and what is beyond those that wait is refused.
+    """
     with office_over(tmp_path, town()) as office:
-        portal, many = office.program("portal"), turns.MOST_WAITING
-        with ThreadPoolExecutor(many) as threads:
+        portal, hal = office.program("portal"), office.browser("hal", "head")
+        many, over = turns.MOST_SERVED + turns.MOST_OF_PROGRAMS, 5
+        with ThreadPoolExecutor(many + over) as threads:
             with office.parts.desk.lock:
                 asked = [threads.submit(portal.post, "/command", json.dumps(
-                    {"cmd": "accept", "child": 1, "school": "A"})) for _ in range(many)]
-                time.sleep(0.5)
-                assert not any(it.done() for it in asked)
+                    {"cmd": "accept", "child": 1, "school": "A"})) for _ in range(many + over)]
+                while sum(it.done() for it in asked) < over:
+                    time.sleep(0.01)
+                assert hal.get("/flags/").status_code == 200
+                assert turns.WAITING.counts.total() <= turns.MOST_SERVED
+                assert sum(it.done() for it in asked) == over
             # (the register has no offer to accept, and says so to each)
-            assert {it.result().status_code for it in asked} == {409}
+            found = sorted(it.result().status_code for it in asked)
+            assert found == [409] * many + [503] * over
+        assert turns.OF_PROGRAMS.counts.total() == 0
 
 
 def test_what_many_have_typed_is_kept_for_few_at_once(

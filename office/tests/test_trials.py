@@ -17,9 +17,10 @@ from explained import after_round
 from pages import Page, press
 from register_files import Refused
 
-from office import trial, turns
-from office.web import held_again, trials
-from office.web.trials import Run
+from office.core import turns
+from office.web.explain import held_again, trials
+from office.web.explain.trials import Run
+from office.work import trial
 
 # Alpha has two places and Beta one; all want Alpha first, and then Beta. By distance children 1
 # and 2 have Alpha, 3 has Beta and 4 has nothing. Child 5 lives nearest of all, and was late.
@@ -153,7 +154,7 @@ def test_one_trial_at_a_time_can_be_ended(
         return begun(*given)
 
     monkeypatch.setattr(trials, "Trial", slow)
-    monkeypatch.setattr("office.web.screens.trials.WAIT_SECONDS", 0.01)
+    monkeypatch.setattr("office.web.explain.views.trials.WAIT_SECONDS", 0.01)
     jane = office.browser("jane")
     first = tried(jane, **{"pan-A": "3"})
     page = Page(jane.get(first.location).text)
@@ -194,11 +195,11 @@ def test_a_reader_reads_trials_and_begins_none(office: Site) -> None:
 
 # what child 4 and others would have got by other lists, by hand: a list never helps
 LISTS: list[tuple[int, dict[str, str], str]] = [
-    (3, {"p1": "B", "p2": "A"}, "By the list B, A: a place at Beta (B), its second preference."),
-    (3, {"p1": "A", "p2": ""}, "By the list A: no place."),
-    (1, {"p1": "B", "p2": ""}, "By the list B: a place at Beta (B), its second preference."),
-    (4, {"p1": "B", "p2": "A"}, "By the list B, A: no place."),
-    (2, {"p1": "", "p2": ""}, "By the list no school of its list: no place."),
+    (3, {"p1": "B", "p2": "A"}, "With the list B, A: a place at Beta (B), the second preference."),
+    (3, {"p1": "A", "p2": ""}, "With the list A: no place."),
+    (1, {"p1": "B", "p2": ""}, "With the list B: a place at Beta (B), the second preference."),
+    (4, {"p1": "B", "p2": "A"}, "With the list B, A: no place."),
+    (2, {"p1": "", "p2": ""}, "With no school: no place."),
 ]
 
 
@@ -224,10 +225,10 @@ def test_a_list_with_a_school_twice_is_said_at_its_field(office: Site) -> None:
 
 
 DAYS = (
-    (5, "31 October 2024", "a place at Beta (B), its first preference.",
+    (5, "31 October 2024", "a place at Beta (B), the first preference.",
      "No lot that could have been drawn changes that."),
     (5, "1/12/2024", "no part in the first round, as it is late.", ""),
-    (3, "1/9/2024", "a place at Beta (B), its second preference.",
+    (3, "1/9/2024", "a place at Beta (B), the second preference.",
      "The day of an application that is in time makes no difference."),
     (3, "1/11/2024", "no part in the first round, as it is late.", ""),
 )
@@ -268,8 +269,8 @@ def test_another_criterion_is_tried(
         assert choices == ["care", "flag:2", "sibling:A", "present:PRIM1"]
         for it in choices:
             said = Page(rita.get(f"{asked}{it}").text).said()
-            assert "): a place at Alpha (A), its first preference." in said
-            assert "By its own details: no place." in said
+            assert "): a place at Alpha (A), the first preference." in said
+            assert "With the child’s own details: no place." in said
         assert register(office) == before
 
 
@@ -285,7 +286,7 @@ def test_a_lot_that_was_not_drawn_leaves_it_open(
     with after_round(tmp_path, commands, held) as office:
         rita = office.browser("rita", "reader")
         page = Page(rita.get("/children/2/what-if/1?day=31/10/2024&what=day").text)
-        assert "between a place at Alpha (A), its first preference, and no place." in page.said()
+        assert "between a place at Alpha (A), the first preference, and no place." in page.said()
         assert "lots, which were not drawn" in page.said()
 
 

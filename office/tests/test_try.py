@@ -203,7 +203,7 @@ def test_a_change_is_seen(tmp_path: pathlib.Path) -> None:
             shutil.copytree(path, tree / name, symlinks=True)
         else:
             shutil.copy(path, tree / name)
-    templates, style = tree / "office/web/templates", tree / "deploy/site/ui.css"
+    templates, style = tree / "office/web/lists/templates", tree / "deploy/site/ui.css"
     with tried(tmp_path / "room", "AT=applications", "RELOAD=1", tree=tree) as found:
         officer, page = found.signed_in(ROLES[1])
         assert "a new heading" not in page
@@ -213,7 +213,7 @@ def test_a_change_is_seen(tmp_path: pathlib.Path) -> None:
         assert "a new heading" in officer.get("/")
         style.write_text(style.read_text() + "/* a new style */")
         assert "a new style" in officer.get("/ui.css")
-        module = tree / "office/web/frame.py"
+        module = tree / "office/web/frame/navigation.py"
         module.write_text(module.read_text().replace('"Reports":', '"Rapports":'))
         end = time.monotonic() + LONGEST
         while "Rapports" not in officer.get("/"):

@@ -11,8 +11,8 @@ import pytest
 from applications import ORIGIN, ROUND, Browser, Site, office_over, site, town
 from register_files import Refused
 
-from office.web import watch
-from office.web.desk import Away, Desk
+from office.web.frame import watch
+from office.web.register.desk import Away, Desk
 
 
 @pytest.fixture(name="office")

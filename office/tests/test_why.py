@@ -15,8 +15,9 @@ from conftest import ROOT, apply, child, do, make, school
 from files import register_of, write
 from register_files import Refused
 
-from office import model, rounds, why
-from office.model import Pair, Register
+from office.core import model
+from office.core.model import Pair, Register
+from office.work import rounds, why
 
 Draw = int | None
 
@@ -363,7 +364,7 @@ def test_the_sentences_of_a_family(tmp_path: Path) -> None:
     # (a family does not know the numbers of the classes)
     assert not any("class" in it for number in found for it in lines_of(found[number]))
     assert "by an EHC plan" in "\n".join(lines_of(found[1]))
-    assert lines_of(found[2])[-1] == "No school was preferred to it."
+    assert lines_of(found[2])[-1].endswith(", the first preference.")
 
 
 def test_what_a_family_does_not_read(tmp_path: Path) -> None:

@@ -22,9 +22,11 @@ from model_season import MODEL
 from register_files import Refused
 from seasons import Town, file_of
 
-from office import book, model, worklists
-from office.model import Register
-from office.register_lists import Rows
+from office.core import model
+from office.core.model import Register
+from office.files import book
+from office.work import worklists
+from office.work.register_lists import Rows
 
 Row = list[object]
 Printed = list[list[str]]

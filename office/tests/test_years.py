@@ -14,11 +14,11 @@ import pytest
 from conftest import PROGRAM
 from register_files import Refused
 
-from office import model
-from office.web import history
-from office.web.history import ANSWER, SENDS, History
-from office.web.schema import STEPS
-from office.web.store import Store
+from office.core import model
+from office.web.register import history
+from office.web.register.history import ANSWER, SENDS, History
+from office.web.register.schema import STEPS
+from office.web.register.store import Store
 
 # registers as a program of the first version of the file has left them; one was killed
 FIRST = pathlib.Path(__file__).resolve().parents[2] / "crates/desk_runs/data"

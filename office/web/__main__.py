@@ -12,9 +12,10 @@ example, in the repository:
 import argparse
 import pathlib
 
-from . import people, serve
+from . import serve
+from .frame import people
 from .parts import Config
-from .store import Store
+from .register.store import Store
 
 ROOT = pathlib.Path(__file__).resolve().parents[2]
 

@@ -9,19 +9,36 @@ import flask
 import jinja2
 import werkzeug.routing
 
-from office import texts
+from office.core import texts, wording
 
-from . import authority, flags, frame, guard, numbers, pictures, uploads, wording
-from .guard import PUBLIC, needs
+from .answers.views import answers, notices
+from .answers.views import handovers as answers_of
+from .applications.views import gazetteer, points
+from .applications.views import add as applications_add
+from .applications.views import commit as applications_commit
+from .applications.views import files as applications_files
+from .applications.views import staging as applications
+from .children.views import child, find, notes, preferences, subject
+from .copies.views import copies, restores
+from .explain.views import figures, trials, why
+from .frame import authority, guard, uploads
+from .frame import navigation as frame
+from .frame.guard import PUBLIC, needs
+from .frame.views import activity, health, help, people, signing
+from .frame.views import programs as register
+from .letters.views import letters
+from .letters.views import addresses as letter_addresses
+from .letters.views import sender as letter_sender
+from .letters.views import templates as letter_templates
+from .lists.views import lists, season
+from .machinery import numbers, pictures
 from .parts import Config, Parts
-from .screens import (
-    activity, answers, applications, applications_add, applications_commit, applications_files,
-    child, copies, draws, figures, find, gazetteer, health, help, letter_addresses, letter_sender,
-    letter_templates, letters, lists, lots, new_schools, notes, notices, people, points,
-    preferences, register, restores, schools, season, season_end, signing, subject, trials, why,
-)
-from .screens import answers_of
-from .screens import flags as flag_screen
+from .rounds.views import draws, lots
+from .schools import flags
+from .schools.views import schools
+from .schools.views import flags as flag_screen
+from .schools.views import new as new_schools
+from .season_end import views as season_end
 
 HERE = pathlib.Path(__file__).resolve().parent
 SCREENS = (
@@ -40,7 +57,9 @@ OBJECTS = 50_000
 
 def create(config: Config) -> flask.Flask:
     """The application over one register."""
-    app = flask.Flask(__name__, static_folder=None, template_folder=str(HERE / "templates"))
+    app = flask.Flask(__name__, static_folder=None, template_folder=None)
+    # (the name of a template is its own in all of them)
+    setattr(app, "jinja_loader", jinja2.FileSystemLoader(sorted(HERE.glob("*/templates"))))
     app.jinja_env.undefined = jinja2.StrictUndefined
     app.jinja_env.trim_blocks = app.jinja_env.lstrip_blocks = True
     # (later versions of the library have a limit of their own for forms)

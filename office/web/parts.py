@@ -3,28 +3,28 @@ import dataclasses
 import json
 import pathlib
 
-from office import senders
+from office.core import senders
 
-from . import journal
-from .asked import Asked
-from .copies import Copies
-from .copy_tests import CopyTests
-from .desk import Desk
-from .draws import Draws
-from .draws_drafts import Drafts
-from .draws_following import Following
-from .failures import Failures
-from .held_again import HeldAgain
-from .history import History
-from .jobs import Jobs
-from .list_moves import OfCopies
-from .notes import Notes
-from .people import People
-from .restores import Restores, Restoring
-from .school_drafts import Draft
-from .season_end import SeasonEnd
-from .store import Store
-from .trials import Trials
+from .children.notes import Notes
+from .copies.copies import Copies
+from .copies.restores import Restores, Restoring
+from .copies.testing import CopyTests
+from .explain.held_again import HeldAgain
+from .explain.trials import Trials
+from .frame import journal
+from .frame.failures import Failures
+from .frame.people import People
+from .machinery.asked import Asked
+from .machinery.jobs import Jobs
+from .register.desk import Desk
+from .register.history import History
+from .register.store import Store
+from .rounds.drafts import Drafts
+from .rounds.draws import Draws
+from .rounds.following import Following
+from .schools.drafts import Draft
+from .schools.moves import OfCopies
+from .season_end.end import SeasonEnd
 
 
 @dataclasses.dataclass(frozen=True)

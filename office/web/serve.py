@@ -7,10 +7,14 @@ from typing import Any
 import gunicorn.app.base
 from register_files import Refused, say
 
+from office.core import turns
+
 from . import app
 from .parts import Config
 
-THREADS = 32
+# (programs wait beside them, each with a thread)
+OF_PEOPLE = 32
+THREADS = OF_PEOPLE + turns.MOST_OF_PROGRAMS
 
 
 class Server(gunicorn.app.base.BaseApplication):  # type: ignore[misc]

@@ -80,8 +80,8 @@ def to_offered(office: Office, draw: int) -> None:
     offered = dict(sorted((it, season.places[it]) for it in season.offers))
     office.report.step(f"letters to {len(offered)} children with an offer of draw {draw}")
     hal.go("Offers", "Letters")
-    hal.pick("Draw, where one is named", f"round {draw}", f"round {draw}")
-    hal.tab_to("Day, where one is named")
+    hal.pick("Draw, for letters about a draw", f"round {draw}", f"round {draw}")
+    hal.tab_to("Day, for letters about a day")
     hal.enter()
     wanted = {it: [f"A place at {NAMES[code]} is offered to {season.children[it].name}.",
                    f"Please tell us by {in_words(season.offers[it] + NOTICE)} whether you"]

@@ -16,7 +16,6 @@ import argparse
 import os
 import pathlib
 import re
-import shutil
 
 from register_files import Refused
 
@@ -93,11 +92,8 @@ def kept(register: Register, copy: pathlib.Path, name: str) -> None:
     if not copies.settings_of(copy).exists():
         raise Refused(f"nothing is kept: {copies.settings_of(copy)} is not there, so people and"
                       " settings were not copied")
-    with files.as_desk():
-        for path in (copies.settings_of(copy), copy):
-            part = register.copies / f".{name}{path.suffix}.part"
-            shutil.copy2(path, part)
-            part.rename(register.copies / f"{name}{path.suffix}")
+    for path in (copies.settings_of(copy), copy):
+        files.copy_as_desk(path, register.copies / f"{name}{path.suffix}")
     moment = copies.moment(copy)
     print(f"kept {register.copies / name}.db, with its people in {name}.tar;"
           f" it is as at {moment:%Y-%m-%dT%H:%M:%S}")

@@ -5,7 +5,7 @@ on another machine what of it is true.
   admissions-admin evidence --keep PLACE
   admissions-admin evidence --open PLACE
   admissions-admin evidence NAME --compare COPIES [--identity FILE]
-  admissions-admin evidence NAME --check COPY --since TIME
+  admissions-admin evidence NAME --check COPY
 
 On the machine itself --stop ends all that serves, copies or sends, and nginx,
 which stays off after a restart; --keep puts journal and files onto a disk that
@@ -14,28 +14,29 @@ new machine. --open verifies the disk, unpacks it into /root/seized, and names
 each program that is not that of this release. --compare names each copy of
 the machine that differs from the one in COPIES, the second place, or is not
 there; what is encrypted there is decrypted into /root/copies, with FILE.
---check makes the register of COPY with the commands of the seized history since
-TIME, in /root/check, and prints what in the seized register is otherwise: that
-was changed past the history.
+--check makes the register of COPY with what the seized history has since then,
+in /root/check, and prints what in the seized register is otherwise: that was
+changed past the history.
 
 example:
   admissions-admin evidence --keep /mnt/evidence
 """
 import argparse
+import datetime
 import difflib
 import gzip
 import hashlib
 import json
 import os
 import pathlib
-import re
 import shutil
 import subprocess
 import typing
 
+from office.web.copies import rehearsal as restores_rehearsal
 from register_files import Refused
 
-from .. import answers, sealed, serving
+from .. import answers, copies, histories, sealed, serving
 from ..programs import call, program, tool
 from ..registers import COPIES, OFFICES, REGISTERS, Register, named
 
@@ -51,8 +52,6 @@ PROGRAMS = ("usr/bin/admissions*", "usr/sbin/admissions*", "usr/lib/admissions/*
             "usr/share/admissions/**/*")
 WHO = ("SYSLOG_IDENTIFIER=admissions-sign-in", "+", "SYSLOG_IDENTIFIER=admissions-history", "+",
        "SYSLOG_IDENTIFIER=admissions-admin")
-# of the program: some command was refused
-REFUSED = 3
 
 
 def arguments(reader: argparse.ArgumentParser) -> None:
@@ -65,7 +64,6 @@ def arguments(reader: argparse.ArgumentParser) -> None:
             ("compare", "COPIES", "compare the copies of the machine with these"),
             ("check", "COPY", "compare the register with this copy and the history")):
         what.add_argument(f"--{name}", metavar=metavar, help=text)
-    reader.add_argument("--since", metavar="TIME", help="the moment of COPY")
     reader.add_argument("--identity", metavar="FILE", help="what opens encrypted copies")
     answers.add_yes(reader)
 
@@ -81,9 +79,7 @@ def main(given: argparse.Namespace) -> int:
         raise Refused("NAME is missing: of which register?", 2)
     if given.compare:
         return compare(named(given.name), pathlib.Path(given.compare), given.identity)
-    if not given.since:
-        raise Refused("--check needs --since TIME, the moment of the copy", 2)
-    return check(named(given.name), pathlib.Path(given.check), given.since)
+    return check(named(given.name), pathlib.Path(given.check))
 
 
 def stop(is_confirmed: bool) -> int:
@@ -190,7 +186,9 @@ def compare(register: Register, place: pathlib.Path, identity: str | None) -> in
     nights = sorted(it for it in here.glob("nightly-*") if it.suffix in (".db", ".tar"))
     for it in nights:
         other = there / it.name
-        if not other.is_file():
+        if it.is_symlink() or not it.is_file():
+            print(f"{it.name} is no file")
+        elif not other.is_file():
             print(f"{it.name} is not in {there}")
         elif it.read_bytes() != other.read_bytes():
             print(f"{it.name} differs from {other}")
@@ -224,11 +222,11 @@ def decrypted(there: pathlib.Path, register: Register, identity: str | None) -> 
     return room
 
 
-def check(register: Register, copy: pathlib.Path, since: str) -> int:
-    """Makes the register of a copy with the commands of the history, and compares it with the
+def check(register: Register, copy: pathlib.Path) -> int:
+    """Makes the register of a copy with what the history has since then, and compares it with the
     seized one."""
     file = seized_of(REGISTERS, register) / "reg.db"
-    history = seized_of(OFFICES, register) / "history.jsonl"
+    record = histories.of_copy(seized_of(OFFICES, register) / "history.jsonl")
     room = ROOM / "check" / register.name
     shutil.rmtree(room, ignore_errors=True)
     room.mkdir(parents=True, mode=0o700)
@@ -236,13 +234,11 @@ def check(register: Register, copy: pathlib.Path, since: str) -> int:
     call(program("admissions-restore"), copy, then)
     # (with its log, which belongs to it)
     call(program("admissions-restore"), file, now)
-    done = call(program("admissions-admin"), "sent", "--history", history, since, "--rows",
-                room / "rows", may_fail=True)
-    print(done.stderr, end="")
-    if not (room / "rows").is_dir():
-        raise Refused(f"{history} was not read")
-    (room / "commands").write_text(done.stdout, encoding="utf-8")
-    again(then, done.stdout.splitlines(keepends=True), room / "rows")
+    since = copies.moment(copy)
+    for problem in doubts(record, since):
+        print(problem)
+    restores_rehearsal.sent(str(then), [
+        it.entry for it in record.since(since) if it.is_done and it.is_known])
     names = ("by the history", "seized")
     differences = list(difflib.unified_diff(shown(then), shown(now), *names, n=1))
     if not differences:
@@ -252,31 +248,21 @@ def check(register: Register, copy: pathlib.Path, since: str) -> int:
     raise Refused("each line that begins with + or - was changed past the history")
 
 
+def doubts(record: histories.Record, since: datetime.datetime) -> typing.Iterator[str]:
+    """What of a history is not certain."""
+    if record.problem:
+        yield record.problem
+    for it in record.since(since):
+        if it.is_done is None:
+            yield f"{it.in_words('a command or an import')}, of which no answer is known"
+        elif not it.is_known:
+            yield f"{it.in_words('a line that is no command here')}, which was done"
+    if not record.is_on_the_way(since):
+        yield ("since that copy the office has restored another one: take a nightly copy that is"
+               " older than that one")
+
+
 def shown(file: pathlib.Path) -> list[str]:
     """A register in lines that can be compared."""
     found = json.loads(call(program("admissions"), "show", file).stdout)
     return json.dumps(found, indent=1, ensure_ascii=False).splitlines()
-
-
-def again(file: pathlib.Path, lines: list[str], rows: pathlib.Path) -> None:
-    """Has the program do the commands, and each import behind as many of them as its name says."""
-    done = 0
-    for path in sorted(rows.iterdir(), key=place_of):
-        do(file, lines[done:place_of(path)[0]])
-        done = place_of(path)[0]
-        call(program("admissions"), "import", file, path, may_fail=True)
-    do(file, lines[done:])
-
-
-def place_of(rows: pathlib.Path) -> tuple[int, ...]:
-    """Behind how many commands the rows of an import come, and which of several they are."""
-    return tuple(map(int, re.findall(r"\d+", rows.name)))
-
-
-def do(file: pathlib.Path, lines: list[str]) -> None:
-    """Has the program do some commands, of which it may refuse some."""
-    if not lines:
-        return
-    done = call(program("admissions"), "do", file, text="".join(lines), may_fail=True)
-    if done.returncode not in (0, REFUSED):
-        raise Refused(f"admissions do {file}: {done.stderr.strip() or done.returncode}")

@@ -16,7 +16,7 @@ import pathlib
 import tempfile
 import typing
 
-from office import texts
+from office.core import texts
 from register_files import Refused
 
 from .. import answers, files

@@ -24,8 +24,11 @@ import typing
 
 from register_files import Refused
 
-from .. import answers, certificates, files, history_copies, second_copy, serving, sites
-from ..programs import call, tool
+from .. import (
+    answers, certificates, files, history_copies, office_copy, sealed, second_copy, serving,
+    sites,
+)
+from ..programs import OFFICE, USER, call, tool
 from ..registers import COPIES, OFFICES, REGISTERS, SETTINGS, Register, named
 from . import certificate, copy as copy_verb, takeover
 
@@ -86,7 +89,7 @@ def pack(register: Register, place: pathlib.Path, is_confirmed: bool) -> None:
     serving.systemctl("disable", "--now", serving.desk(register))
     report = register.copies / second_copy.REPORT
     line = files.content(report).decode("utf-8") if report.exists() else ""
-    if problem or f"{copy.name} is in {there}/{register.name}, " not in line:
+    if problem or f"{copy.name}{sealed.END} is in {there}/{register.name}, " not in line:
         raise Refused(f"{problem or f'{copy.name} is not at the second place'}. Correct that and"
                       " type it again; or, to stay here: admissions-admin open"
                       f" {register.name}")
@@ -119,7 +122,7 @@ def unpack(register: Register, place: pathlib.Path, is_confirmed: bool) -> None:
     units = serving.application(register)
     serving.systemctl("stop", *units)
     try:
-        call(tool("tar", "tar"), "-x", "-p", "--skip-old-files", "-C", "/", "-f", source)
+        extract(register, source)
         serving.report(certificate.taken(register, crt, key))
         serving.report(sites.make_all())
     finally:
@@ -130,6 +133,21 @@ def unpack(register: Register, place: pathlib.Path, is_confirmed: bool) -> None:
     print(f"{register.name} is moved. next: lead {host} to this machine; keep the first machine for"
           f" some days, then there: admissions-admin retire {register.name} --early 'moved to"
           " another machine', never with --second-place; and remove what is on the disk")
+
+
+def extract(register: Register, source: pathlib.Path) -> None:
+    """Unpacks each of the two folders as the user whose it is: no link that a service puts there
+    leads root anywhere."""
+    users = {USER: register.copies, OFFICE: register.office}
+    for user, folder in users.items():
+        others = [f"--exclude={it.relative_to('/')}" for it in users.values() if it != folder]
+        # (the disk is root's)
+        with source.open("rb") as file, files.acting_as(user):
+            call(tool("tar", "tar"), "-x", "-p", "--skip-old-files", "-C", "/", *others, "-f", "-",
+                 given=file)
+    for it in register.office_copies.glob("office-*.db"):
+        if it.is_file() and not it.is_symlink():
+            office_copy.give(it)
 
 
 def folders_of(register: Register) -> list[pathlib.Path]:

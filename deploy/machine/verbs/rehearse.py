@@ -35,8 +35,8 @@ def arguments(reader: argparse.ArgumentParser) -> None:
     add("--identity", metavar="FILE", help="the identity file that opens what is encrypted there")
     add("--end", action="store_true", help="delete what was rehearsed")
     answers.add_yes(reader)
-    reader.set_defaults(is_takeover=True, no_copies=True, phase=None, year=None, holiday=[],
-                        user=None, role=None, authority=None)
+    reader.set_defaults(is_takeover=True, no_copies=True, history=None, phase=None, year=None,
+                        holiday=[], user=None, role=None, authority=None)
 
 
 def main(given: argparse.Namespace) -> int:

@@ -4,37 +4,37 @@
 
 COPY is the name of a copy, as `admissions-admin copies` lists them; the newest
 nightly one by default. What was sent since is undone in the register, and kept
-in the history: how much that is, is shown before. What was there is kept
-beside the register, as reg.db.before-restore-1. With --people also the people,
-notes, files and letters become those of the copy; the present ones are kept in
-the folder `aside` of the application, and everybody signs in anew.
---people-alone leaves the register as it is. Where nothing was sent since, the
-office is open afterwards, and has new copies; otherwise it stays closed, until
-that was sent again or `admissions-admin open` is typed.
+in the history: how much that is, is shown before. The office then sends it
+again on its screen Copies, where recording is paused until that is done. What
+was there is kept beside the register, as reg.db.before-restore-1. With --people
+also the people, notes, files and letters become those of the copy; the present
+ones are kept in the folder `aside` of the application, and everybody signs in
+anew. --people-alone leaves the register as it is. The office is open
+afterwards, and has new copies.
 
-If the register opens, the office itself restores, on the screen Copies and
-restores: this is for a register that does not open, and for nightly copies. A
-draw or a restore of the office that is in progress is ended first.
+If the register opens, the office itself restores, on the screen Copies: this is
+for a register that does not open, and for nightly copies. A restore of the
+office that is in progress ends; a draw in progress must be cancelled.
 
 example:
   admissions-admin restore secondary-2025 nightly-000012-2025-03-03T023000.db
 """
 import argparse
-import collections
 import datetime
 import os
 import pathlib
 
-from office import drills
+from office.work import drills
 from register_files import Refused
 
-from .. import answers, copies, files, office_restore, office_store, serving
-from .. import settings_copy
+from .. import (
+    answers, brought, copies, files, histories, office_restore, office_store, serving,
+    settings_copy,
+)
 from ..programs import USER, call, is_booted, program
 from ..registers import Register, stored
 from . import copy as copy_verb, takeover
 
-AGAIN = pathlib.Path("/run/again")
 ASIDE = "aside"
 
 
@@ -52,7 +52,7 @@ def main(given: argparse.Namespace) -> int:
     register, copy = chosen(given.words)
     has_people = given.people or given.people_alone
     see(register, copy, has_people)
-    count = shown(register, copy, has_people, is_alone=given.people_alone)
+    others = shown(register, copy, has_people, is_alone=given.people_alone)
     what = "people and files" if given.people_alone else "register"
     answers.confirm(f"on {os.uname().nodename} the {what} of {register.name}"
                     f" ({register.host or 'without a site'}) become those of {copy.name}",
@@ -62,9 +62,9 @@ def main(given: argparse.Namespace) -> int:
         restore(register, copy)
     if has_people:
         serving.report(bring_people(register, copy))
-    if count != 0:
-        again(register, copy, count)
-        return 0
+    # (without a site it has no application)
+    if register.host and not given.people_alone:
+        serving.report(brought.begin(register, copy, others))
     if not serving.start(register):
         return 1
     print(f"{register.name} is open; new copies are made", flush=True)
@@ -101,34 +101,39 @@ def see(register: Register, copy: pathlib.Path, has_people: bool) -> None:
                       " another copy")
     if takeover.begun(register):
         raise Refused(f"its takeover has not ended: admissions-admin takeover {register.name}")
-    if (AGAIN / register.name).exists():
-        raise Refused(f"{AGAIN / register.name} is there: a restore would undo what of it was sent")
+    if os.path.lexists(register.history) and (
+            problem := histories.of_register(register).problem):
+        raise Refused(f"{problem}. First: admissions-admin history {register.name} --mend")
+    if not has_people and os.path.lexists(office_store.path_of(register)):
+        try:
+            office_store.people_of(register)
+        except Refused as error:
+            raise Refused(f"{error}: restore with --people, or --people-alone") from error
     if not is_booted():
         raise Refused("systemd does not run here, which opens the register")
 
 
-def shown(
-    register: Register, copy: pathlib.Path, has_people: bool, is_alone: bool
-) -> int | None:
-    """Prints what the copy has, and what is undone. Returns how many requests the history has since
-    then, which are to be sent again; None where that is not known."""
+def shown(register: Register, copy: pathlib.Path, has_people: bool, is_alone: bool) -> str:
+    """Prints what the copy has, and what is undone. Returns what people did since beside commands,
+    where their file becomes that of the copy too."""
     since = copies.moment(copy)
     print(f"{copy.name} is as at {since:%Y-%m-%d %H:%M:%S}: {drills.in_words(stored(copy))}")
     try:
-        record = takeover.record_of(register, None)
-    except (OSError, Refused) as error:
+        record = histories.of_register(register)
+    except Refused as error:
         print(f"WARNING: what was done since then is not known: {error}")
-        return 0 if is_alone else None
-    undone = record.undone()
-    found = [it for number, it in record.requests.items()
-             if it.moment >= since and it.is_done is not False and number not in undone]
-    whose = collections.Counter(it.entry.who for it in found)
+        return ""
+    found = record.since(since)
     if found and not is_alone:
-        who = ", ".join(f"{name} ({count})" for name, count in sorted(whose.items()))
-        print(f"since then {len(found)} commands and imports were sent, which are undone: {who}")
-    if has_people and (others := takeover.others_since(record, since)):
+        print(f"since then {len(found)} commands and imports were sent, which are undone until the"
+              f" office sends them again: {histories.counted(it.entry.who for it in found)}")
+    if not is_alone and not record.is_on_the_way(since):
+        print("WARNING: since then the office has restored a copy, so that this one has what was"
+              " undone, or lacks what was brought back")
+    others = brought.others_since(record, since) if has_people else ""
+    if others:
         print(f"since then people also did this, which is undone: {others}")
-    return 0 if is_alone else len(found)
+    return others
 
 
 def restore(register: Register, copy: pathlib.Path) -> None:
@@ -145,31 +150,19 @@ def bring_people(register: Register, copy: pathlib.Path) -> list[str]:
     """Puts the file of the application aside and brings back that of the copy; or puts back what
     was there."""
     data = settings_copy.members_of(copy)[office_store.NAME]
-    path, moved = office_store.path_of(register), list[tuple[pathlib.Path, str]]()
+    path, moved = office_store.path_of(register), list[tuple[pathlib.Path, str, tuple[int, int]]]()
     now = datetime.datetime.now().strftime(f"{copies.TIME}-%f")
     aside = register.office / ASIDE
     try:
         for it in (path, *(path.with_name(f"{path.name}-{end}") for end in ("wal", "shm"))):
             if os.path.lexists(it):
                 name = f"{now}-{it.name}"
-                files.put_aside(it, aside, name)
-                moved.append((it, name))
+                moved.append((it, name, files.put_aside(it, aside, name)))
         return [*office_store.restored(register, data, f"{office_store.NAME} of {copy.name}"),
                 f"what was there is kept in {aside}: remove it when all is well. Whoever was"
                 f" removed or locked since may sign in again: admissions-admin people"
                 f" {register.name}"]
     except BaseException:
-        for it, name in moved:
-            os.replace(aside / name, it)
+        for it, name, was in moved:
+            files.put_back(it, aside, name, was)
         raise
-
-
-def again(register: Register, copy: pathlib.Path, count: int | None) -> None:
-    """Says what is to be done before the office is opened."""
-    since = copies.moment(copy)
-    why = "what was sent since then is not known" if count is None else (
-        f"{count} commands and imports are to be sent again from the history")
-    print(f"{register.name} is closed, since {why}. next: 'Send again what a copy lacks' in"
-          " /usr/share/doc/admissions/DEPLOYMENT.md, with"
-          f" TIME={since:%Y-%m-%dT%H:%M:%S}; or, to go on without them, admissions-admin open"
-          f" {register.name}, and then admissions-admin copy {register.name}")

@@ -2,20 +2,24 @@
 another machine, and the key for which they are encrypted there.
 
   admissions-admin second-place
-  admissions-admin second-place --encrypt KEY
+  admissions-admin second-place PLACE [--encrypt KEY]
+  admissions-admin second-place --encrypt KEY | --key-here
   admissions-admin second-place --ssh-key
-  admissions-admin second-place PLACE | none
+  admissions-admin second-place none
 
-The first form shows what is set. KEY is the public half of a key of age, whose
-secret half, the identity file, is made and kept on another machine and on
-paper: age-keygen -o vault.key. Set it before the place, as nothing that was
-sent before is encrypted afterwards. PLACE is a folder of another disk, which is
-mounted, or one of another machine, as copies@vault.example:copies. --ssh-key
-makes the key by which the user of the copies signs in there, and prints what is
-typed on that machine. The line `none` says that there shall be no second place.
+The first form shows what is set. Copies leave this machine only encrypted. KEY
+is the public half of a key of age, whose secret half, the identity file, is
+made and kept on another machine and on paper: age-keygen -o vault.key. PLACE is
+a folder of another disk, which is mounted, or one of another machine, as
+copies@vault.example:copies. --ssh-key makes the key by which the user of the
+copies signs in there, and prints what is typed on that machine. --key-here
+makes a KEY on this machine, where none is set, as an upgrade does for a place
+to which an earlier version copied unencrypted: its identity file is lost with
+this machine unless you keep it elsewhere. The line `none` says that there shall
+be no second place.
 
 example:
-  admissions-admin second-place /mnt/copies
+  admissions-admin second-place /mnt/copies --encrypt age1..
 """
 import argparse
 import os
@@ -36,6 +40,8 @@ ACCOUNT, FOLDER = "copies", "/home/copies/vault"
 def arguments(reader: argparse.ArgumentParser) -> None:
     reader.add_argument("place", nargs="?", metavar="PLACE", help="the folder there; or none")
     reader.add_argument("--encrypt", metavar="KEY", help="the public key for which to encrypt")
+    reader.add_argument("--key-here", action="store_true",
+                        help="make that key on this machine, where none is set")
     reader.add_argument("--ssh-key", action="store_true",
                         help="make the key for another machine, and print what is typed there")
     answers.add_yes(reader)
@@ -44,11 +50,13 @@ def arguments(reader: argparse.ArgumentParser) -> None:
 def main(given: argparse.Namespace) -> int:
     if given.encrypt:
         encrypt(given.encrypt, given.yes)
+    if given.key_here:
+        make_key()
     if given.ssh_key:
         print_key()
     if given.place:
         name(given.place.rstrip("/") or "/", given.yes)
-    if not (given.encrypt or given.ssh_key or given.place):
+    if not (given.encrypt or given.key_here or given.ssh_key or given.place):
         show()
     return 0
 
@@ -57,7 +65,7 @@ def show() -> None:
     """Prints what is set."""
     print(f"{SETTINGS / 'second-copy'}: {second_copy.line_of() or 'names no second place'}")
     key = sealed.recipient()
-    print(f"{SETTINGS / sealed.RECIPIENT}: {key or 'names nobody, so copies are not encrypted'}")
+    print(f"{SETTINGS / sealed.RECIPIENT}: {key or 'names no key, so nothing is copied'}")
     if sealed.identity():
         print(f"{SETTINGS / sealed.IDENTITY} is here: who breaks into this machine opens all copies"
               " there")
@@ -79,6 +87,19 @@ def encrypt(key: str, is_confirmed: bool) -> None:
               " next copy sends all that this machine has", flush=True)
 
 
+def make_key() -> None:
+    """Sets a key that is made here, unless one is set."""
+    if key := sealed.recipient():
+        print(f"copies are encrypted for {key} already")
+        return
+    key = sealed.make_here()
+    files.write(SETTINGS / sealed.RECIPIENT, key + "\n", 0o644)
+    print(f"copies are encrypted for {key} from now on. {SETTINGS / sealed.IDENTITY}, which opens"
+          " them, is on this machine alone: keep it elsewhere and on paper, and remove it here."
+          " What is at the second place from before is not encrypted: remove it there once all is"
+          " sent again", flush=True)
+
+
 def print_key() -> None:
     """Makes the key of the user of the copies, unless there is one, and prints what is typed on the
     other machine."""
@@ -97,7 +118,9 @@ Then here, with the name of that machine: admissions-admin second-place {ACCOUNT
 
 
 def name(place: str, is_confirmed: bool) -> None:
-    """Names the second place, which must be there."""
+    """Names the second place, which must be there, and to which copies go encrypted alone."""
+    if place != second_copy.NONE:
+        sealed.needed()
     if place == second_copy.NONE:
         warned = "all copies are lost with this machine"
     elif second_copy.is_local(place):

@@ -3,7 +3,7 @@ its timers.
 
   admissions-admin setup [NAME] [--phase PHASE --year YEAR] [--holiday DAY]..
     [--site HOST] [--authority TEXT] [--user USER --role ROLE]
-  admissions-admin setup [NAME] --copy FILE
+  admissions-admin setup [NAME] --copy FILE [--history FILE]
 
 It asks on a terminal for what is not given; without one, holidays must be
 given too, or none. A holiday outside of the season, one on a weekend and a NAME
@@ -15,7 +15,9 @@ who adds the others on the screen People of the site: a password is drawn,
 printed once, and changed by whoever signs in with it. TEXT is the name of the
 authority, which is printed on each sheet of each register. With --copy the
 register is made from a copy, which has its own phase, year and holidays, and
-people, settings and history from what the nightly backup left beside it.
+people, settings and history from what the nightly backup left beside it; the
+history from another file with --history. What was sent since the copy waits on
+the screen Copies of the office, to be sent again.
 
 example:
   admissions-admin setup secondary-2025 --phase secondary --year 2025 \\
@@ -27,16 +29,19 @@ import pathlib
 import sys
 import typing
 
-from office import model
+from office.core import model
 from register_files import Refused
 
-from .. import answers, certificates, files, people, serving, settings_copy, sites
+from .. import (
+    answers, brought, certificates, files, history_copies, people, serving, settings_copy, sites,
+)
 from ..answers import ask, confirm
 from ..programs import USER, call, is_booted, program, tool
 from ..registers import PHASES, SETTINGS, Register, all_registers, named, stored
 from . import holidays
 
 AUTHORITY = SETTINGS / "authority"
+Bring = typing.Callable[[Register, pathlib.Path], typing.Iterable[str]]
 CHECKS = {"site": answers.host, "user": people.checked_name, "role": people.checked_role,
           "authority": answers.authority}
 
@@ -65,6 +70,7 @@ def arguments(reader: argparse.ArgumentParser) -> None:
         help="begin with this copy of a register, and with what is beside it,"
         " in place of a new one",
     )
+    add("--history", metavar="FILE", help="the history, in place of what is beside the copy")
     add("--site", metavar="HOST", help="the site's name, by which browsers find this machine")
     add("--user", help="who may sign in: a name or a mail address, in small letters")
     add("--role", help=f"the role of that user: {people.ROLES_TEXT}")
@@ -78,15 +84,16 @@ def main(given: argparse.Namespace) -> int:
     return set_up_as_given(given)
 
 
-def set_up_as_given(given: argparse.Namespace) -> int:
-    """Makes what is missing of a register."""
+def set_up_as_given(given: argparse.Namespace, bring: Bring | None = None) -> int:
+    """Makes what is missing of a register. `bring` has what came since its copy wait; that is done
+    for one that is made now, by default."""
     checked(given)
     register = completed(given)
     confirmed(register, given)
-    return set_up(register, given)
+    return set_up(register, given, bring)
 
 
-def set_up(register: Register, given: argparse.Namespace) -> int:
+def set_up(register: Register, given: argparse.Namespace, bring: Bring | None = None) -> int:
     """Makes all that a register has on this machine, and starts it."""
     see_site_is_free(register, given.site)
     is_new = not register.is_made
@@ -96,6 +103,8 @@ def set_up(register: Register, given: argparse.Namespace) -> int:
     warning = certificates.see(register, given.site)
     if given.user:
         serving.report(make_user(register, given))
+    if given.copy and (bring or is_new):
+        serving.report((bring or brought.begin)(register, pathlib.Path(given.copy)))
     serving.report(sites.make_all())
     serving.report(serving.other_problems(register))
     has_started = serving.start(register)
@@ -118,6 +127,10 @@ def checked(given: argparse.Namespace) -> None:
         raise Refused("--role needs --user: whose role?", 2)
     if given.copy and (given.phase or given.year or given.has_holidays):
         raise Refused("--phase, --year and --holiday are for a new register: a copy has its own", 2)
+    if given.history and not given.copy:
+        raise Refused("--history needs --copy: since which copy?", 2)
+    if given.history:
+        given.history = answers.file(given.history)
 
 
 def completed(given: argparse.Namespace) -> Register:
@@ -274,8 +287,11 @@ def give_to_desk(register: Register) -> None:
 def take_settings(register: Register, given: argparse.Namespace) -> typing.Iterator[str]:
     """Takes people, settings and history from beside the copy, where this machine has none of
     them."""
+    if given.history:
+        path = pathlib.Path(given.history)
+        yield from history_copies.put(register, path, history_copies.whole(path))
     if given.copy:
-        yield from settings_copy.restored(register, pathlib.Path(given.copy))
+        yield from settings_copy.restored(register, pathlib.Path(given.copy), not given.history)
 
 
 def make_settings(register: Register, given: argparse.Namespace) -> typing.Iterator[str]:

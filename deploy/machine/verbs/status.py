@@ -39,8 +39,8 @@ from collections.abc import Callable
 
 from register_files import Refused
 
-from office import texts
-from office.days import DELETION_NOTICE
+from office.core import texts
+from office.core.days import DELETION_NOTICE
 
 from .. import (
     certificates, copies, deletion, files, findings, histories, history_copies, metrics,
@@ -382,7 +382,7 @@ def next_of(timer: str) -> str:
 def people_of(register: Register) -> State:
     """Whether somebody can sign in to the application, and among them a head of the office."""
     # (with argon2, which nothing else here needs)
-    from office.web.people import HEAD, PERSON
+    from office.web.frame.people import HEAD, PERSON
 
     if register.host is None and not had_site(register):
         return True, "it has no site"
@@ -507,10 +507,13 @@ def second_of(register: Register) -> State:
     line, old = found
     if f" is in {place}/{register.name}, " not in line:
         return False, f"this machine has copied nothing to {place} yet: {how}; before, {line}"
+    sealed.needed()
     is_well = is_recent(old, COPY_HOURS * 3600) and "WARNING" not in line
-    plain = "" if sealed.recipient() else (
-        f"; not encrypted there, as {SETTINGS / sealed.RECIPIENT} names nobody")
-    return is_well, f"{line}; {age_text(old)}{plain}"
+    if not sealed.is_made_here():
+        return is_well, f"{line}; {age_text(old)}"
+    path = SETTINGS / sealed.IDENTITY
+    return False, (f"{line}; {age_text(old)}; {path} alone opens it, was made on this machine, and"
+                   " is lost with it: keep it elsewhere and on paper, and remove it here")
 
 
 def drill_of(register: Register) -> State:

@@ -1,21 +1,22 @@
 """Goes on with a register of a machine that is lost, on this one.
 
-  admissions-admin takeover NAME [PLACE] [--copy COPY] [--site HOST]
+  admissions-admin takeover NAME [PLACE] [--copy COPY] [--history FILE]
+    [--site HOST]
 
 What PLACE has, or the second place that /etc/admissions/second-copy names, is
 fetched, and the register is made from the copy that was made last, with its
-people, settings and history. The commands that were sent since, as far as the
-history there has them, are printed, to be sent again, and what else people did
-since is counted. COPY is the name of an older copy there, from which it is made
-in place of the last one. HOST is another name of the site. A takeover that was
-interrupted goes on when it is typed again, and prints the same. With
---no-copies this machine leaves PLACE as it is, as after a break-in.
+people, settings and history. What was sent since, as far as the history there
+has it, waits on the screen Copies of the office, which sends it again: until
+then recording is paused. What else people did since is counted. COPY is the
+name of an older copy there, from which it is made in place of the last one, and
+FILE another history, as of a machine that was broken into. HOST is another name
+of the site. A takeover that was interrupted goes on when it is typed again.
+With --no-copies this machine leaves PLACE as it is, as after a break-in.
 
 example:
   admissions-admin takeover secondary-2025 /mnt/copies
 """
 import argparse
-import collections
 import contextlib
 import datetime
 import json
@@ -23,16 +24,16 @@ import os
 import pathlib
 import re
 import shutil
-import sys
 import typing
 
-from office.web import history
 from register_files import Refused
 
-from .. import answers, copies, files, histories, history_copies, sealed, second_copy, serving
+from .. import (
+    answers, brought, copies, files, histories, history_copies, sealed, second_copy, serving,
+)
 from ..programs import OFFICE, USER, call, tool
 from ..registers import SETTINGS, Register, all_registers, named
-from . import sent, setup
+from . import setup
 
 # what is fetched: copies with what is beside each, and the history
 WANTED = (*copies.PATTERNS, *(f"{it}{sealed.END}" for it in copies.PATTERNS),
@@ -43,9 +44,6 @@ ENV = "env"
 BEGUN = "standby"
 # how many copies are named where the one that was asked for is not there
 NAMED = 5
-# the entries of a history that are requests to the register, and what became of them
-REQUESTS = (history.SENDS, history.ANSWER, history.SETTLED)
-WITHOUT = ", without what shall not come back"
 
 
 def arguments(reader: argparse.ArgumentParser) -> None:
@@ -53,6 +51,7 @@ def arguments(reader: argparse.ArgumentParser) -> None:
     add("name", metavar="NAME", help="the name of the register, as of its folder there")
     add("place", nargs="?", default="", metavar="PLACE", help="the second place")
     add("--copy", metavar="COPY", help="the name of an older copy there")
+    add("--history", metavar="FILE", help="a history in place of the one there")
     add("--identity", metavar="FILE", help="the identity file that opens what is encrypted there")
     add("--site", metavar="HOST", help="another name of the site than before")
     add("--no-copies", action="store_true",
@@ -63,11 +62,11 @@ def arguments(reader: argparse.ArgumentParser) -> None:
 
 
 class Begun(typing.NamedTuple):
-    """A takeover that has begun: the copy from which the register is set up, and how many entries
-    the history of the other machine has; None where this machine had a history."""
+    """A takeover that has begun: the copy from which the register is set up, and whether what came
+    since waits already to be sent again."""
 
     copy: str
-    entries: int | None
+    is_brought: bool = False
 
 
 def begun_place(register: Register) -> pathlib.Path:
@@ -79,21 +78,17 @@ def begun(register: Register) -> Begun | None:
     path = begun_place(register)
     try:
         found = json.loads(path.read_text(encoding="utf-8"))
-        return Begun(str(found["copy"]), found["entries"] and int(found["entries"]))
+        return Begun(str(found["copy"]), bool(found.get("is_brought")))
     except FileNotFoundError:
         return None
     except (OSError, ValueError, KeyError, TypeError) as error:
         raise Refused(f"{path} cannot be read: {error}") from error
 
 
-def begin(register: Register, copy: pathlib.Path) -> Begun:
+def keep(register: Register, found: Begun) -> None:
     """Keeps from which copy the register is set up, before anything of it is."""
-    had_history = os.path.lexists(register.history)
-    data = history_copies.last_whole(copy.parent / history_copies.FOLDER)
-    found = Begun(copy.name, None if had_history else data.count(b"\n"))
     files.folder(register.settings, 0o755)
     files.write(begun_place(register), json.dumps(found._asdict()) + "\n", 0o644)
-    return found
 
 
 def fetch(
@@ -103,9 +98,8 @@ def fetch(
     which it goes on: the one that is wanted, or the last one."""
     register = named(name)
     if register.is_made:
-        raise Refused(f"{register.file} is there already, so this machine does not take over."
-                      " What was sent since a moment prints"
-                      f" `admissions-admin sent {register.name} TIME`")
+        raise Refused(f"{register.file} is there already, so this machine does not take over. To"
+                      f" put a copy in its place: admissions-admin restore {register.name}")
     place = (place or second_copy.place_of() or "").rstrip("/")
     if not place:
         raise Refused(f"name the second place, here or in {SETTINGS / 'second-copy'}", 2)
@@ -190,49 +184,20 @@ def decrypt_all(register: Register, given: pathlib.Path | None) -> None:
             path.unlink()
 
 
-def report(
-    register: Register, copy: pathlib.Path, entries: int | None = None, is_chosen: bool = False
-) -> None:
-    """Prints what was sent since the copy, to be sent again, and from when on nobody knows it. Only
-    so many entries of the history are of the other machine. Where the copy was chosen, what was
-    sent may have what it was chosen for."""
-    since = copies.moment(copy)
-    try:
-        record = record_of(register, entries)
-    except Refused as error:
-        print(f"WARNING: what was sent since {since:%Y-%m-%d %H:%M} is not known: {error}")
-        return
-    is_any = any(it.moment >= since for it in record.requests.values())
-    print(f"{register.name} is as at {since:%Y-%m-%d %H:%M:%S}, when {copy.name} was made."
-          + (f" Send again what follows, line by line{WITHOUT if is_chosen else ''}:" if is_any
-             else " The history has nothing that was sent later, so nothing is to be sent again."),
-          flush=True)
-    sent.listed(record, since, None)
-    if others := others_since(record, since):
-        print("Since then people also did this in the application, whose own file is as at that"
-              f" moment: {others}. The screen Activity has each of them: what of it is still"
-              " wanted is entered again there")
-    again = f"admissions-admin sent {register.name} {since:%Y-%m-%dT%H:%M:%S}"
+def bring(register: Register, copy: pathlib.Path) -> typing.Iterator[str]:
+    """Has what came since the copy wait on the screen of the office, once; and names from when on
+    nobody knows what was sent."""
+    if keeps := begun(register):
+        if keeps.is_brought:
+            return
+    is_there = os.path.lexists(register.history)
+    record = histories.of_register(register) if is_there else histories.Record("", b"")
+    yield from brought.begin(register, copy, brought.others_since(record, copies.moment(copy)))
+    keep(register, Begun(copy.name, True))
     if record.entries:
         last = datetime.datetime.fromisoformat(record.entries[-1].at).astimezone()
-        print(f"These are all until {last:%Y-%m-%d %H:%M:%S}, and `{again}` prints them again."
-              " What was sent later is in no copy: ask who worked then.")
-
-
-def others_since(record: histories.Record, since: datetime.datetime) -> str:
-    """What people did since a moment beside requests to the register, each with how often."""
-    counts = collections.Counter(
-        it.what for it in record.entries
-        if it.what not in REQUESTS and datetime.datetime.fromisoformat(it.at) >= since)
-    return ", ".join(f"{what} ({count})" for what, count in sorted(counts.items()))
-
-
-def record_of(register: Register, entries: int | None) -> histories.Record:
-    """The history of a register, as far as it is of the other machine."""
-    data = histories.data_of(register)
-    if entries is not None:
-        data = b"".join(data.splitlines(keepends=True)[:entries])
-    return histories.Record(str(register.history), data)
+        yield (f"The history ends at {last:%Y-%m-%d %H:%M:%S}: what was done later is in no copy."
+               " Ask who worked then")
 
 
 def checked(given: argparse.Namespace) -> None:
@@ -269,12 +234,10 @@ def main(given: argparse.Namespace) -> int:
     else:
         identity = pathlib.Path(answers.file(given.identity)) if given.identity else None
         copy = fetch(given.name, given.place, wanted, identity)
-        found = begin(register, copy)
+        keep(register, Begun(copy.name))
     given.copy = str(copy)
-    status = setup.set_up_as_given(given)
+    status = setup.set_up_as_given(given, bring)
     own_places(register, given.place)
-    report(register, copy, found.entries, is_chosen=bool(wanted))
-    sys.stdout.flush()
     begun_place(register).unlink()
     remind()
     return status

@@ -52,6 +52,6 @@ def main(given: argparse.Namespace) -> int:
         else:
             it.unlink()
         print(f"removed {it}", flush=True)
-    print("next: apt purge admissions-office admissions; userdel admissions; userdel"
+    print("next: apt purge admissions-pdf admissions; userdel admissions; userdel"
           " admissions-office")
     return 0

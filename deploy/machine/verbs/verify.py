@@ -7,15 +7,14 @@ that is installed.
 All files of FOLDER are verified by their digests, and those by the signature of
 the key, which is the one that apt trusts already; --key gives another. The
 verdict of the gate must be that all passed: a release without one is for trials
-only, and is refused without --trial. The second form shows whether the
-installed program is the one of its manifest.
+only, and is refused without --trial. The second form shows the same of what is
+installed, and whether the program is the one of its manifest.
 
 example:
   admissions-admin verify /srv/admissions
 """
 import argparse
 import base64
-import hashlib
 import json
 import pathlib
 import re
@@ -25,6 +24,7 @@ import typing
 from register_files import Refused
 
 from ..programs import call, program, tool
+from ..sealed import digest
 
 KEY = pathlib.Path("/etc/apt/keyrings/admissions-archive.asc")
 MANIFEST = pathlib.Path("/usr/share/doc/admissions/manifest.json")
@@ -40,29 +40,34 @@ def arguments(reader: argparse.ArgumentParser) -> None:
 
 def main(given: argparse.Namespace) -> int:
     if not given.folder:
-        return installed()
+        return installed(given.trial)
     folder = pathlib.Path(given.folder).absolute()
     signed(folder, given.key)
     count = whole(folder)
-    about = read(folder / "manifest.json")
-    verdict = about.get("verdict_of_the_gate")
-    print(f"{about.get('package')}, of the commit {about.get('commit')}: {count} files are as they"
-          f" were signed; the gate: {verdict or 'no verdict'}")
-    if not PASSED.fullmatch(str(verdict)) and not given.trial:
-        raise Refused("no gate has passed this release: it is for trials only (--trial)")
+    see_verdict(read(folder / "manifest.json"), f"{count} files are as they were signed",
+                given.trial)
     print("next, which closes the offices: apt update && apt install --no-install-recommends"
           " admissions")
     return 0
 
 
-def installed() -> int:
+def installed(is_trial: bool) -> int:
     """Compares the installed program with its manifest."""
-    path = pathlib.Path(program("admissions"))
-    wanted = read(MANIFEST)["program"]["sha256"]
+    path, about = pathlib.Path(program("admissions")), read(MANIFEST)
+    wanted = about["program"]["sha256"]
     if digest(path) != wanted:
         raise Refused(f"{path} is not the program of {MANIFEST}")
-    print(f"{path} is the program of {MANIFEST}: {wanted}")
+    see_verdict(about, f"{path} is the program of {MANIFEST}, {wanted}", is_trial)
     return 0
+
+
+def see_verdict(about: dict[str, typing.Any], said: str, is_trial: bool) -> None:
+    """Prints what a release is, and refuses one that no gate has passed."""
+    verdict = about.get("verdict_of_the_gate")
+    print(f"{about.get('package')}, of the commit {about.get('commit')}: {said}; the gate:"
+          f" {verdict or 'no verdict'}", flush=True)
+    if not PASSED.fullmatch(str(verdict)) and not is_trial:
+        raise Refused("no gate has passed this release: it is for trials only (--trial)")
 
 
 def read(path: pathlib.Path) -> dict[str, typing.Any]:
@@ -106,9 +111,3 @@ def whole(folder: pathlib.Path) -> int:
     if more := sorted({it.name for it in folder.iterdir()} - sums.keys() - beside):
         raise Refused(f"{folder} has files that were not signed: {', '.join(more)}")
     return len(sums)
-
-
-def digest(path: pathlib.Path) -> str:
-    """The SHA-256 sum of a file."""
-    with open(path, "rb") as file:
-        return hashlib.file_digest(file, "sha256").hexdigest()

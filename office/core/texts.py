@@ -1,0 +1,126 @@
+"""Texts: how values are shown, names compared, and cells kept from being run by a spreadsheet."""
+import collections
+import functools
+import math
+import re
+import unicodedata
+from collections.abc import Iterable
+
+LONGEST = 60
+# ends of lines, control characters, and those that turn the direction of the text around them
+UNSHOWN = re.compile("[\x00-\x1f\x7f-\x9f\u2028\u2029\u200e\u200f\u202a-\u202e\u2066-\u2069\ufeff]")
+CONTROL = re.compile("[\x00-\x1f\x7f-\x9f]")
+ORDINALS = ("first", "second", "third", "fourth", "fifth", "sixth", "seventh", "eighth", "ninth",
+            "tenth")
+# with these a cell begins that a spreadsheet runs, also in their wide forms, and behind blanks and
+# what cannot be seen, which it may leave out
+UNSEEN = "\\s\u00ad\u200b-\u200f\u202a-\u202e\u2060-\u2069\ufeff"
+RUN = re.compile(f"[{UNSEEN}]*[=+\\-@\uff1d\uff0b\uff0d\uff20]|[\t\r\n]")
+
+
+def shown(text: str) -> str:
+    """A value as it is printed in a message: in quotes, with what cannot be seen escaped, and cut
+    where it is long."""
+    return f'"{cut(text)}"'
+
+
+def visible(text: str) -> str:
+    """A text with what cannot be seen escaped, and what would act on a terminal."""
+    return UNSHOWN.sub(lambda found: f"\\u{ord(found[0]):04x}", text)
+
+
+def cut(text: str) -> str:
+    """The same without quotes."""
+    text = visible(text)
+    return text if len(text) <= LONGEST else text[:LONGEST] + ".."
+
+
+def for_spreadsheet(text: str) -> str:
+    """A text that no spreadsheet takes for a formula."""
+    return "'" + text if RUN.match(text) else text
+
+
+def cell_of(value: object) -> str:
+    """A value of a command as a cell of a file of applications has it."""
+    if isinstance(value, bool):
+        return "yes" if value else "no"
+    if isinstance(value, (list, tuple)):
+        return ";".join(map(str, value))
+    return str(value)
+
+
+def plain(text: str) -> str:
+    """A text without accents and capitals, to be put in order."""
+    letters = unicodedata.normalize("NFKD", text)
+    return "".join(it for it in letters if not unicodedata.combining(it)).casefold()
+
+
+@functools.lru_cache(maxsize=1 << 16)
+def folded(name: str) -> str:
+    """A name without accents, capitals, punctuation and order of its parts, to be compared."""
+    return " ".join(sorted(re.sub(r"[\W_]+", " ", re.sub(r"['’`]", "", plain(name))).split()))
+
+
+def is_alike(one: str, other: str) -> bool:
+    """Whether two names are likely to be of one person: one has all words of the other, or a word
+    differs in one letter."""
+    words = (collections.Counter(folded(it).split()) for it in (one, other))
+    few, many = sorted(words, key=collections.Counter.total)
+    if not few - many:
+        return few.total() > 1 or few == many
+    ours, theirs = few - many, many - few
+    return ours.total() == theirs.total() == 1 and is_one_slip(*ours, *theirs)
+
+
+def is_one_slip(one: str, other: str) -> bool:
+    """Whether a word becomes another by one letter more, less or replaced, or by two exchanged.
+    Words of up to three letters differ too easily."""
+    if max(len(one), len(other)) < 4 or abs(len(one) - len(other)) > 1:
+        return False
+    shorter = min(len(one), len(other))
+    start = next((at for at, (a, b) in enumerate(zip(one, other)) if a != b), shorter)
+    one, other = one[start:], other[start:]
+    if one[:2] == other[1::-1] and one[2:] == other[2:]:
+        return True
+    return one[1:] == other[1:] or one == other[1:] or one[1:] == other
+
+
+def metres(east: int, north: int) -> int:
+    """The whole metres of a distance (the greatest number whose square is at most the sum of the
+    squares)."""
+    return math.isqrt(east * east + north * north)
+
+
+def count(number: int, one: str, many: str | None = None) -> str:
+    """A number with its noun."""
+    return f"{number:,} {one if number == 1 else many or one + 's'}"
+
+
+def nth(number: int) -> str:
+    """Which one of a list in words, from the first to the tenth: as many as a child has schools."""
+    return ORDINALS[number - 1]
+
+
+def listed(items: Iterable[str]) -> str:
+    """Items as a sentence has them: a, b and c."""
+    *first, last = items
+    return f"{', '.join(first)} and {last}" if first else last
+
+
+def one_of(items: Iterable[str]) -> str:
+    """Items of which one is meant, as a sentence has them: a, b or c."""
+    *first, last = list(items) or [""]
+    return f"{', '.join(first)} or {last}" if first else last
+
+
+def spans(numbers: Iterable[int]) -> str:
+    """Numbers in rising order, with those that follow each other as 3 to 9."""
+    parts: list[list[int]] = []
+    for it in numbers:
+        if parts and parts[-1][1] == it - 1:
+            parts[-1][1] = it
+        else:
+            parts.append([it, it])
+    return ", ".join(
+        str(a) if a == b else f"{a} to {b}" if b > a + 1 else f"{a}, {b}" for a, b in parts
+    )

@@ -1,0 +1,1 @@
+"""Answers of families, reminders and withdrawals: rows that are recorded one after another."""

@@ -1,0 +1,1 @@
+"""The screens of answers and reminders, each with its addresses."""

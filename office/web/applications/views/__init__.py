@@ -1,0 +1,1 @@
+"""The screens of applications, each with its addresses."""

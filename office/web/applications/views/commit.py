@@ -1,0 +1,69 @@
+"""The staging table is stored in the register: what would be stored is shown whole, and is
+confirmed by a button that names how much it is.
+"""
+import datetime
+
+import flask
+from register_files import Refused
+from werkzeug.wrappers import Response
+
+from office.web.frame.guard import needs, parts, person
+from office.web.frame.people import RECORD
+
+from .. import kinds
+from .. import page as staging_page
+from ..commit import Commit
+from ..rows import Staged
+from ..tools import tools
+
+screen = flask.Blueprint("applications_commit", __name__, url_prefix="/applications/commit")
+Answer = str | Response | tuple[str, int]
+
+
+def today() -> datetime.date:
+    """The day of today."""
+    return datetime.date.today()
+
+
+def page(text: str = "", refused: Staged | None = None) -> Answer:
+    """What would be stored, with what came of an attempt."""
+    unknown, found, said = tools().committing.unknown(), None, [text] if text else []
+    try:
+        found = tools().committing.found(parts().desk.now())
+    except Refused as error:
+        said.append(f"The register does not answer: {error}.")
+    body = flask.render_template(
+        "applications_commit.html", said=" ".join(said), found=found, unknown=unknown,
+        closed=parts().desk.closed(), refused=refused, columns=staging_page.columns(),
+        title_of=staging_page.title_of, names=names_of(found) if found else [],
+        aside=kinds.aside(found.wrong) if found else None,
+        may_change=found is not None and today() <= found.register.days[0])
+    return body, 409 if said else 200
+
+
+def names_of(found: Commit) -> list[tuple[str, int]]:
+    """The schools of first preferences by code and name, each with its number."""
+    schools = found.register.schools
+    return [(f"{code} {schools[code].name}" if code in schools else code, many)
+            for code, many in found.counts.first.items()]
+
+
+@screen.get("/")
+@needs(RECORD)
+def show() -> Answer:
+    """What would be stored."""
+    return page()
+
+
+@screen.post("/")
+@needs(RECORD)
+def store() -> Answer:
+    """Stores what was shown."""
+    try:
+        found = tools().committing.send(person(), flask.request.form.get("digest", ""))
+    except Refused as error:
+        return page(f"Nothing was stored: {error}.")
+    if not found.is_done:
+        return page(found.said, found.row)
+    return flask.redirect(
+        flask.url_for("applications.show", done=found.entry, out=found.out or None), 303)

@@ -1,0 +1,1 @@
+"""The screens of a child, each with its addresses."""

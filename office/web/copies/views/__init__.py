@@ -1,0 +1,1 @@
+"""The screens of copies and restores, each with its addresses."""

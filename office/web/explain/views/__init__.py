@@ -1,0 +1,1 @@
+"""The screens of explanations, trials and figures, each with its addresses."""

@@ -1,0 +1,155 @@
+"""What other programs read and send: the answers of the register as they are."""
+import flask
+from register_files import Refused
+
+from office.core import commands, rules
+from office.web.register.desk import DIFFERS, DONE, REFUSED, Away, Command, Result, Seen, seen_by
+
+from .. import guard
+from ..guard import needs, parts, person
+from ..people import LISTS, READ, RECORD
+
+screen = flask.Blueprint("register", __name__)
+JSON, CSV = "application/json", "text/csv"
+
+
+def answer(status: int, /, **said: object) -> flask.Response:
+    """An answer of the application's own, as JSON."""
+    return flask.Response(flask.json.dumps(said), status, mimetype=JSON)
+
+
+def passed(path: str, question: bytes | None = None) -> flask.Response:
+    """The register's own answer to a path, or to a question that changes nothing."""
+    try:
+        status, body = parts().desk.asked(path, question)
+    except Away as error:
+        return answer(502, reason=str(error), unanswered=True)
+    return flask.Response(body, status, mimetype=JSON if body[:1] == b"{" else "text/plain")
+
+
+def sent(kind: str) -> bytes:
+    """What was sent, if it is of a kind, and no longer than the register takes."""
+    given = flask.request.headers.get("Content-Type", "").partition(";")[0]
+    if given.strip().lower() != kind:
+        flask.abort(415, f"this takes {kind} alone")
+    most = rules.LIMITS["body"].most
+    body = flask.request.get_data()
+    if len(body) > most:
+        reason = f"the register takes at most {most:,} bytes at once"
+        flask.abort(answer(413, reason=reason, status=413))
+    return body
+
+
+@screen.get("/register")
+@needs(READ)
+def register() -> flask.Response:
+    """The register. What rests on it may be compared with this copy, so it is kept for that."""
+    try:
+        return flask.Response(parts().desk.read(True)[1], mimetype=JSON)
+    except Away:
+        # (the register's own answer says more, where it gives one)
+        return passed("/register")
+
+
+@screen.get("/draw/<int:number>")
+@needs(READ)
+def draw(number: int) -> flask.Response:
+    """A draw with its lots."""
+    return passed(f"/draw/{number}")
+
+
+@screen.get("/child/<int:number>")
+@screen.get("/child/<int:number>/letter")
+@screen.get("/round/<int:number>")
+@needs(READ)
+def read(number: int) -> flask.Response:
+    """An answer about one child or one round."""
+    return passed(flask.request.path)
+
+
+def see_code(code: str) -> None:
+    """Answers that there is no such page, where an address has no code of a school."""
+    if not rules.is_code(code):
+        flask.abort(404)
+
+
+@screen.get("/pairs")
+@screen.get("/pairs/<code>")
+@needs(READ)
+def pairs(code: str = "") -> flask.Response:
+    """The pairs of the next round, or of a fill at a school."""
+    if not code:
+        return passed("/pairs")
+    see_code(code)
+    return passed(f"/pairs/{code}")
+
+
+@screen.get("/school/<code>/waiting")
+@needs(LISTS)
+def waiting(code: str) -> flask.Response:
+    """The waiting list of a school."""
+    guard.see_own_school(code)
+    see_code(code)
+    return passed(f"/school/{code}/waiting")
+
+
+STATUSES = {DONE: 200, REFUSED: 409, DIFFERS: 409}
+
+
+def answered(result: Result) -> flask.Response:
+    """What a request came to: the register's own answer where there is one."""
+    if result.answer:
+        value = commands.read(result.answer)
+        is_fault = isinstance(value, dict) and "fault" in value
+        status = 400 if is_fault else STATUSES.get(result.outcome, 503)
+        return flask.Response(result.answer, status, mimetype=JSON)
+    if result.is_done:
+        return answer(200, done=True)
+    said = {"outcome": result.outcome, "reason": result.said}
+    if not result.is_known:
+        return answer(502, **said, unanswered=True)
+    return answer(STATUSES.get(result.outcome, 503), **said)
+
+
+@screen.post("/command")
+@needs(RECORD)
+def command() -> flask.Response:
+    """A command."""
+    body = sent(JSON)
+    given = commands.read(body)
+    if not isinstance(given, dict) or commands.wrong_field(given):
+        # (the register says what is wrong)
+        return answered(parts().desk.pass_on(person(), body))
+    return answered(parts().desk.send(person(), given, seen_in(given)))
+
+
+def seen_in(given: Command) -> Seen | None:
+    """What a command rests on as its sender saw it: X-Seen has the child or the school of the
+    register's document, or null for none. A program may leave it out.
+    """
+    text = flask.request.headers.get("X-Seen")
+    if text is None:
+        return None
+    row = commands.read(text.encode("utf-8"))
+    if not isinstance(row, dict) and text != "null":
+        flask.abort(400, "what was seen is no child and no school")
+    return seen_by(given, row)
+
+
+@screen.post("/import")
+@needs(RECORD)
+def rows() -> flask.Response:
+    """The rows of an import."""
+    body = sent(CSV)
+    try:
+        body.decode("utf-8")
+    except UnicodeDecodeError as error:
+        raise Refused("the rows are no text in UTF-8") from error
+    return answered(parts().desk.send_import(person(), body))
+
+
+@screen.post("/what-if")
+@needs(READ)
+def question() -> flask.Response:
+    """A question about another list of a child, which changes nothing."""
+    return passed("/what-if", sent(JSON))

@@ -1,0 +1,1 @@
+"""The screens of letters, each with its addresses."""

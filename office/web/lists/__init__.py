@@ -1,0 +1,1 @@
+"""The first screen and the lists of an office."""

@@ -1,0 +1,1 @@
+"""The first screen and those of lists, each with its addresses."""

@@ -1,0 +1,391 @@
+"""The way to the register: requests one after another, each compared just before with what the
+register says now, and on record before it is sent.
+"""
+import contextlib
+import dataclasses
+import datetime
+import gc
+import json
+import math
+import threading
+import time
+from collections.abc import Callable, Iterator, Mapping
+from typing import Any
+
+from register_files import Refused
+
+from office.core import commands, days, effects, kinds, model, senders, turns
+from office.core.kinds import DRAWS, KINDS
+from office.core.model import Members, Register
+from office.web.frame.people import Person
+
+from .history import ANSWER, SENDS, SETTLED, Entry, History
+
+Command = dict[str, Any]
+# for so long a copy of the register is shown as it is, where nothing was sent since
+FRESH_SECONDS = 2.0
+# a request that had no answer is looked for once more after this
+AGAIN_SECONDS = 1.0
+# so many characters of a line that is no command are on record
+MOST_LINE = 1000
+# the child or the school that a request is about, by the name of its field; or any of them
+Subject = tuple[str, int | str]
+ANY: Subject = ("", "")
+DONE, REFUSED, DIFFERS, UNSENT, LOST = "done", "refused", "differs", "unsent", "not done"
+
+
+@dataclasses.dataclass(frozen=True)
+class Result:
+    """What a request came to, in one word and in a sentence; the answer of the register; and
+    whether it is known what it came to.
+    """
+
+    outcome: str
+    said: str
+    answer: bytes = b""
+    is_known: bool = True
+
+    @property
+    def is_done(self) -> bool:
+        """Whether it is stored."""
+        return self.outcome == DONE
+
+
+@dataclasses.dataclass(frozen=True)
+class Seen:
+    """What a person saw of a child, or of a school, when they decided: what a command rests on."""
+
+    text: str
+
+
+def seen_of(register: Members, command: Command) -> Seen:
+    """What a command rests on, of a register."""
+    rests_on = KINDS[command["cmd"]].rests_on
+    return Seen(json.dumps(rests_on(register, command), sort_keys=True))
+
+
+def seen_by(command: Command, row: dict[str, Any] | None) -> Seen:
+    """What a command rests on, of the child or the school of the register's document that somebody
+    saw, or None where there was none.
+    """
+    rows = [] if row is None else [row]
+    is_child = "child" in command
+    return seen_of(model.of_rows("the register", [] if is_child else rows,
+                                 rows if is_child else []), command)
+
+
+def subject(about: dict[str, Any]) -> Subject:
+    """The child or the school that a request is about. What a command rests on is of its own child
+    or school, and no command about another changes it. A draw changes any; and so may an import,
+    and a line of which nothing is known here.
+    """
+    command: Command = about.get("command", {})
+    if command.get("cmd") not in DRAWS:
+        for name in ("child", "school"):
+            if name in command:
+                return name, command[name]
+    return ANY
+
+
+def again_of(entry: Entry) -> dict[str, Any]:
+    """What is sent once more of an entry, to a register that was restored since. Who recorded it
+    first, and when, stays with it.
+    """
+    first = entry.about.get("again") or {"of": entry.number, "who": entry.who, "at": entry.at}
+    return {**entry.about, "again": first}
+
+
+def line_of(command: Command) -> bytes:
+    """A command as it is sent."""
+    return json.dumps(command, separators=(",", ":"), ensure_ascii=False).encode()
+
+
+def is_about(register: Register, entry: Entry, number: int) -> bool:
+    """Whether a request that was done is about a child, or a draw that offered it a place."""
+    command = entry.about.get("command", {})
+    return command.get("child") == number or (
+        "draw" in command and register.fresh.get(command["draw"], {}).get(number, False))
+
+
+def local(at: str) -> str:
+    """A moment of the history by the clock of this machine, with its day if that is not today."""
+    found, now = datetime.datetime.fromisoformat(at).astimezone(), datetime.datetime.now()
+    day = "" if found.date() == now.date() else f" on {days.in_words(found.date())}"
+    return f"{found:%H:%M}{day}"
+
+
+@contextlib.contextmanager
+def uncollected() -> Iterator[None]:
+    """Many objects are made meanwhile, and none of them is garbage: to look for some among all that
+    there are would take as long again.
+    """
+    was_enabled = gc.isenabled()
+    gc.disable()
+    try:
+        yield
+    finally:
+        if was_enabled:
+            gc.enable()
+
+
+class Away(Refused):
+    """The register does not answer."""
+
+
+class Desk:
+    """The register of one application."""
+
+    def __init__(
+        self, sender: senders.Http, record: History, clock: Callable[[], float] = time.monotonic
+    ) -> None:
+        self.sender, self.history, self.clock = sender, record, clock
+        self.source = model.Server(sender)
+        self.reader = model.Reader(self.source)
+        self.lock = turns.Turn(threading.RLock(), "the register is being copied, or others send")
+        self.reading = turns.Turn(
+            threading.Lock(), "the register is being copied, or does not answer")
+        self.copy: tuple[float, Register, bytes] | None = None
+        # when something was sent last, before which no copy is of the present; and when about each
+        # child and school, and about any
+        self.sent = clock()
+        self.sent_about: dict[Subject, float] = {ANY: self.sent}
+        # why nobody but a draw may send, or ""
+        self.closed: Callable[[], str] = str
+
+    def read(
+        self, is_now: bool = False, command: Command | None = None
+    ) -> tuple[Register, bytes]:
+        """The register as it is, and its document; or as it was some seconds ago, if nothing was
+        sent since, or nothing by which what a command rests on has changed.
+        """
+        asked = self.clock()
+        with self.reading:
+            sent = self.sent if command is None else self.sent_for(command)
+            since = asked if is_now else max(sent, asked - FRESH_SECONDS)
+            if self.copy and self.copy[0] >= since:
+                return self.copy[1:]
+            moment = self.clock()
+            document = self.document()
+            self.copy = moment, self.shown(document), document
+            return self.copy[1:]
+
+    def shown(self, document: bytes) -> Register:
+        """The register of a document, which is made out once."""
+        if self.copy and self.copy[2] == document:
+            return self.copy[1].shown_again()
+        with uncollected():
+            return self.reader.register(document)
+
+    def sent_for(self, command: Command) -> float:
+        """When something was sent last by which what a command rests on may have changed."""
+        found = subject({"command": command})
+        if found == ANY:
+            return self.sent
+        return max(self.sent_about.get(it, -math.inf) for it in (found, ANY))
+
+    def mark(self, about: dict[str, Any]) -> None:
+        """Keeps the moment of a request, whatever came of it."""
+        self.sent = self.sent_about[subject(about)] = self.clock()
+
+    def asked(self, path: str, question: bytes | None = None) -> tuple[int, bytes]:
+        """The register's own answer to a path, or to a question that changes nothing."""
+        try:
+            return self.sender.ask("GET" if question is None else "POST", path, question)
+        except senders.Ended as error:
+            raise Away(f"the register does not answer now: {error}") from error
+
+    def document(self) -> bytes:
+        """The document of the register."""
+        status, document = self.asked("/register")
+        if status != 200:
+            raise Away(f"the register cannot be read now: {senders.refusal(status)}")
+        return document
+
+    def register(self) -> Register:
+        """The register as it is, or as it was some seconds ago if nothing was sent since."""
+        return self.read()[0]
+
+    def compared(self, command: Command) -> Register:
+        """The register as it is in what a command rests on. So in a row of commands about different
+        children not each one waits for all children to be read again.
+        """
+        return self.read(command=command)[0]
+
+    def now(self) -> Register:
+        """The register as it is."""
+        return self.read(True)[0]
+
+    def send(
+        self, who: Person, command: Command, seen: Seen | None = None, draw: bool = False,
+        point: str = "",
+    ) -> Result:
+        """Sends a command if what it rests on is as it was seen. Where the point of a home came
+        from is in the history beside it.
+        """
+        if command["cmd"] in DRAWS and not draw:
+            return Result(UNSENT, "Nothing was recorded: a round or a fill is held on the screen of"
+                                  " draws, where a second person confirms it.")
+        return self.request(
+            who, {"command": command, **({"point": point} if point else {})}, seen, draw)
+
+    def request(
+        self, who: Person, about: dict[str, Any], seen: Seen | None = None, is_closed: bool = False,
+    ) -> Result:
+        """Sends a request in its turn, if what its command rests on is as it was seen; also while
+        recording is paused.
+        """
+        with self.sending(is_closed) as reason:
+            if reason:
+                return Result(UNSENT, reason)
+            if seen is not None and (said := self.difference(about["command"], seen)):
+                return Result(DIFFERS, said)
+            return self.exchange(who, about, lambda: self.passed(about))
+
+    def passed(self, about: dict[str, Any]) -> bytes:
+        """The answer of the register to a command, or to the rows of an import."""
+        if "import" in about:
+            rows: str = about["import"]
+            return self.sender.imported(rows.encode())
+        return self.sender.send(line_of(about["command"]))
+
+    def pass_on(self, who: Person, line: bytes) -> Result:
+        """Sends what is no command as far as is known here, for what the register says of it. It
+        may know more, and take it: so this goes in its turn, and is on record before.
+        """
+        with self.sending() as reason:
+            if reason:
+                return Result(UNSENT, reason)
+            about = {"line": line.decode("utf-8", "replace")[:MOST_LINE]}
+            return self.exchange(who, about, lambda: self.sender.send(line))
+
+    def send_import(
+        self, who: Person, rows: bytes, points: Mapping[str, str] | None = None
+    ) -> Result:
+        """Sends the rows of an import, which are stored all or not at all. Where the points of
+        their homes came from, by the children's numbers, is in the history beside them.
+        """
+        return self.request(
+            who, {"import": rows.decode(), **({"points": dict(points)} if points else {})})
+
+    @contextlib.contextmanager
+    def sending(self, draw: bool = False) -> Iterator[str]:
+        """The turn to send, with why nothing can be sent now, or ""."""
+        with contextlib.ExitStack() as held:
+            try:
+                held.enter_context(self.lock)
+            except turns.Busy as error:
+                yield f"Nothing was recorded: {error}."
+                return
+            yield self.reason(draw)
+
+    def reason(self, draw: bool) -> str:
+        """Why nothing can be sent now, or ""."""
+        if not draw and (said := self.closed()):
+            return said
+        try:
+            self.settle()
+        except Refused as error:
+            return f"Nothing was recorded. {error}"
+        return ""
+
+    def difference(self, command: Command, seen: Seen) -> str:
+        """What has changed since a command was decided, or ""."""
+        try:
+            said = self.changed(self.compared(command), command, seen)
+        except Refused as error:
+            return f"Nothing was recorded. {error}"
+        return f"{said} Nothing was recorded now." if said else ""
+
+    def changed(self, register: Register, command: Command, seen: Seen) -> str:
+        """What a register has otherwise than it was seen, with who recorded it last, or ""."""
+        if seen_of(register, command) == seen:
+            return ""
+        if "child" not in command:
+            return "It has changed meanwhile."
+        number = command["child"]
+        done = self.history.done()
+        last = next((it for it in done if is_about(register, it, number)), None)
+        if last is None:
+            return f"Child {number} has changed meanwhile."
+        noun = KINDS[last.about["command"]["cmd"]].noun
+        return f"Child {number}: {last.who} recorded {noun} at {local(last.at)}."
+
+    def exchange(self, who: Person, about: dict[str, Any], send: Callable[[], bytes]) -> Result:
+        """Sends a request that is on record before, and records the answer."""
+        try:
+            entry = self.history.add(who.name, SENDS, about)
+        except Refused as error:
+            return Result(UNSENT, f"Nothing was recorded: {error}")
+        try:
+            answer = send()
+        except senders.Ended as error:
+            return self.lost(entry, error)
+        finally:
+            self.mark(about)
+        value = commands.read(answer)
+        if isinstance(value, dict) and value.get("failed"):
+            # (stored wholly or not at all, and only a look at the register says which)
+            found = self.looked(entry, commands.in_words(value, None))
+            return found if found.is_known else dataclasses.replace(found, answer=answer)
+        note = ""
+        try:
+            self.history.add(who.name, ANSWER, {"of": entry.number, "answer": value})
+        except Refused as error:
+            note = f" The answer is not in the history: {error}."
+        if commands.is_done(value):
+            return Result(DONE, (commands.result(value) or "Done, and stored.") + note, answer)
+        said = commands.in_words(value, about.get("command"), self.plans())
+        return Result(REFUSED, f"It was not done: {said}.{note}", answer)
+
+    def plans(self) -> dict[int, str]:
+        """The schools of the children that have a place by a plan, as of the last copy."""
+        places = self.copy[1].places.items() if self.copy else ()
+        return {child: it.school for child, it in places if it.kind == model.PLAN}
+
+    def lost(self, entry: Entry, error: senders.Ended) -> Result:
+        """What a request without an answer came to."""
+        if not error.is_open:
+            try:
+                self.history.add(entry.who, SETTLED,
+                                 {"of": entry.number, "done": False, "why": str(error)})
+            except Refused:
+                pass
+            return Result(UNSENT, f"Nothing was recorded: {error}.")
+        return self.looked(entry, str(error))
+
+    def looked(self, entry: Entry, why: str) -> Result:
+        """What a request came to, by a look at the register."""
+        try:
+            is_done = self.settled(entry)
+        except Refused as other:
+            return Result(LOST, f"There was no certain answer ({why}), and the register does not"
+                          f" answer now: {other}. Whether it is done is looked up before anything"
+                          " else is sent.", is_known=False)
+        if is_done:
+            return Result(DONE, "Done, and stored: the answer was lost, and the register has it.")
+        return Result(LOST, f"It was not done: there was no answer ({why}), and the register does"
+                      " not have it.")
+
+    def settle(self) -> None:
+        """Finds out what became of each request without a known answer, before another is sent."""
+        for it in self.history.open_requests():
+            self.settled(it)
+
+    def settled(self, entry: Entry) -> bool:
+        """Whether a request is done, by a look at the register. It is never sent again."""
+        is_done = self.is_done(entry)
+        if not is_done:
+            time.sleep(AGAIN_SECONDS)
+            is_done = self.is_done(entry)
+        self.history.add(entry.who, SETTLED, {"of": entry.number, "done": is_done})
+        return is_done
+
+    def is_done(self, entry: Entry) -> bool:
+        """Whether the register is as after a request."""
+        if "line" in entry.about:
+            # (which nothing here knows the effect of)
+            return False
+        register = self.now()
+        if "command" in entry.about:
+            return kinds.is_done(register, entry.about["command"])
+        return effects.is_imported(register, entry.about["import"])

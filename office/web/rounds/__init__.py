@@ -1,0 +1,1 @@
+"""Rounds and offers from waiting lists, by two persons and a supervisor who draws the lots."""

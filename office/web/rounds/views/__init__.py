@@ -1,0 +1,1 @@
+"""The screens of rounds and of lots, each with its addresses."""

@@ -1,0 +1,1 @@
+"""Schools, what they have, how their waiting lists move, and the office's words for flags."""

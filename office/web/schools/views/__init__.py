@@ -1,0 +1,1 @@
+"""The screens of schools, each with its addresses."""

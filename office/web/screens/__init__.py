@@ -1,1 +1,0 @@
-"""The screens of the application, each with its addresses."""

@@ -1,0 +1,130 @@
+"""The worklists: their names, what each says, the options that it takes, and its rows."""
+import csv
+import dataclasses
+import datetime
+import io
+from collections.abc import Callable, Mapping
+from typing import Any
+
+from register_files import Refused
+
+from office.core import days, texts
+from office.core.model import Register
+from office.files import book
+
+from . import draw_lists, register_lists
+from .register_lists import Rows
+
+# a worklist that takes one of these is of one child or one draw
+SINGLE = {"child", "draw", "round", "text"}
+
+
+@dataclasses.dataclass(frozen=True)
+class Worklist:
+    """What a worklist says; the options that it takes; what makes it of a register and their
+    values, in this order; and those options without which it cannot be made.
+    """
+
+    purpose: str
+    taken: tuple[str, ...]
+    rows: Callable[..., Rows]
+    required: tuple[str, ...] = ()
+
+    @property
+    def is_single(self) -> bool:
+        """Whether it is of one child or one draw."""
+        return bool(SINGLE & set(self.taken))
+
+
+WORKLISTS = {
+    "child": Worklist(
+        "what one child listed and has: each school of its list, how it ranks there and what became"
+        " of it", ("child",), register_lists.child, ("child",)),
+    "children": Worklist(
+        "all children: when they applied, and what they have", (), register_lists.children),
+    "draws": Worklist(
+        "the rounds and fills: their days, their lots, and how many children were offered a place,"
+        " kept theirs or have none", (), draw_lists.draws),
+    "equal-at-limit": Worklist(
+        "where only the lot decided: who was offered or refused a place with the class and distance"
+        " of the last that was offered", (), draw_lists.equal_at_limit),
+    "find": Worklist(
+        "the children whose names have each word, whatever capitals and accents; near names where"
+        " there is none", ("text",), register_lists.find, ("text",)),
+    "interest": Worklist(
+        "what families want: how many list each school, as which preference, how many of them"
+        " applied late, and how many need a lot in the next round", (), register_lists.interest),
+    "lapse-due": Worklist(
+        f"whose offer may lapse on a day: no answer by the end of the {days.NOTICE.days}th day"
+        " after the reminder", ("day",), register_lists.lapse_due),
+    "last-offered": Worklist(
+        "the last class, distance and lot that were offered at each school in each draw, and how"
+        " many were", (), draw_lists.last_offered),
+    "list": Worklist(
+        "the waiting lists, or that of one school: positions, names, criteria met and distances",
+        ("school",), register_lists.waiting),
+    "lots": Worklist(
+        "the lots of a draw beside the children, school by school, and what each was allotted in"
+        " it", ("draw",), draw_lists.lots, ("draw",)),
+    "moved": Worklist(
+        "whom a round or a fill moved from which school to which", ("draw",), draw_lists.moved,
+        ("draw",)),
+    "no-answer": Worklist(
+        "who has not answered an offer, since when, and when they were reminded", (),
+        register_lists.no_answer),
+    "preferences": Worklist(
+        "how many children each round left with their first, second, .. preference, or with none",
+        (), draw_lists.preferences),
+    "remind-due": Worklist(
+        f"who is due for a reminder on a day: no answer by the end of the {days.NOTICE.days}th day"
+        " after the offer", ("day",), register_lists.remind_due),
+    "round-report": Worklist(
+        "the result of a round for each child that took part, with names", ("round",),
+        draw_lists.round_report, ("round",)),
+    "season": Worklist(
+        "the days of the season, and what the register has so far", (), register_lists.season),
+    "unplaced": Worklist(
+        "children without a place: when they applied, for what, and where they wait", (),
+        register_lists.unplaced),
+    "vacancies": Worklist(
+        "each school's places: its admission number, what is held by whom, what is vacant, and how"
+        " many wait", (), register_lists.vacancies),
+}
+
+
+def is_whole(name: str, options: Mapping[str, Any]) -> bool:
+    """Whether a worklist can be made of these options."""
+    return all(options.get(it) is not None for it in WORKLISTS[name].required)
+
+
+def see_day(register: Register, day: datetime.date) -> None:
+    """Refuses a day on which nobody can be due, because no offer was made by then: its year may be
+    wrong.
+    """
+    if register.draws and day < register.draws[0].day:
+        raise Refused(f"nobody had an offer on {days.in_words(day)}: the first round was on"
+                      f" {days.in_words(register.draws[0].day)}")
+
+
+def rows_of(register: Register, name: str, options: Mapping[str, Any]) -> Rows:
+    """The rows of a worklist."""
+    found = WORKLISTS[name]
+    return found.rows(register, *(options.get(it) for it in found.taken))
+
+
+def csv_text(rows: Rows) -> str:
+    """Rows as CSV for a spreadsheet: with a byte order mark, by which it reads names as Tŷ, and an
+    apostrophe before a text that it would take for a formula.
+    """
+    out = io.StringIO()
+    csv.writer(out, lineterminator="\n").writerows(
+        [texts.for_spreadsheet(it) if isinstance(it, str) else it for it in row] for row in rows)
+    return "\ufeff" + out.getvalue()
+
+
+def pages(register: Register, day: datetime.date) -> list[book.Page]:
+    """The worklists of a register on a day as sheets, the season first, each with what it says."""
+    names = [name for name, it in WORKLISTS.items() if not it.is_single]
+    names.sort(key=lambda it: it != "season")
+    return [book.Page(name, WORKLISTS[name].purpose, rows_of(register, name, {"day": day}))
+            for name in names]
