@@ -256,7 +256,22 @@ def test_what_a_program_saw_is_compared(office: Site, what: str) -> None:
         assert bo.command(late, now).json == {"done": True}
 
 
-@pytest.mark.parametrize("seen", ("{", "[]", "{}", '{"child":1}', "1", '"null"', ""))
+@pytest.mark.parametrize("name", ("Si\u00e2n T\u0177", "\u0141ucja", "Ada"))
+def test_a_program_sends_the_row_back_in_the_bytes_of_the_document(
+    office: Site, name: str,
+) -> None:
+    """Names with accents are in UTF-8 there; and escapes in JSON say the same."""
+    jane = office.program("jane")
+    assert jane.command(child(9, name, 900)).json == {"done": True}
+    for north, text in ((901, json.dumps(row_of(jane, "child", 9), ensure_ascii=False)),
+                        (902, json.dumps({**row_of(jane, "child", 9), "north": 901}))):
+        # (the interface of a server gives the bytes of a header as Latin-1)
+        sent = text.encode("utf-8").decode("latin-1")
+        found = jane.command({**child(9, name, north), "cmd": "amend"}, sent)
+        assert found.json == {"done": True}, found.json
+
+
+@pytest.mark.parametrize("seen", ("{", "[]", "{}", '{"child":1}', "1", '"null"', "", "\u00e2"))
 def test_what_nobody_can_have_seen_sends_nothing(office: Site, seen: str) -> None:
     """A header that is no child of a register."""
     assert office.program("portal").command(ACCEPT, seen).status_code in (400, 409)

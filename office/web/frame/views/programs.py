@@ -130,7 +130,8 @@ def seen_in(given: Command) -> Seen | None:
     text = flask.request.headers.get("X-Seen")
     if text is None:
         return None
-    row = commands.read(text.encode("utf-8"))
+    # (a header comes as Latin-1; what was sent are the bytes of the document, in UTF-8)
+    row = commands.read(text.encode("latin-1"))
     if not isinstance(row, dict) and text != "null":
         flask.abort(400, "what was seen is no child and no school")
     return seen_by(given, row)
