@@ -694,7 +694,7 @@ def test_what_a_premise_reaches_is_assumed_where_its_definition_says_so(pack: Pa
         one["number"] for it in found["clauses"] for one in it["rows_assume"]}
     pages = {name: (copy / f"out/evidence/{name}.html").read_text()
              for name in ("claims", "clauses", "trust")}
-    claim = pages["claims"].partition('id="claim-14"')[2].partition("<h3")[0]
+    claim = pages["claims"].partition('id="claim-17"')[2].partition("<h3")[0]
     assert "known bytes of the connections" in claim and "known bytes of" in pages["trust"]
     assert "'Known bytes' are those of" in html.unescape(pages["trust"])
     for name in ("clauses", "trust"):
@@ -777,7 +777,7 @@ def test_each_clause_says_whether_the_program_calls_its_function(pack: Pack) -> 
             assert one["mutants"] == counts[one["id"]] > 0 and one["id"] != it["function_id"]
             assert one["distance"] >= 1
     claim = (copy / "out/evidence/claims.html").read_text()
-    claim = claim.partition('id="claim-14"')[2].partition("<h3")[0]
+    claim = claim.partition('id="claim-17"')[2].partition("<h3")[0]
     assert "; a law beside the program" in claim
     # the types that a clause speaks of, with their fields
     types = {it["name"]: it["page"] for it in clauses["adm_rank::RankKey::ranks_before"]["types"]}
@@ -927,7 +927,7 @@ def test_the_first_page_leads_to_the_law_of_crashes_and_counts_claims_by_verdict
     assert found["claims_by_verdict"] == {"all": 0, "some": 0, "none": len(found["claims"])}
     page = (out / "index.html").read_text()
     assert 'href="reference/headline.txt"' in page and "this folder does not show it" in page
-    claim = (out / "claims.html").read_text().partition('id="claim-14"')[2].partition("<h3")[0]
+    claim = (out / "claims.html").read_text().partition('id="claim-17"')[2].partition("<h3")[0]
     assert 'href="reference/headline.txt"' in claim
     # (the first has clauses of adm_rank and of adm_fairness)
     counts = rich[1]["claims_by_verdict"]
