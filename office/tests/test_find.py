@@ -60,10 +60,12 @@ def test_namesakes_are_told_apart(office: Site) -> None:
     assert rita.get("/find?q=3").location == "/children/3"
     addresses = Addresses(office.parts.store, office.parts.history)
     assert addresses.save(HAL, {3: ["1 <High> Street", "AS1 1AA"]}, False, addresses.digest())
-    page = Page(rita.get("/find?q=zoe+abel").text)
+    page = Page(office.browser("olivia").get("/find?q=zoe+abel").text)
     assert [it[4] for it in page.tables["found"]] == [
         "Address", "", "1 <High> Street, AS1 1AA", "", ""]
     assert "first preference or the address." in page.text and "<High>" not in page.text
+    # (the register has no address, and a reader sees nothing that it does not have)
+    assert "Street" not in rita.get("/find?q=zoe+abel").text
     # (by a link of the head in another order)
     page = Page(rita.get("/find?q=zoe+abel&order=first").text)
     assert [it[0] for it in page.tables["found"][1:]] == ["3", "2", "1", "4"]
