@@ -1,5 +1,6 @@
 """What the site answers where the office's application does not, by nginx itself."""
 import contextlib
+import http.client
 import pathlib
 import shutil
 import socket
@@ -64,19 +65,36 @@ class Site:
             finally:
                 run.terminate()
 
-    def get(self, path: str, kind: str = "text/html") -> tuple[int, str]:
-        """The status and the body of an answer."""
+    @contextlib.contextmanager
+    def connected(self) -> typing.Iterator[http.client.HTTPConnection]:
+        """A connection to it."""
         context = ssl.create_default_context()
         context.check_hostname, context.verify_mode = False, ssl.CERT_NONE
-        with socket.create_connection(("127.0.0.1", self.port), 60) as bare:
-            with context.wrap_socket(bare, server_hostname=HOST) as secure:
-                head = f"GET {path} HTTP/1.1\r\nHost: {HOST}\r\nAccept: {kind}\r\n"
-                secure.sendall(f"{head}Connection: close\r\n\r\n".encode())
-                data = b""
-                while piece := secure.recv(1 << 16):
-                    data += piece
-        fields, _, body = data.partition(b"\r\n\r\n")
-        return int(fields.split(b" ")[1]), body.decode()
+        with contextlib.closing(http.client.HTTPConnection(HOST)) as found:
+            bare = socket.create_connection(("127.0.0.1", self.port), 60)
+            found.sock = context.wrap_socket(bare, server_hostname=HOST)
+            yield found
+
+    def get(self, path: str, kind: str = "text/html") -> tuple[int, str]:
+        """The status and the body of an answer."""
+        with self.connected() as found:
+            found.request("GET", path, headers={"Accept": kind, "Connection": "close"})
+            answer = found.getresponse()
+            return answer.status, answer.read().decode()
+
+    def sign_ins(self, browsers: typing.Iterable[str]) -> list[int]:
+        """The statuses of sign-ins, each by a browser with this cookie, or none."""
+        with self.connected() as found:
+            return [self.sign_in(found, it) for it in browsers]
+
+    @staticmethod
+    def sign_in(found: http.client.HTTPConnection, browser: str) -> int:
+        """The status of a sign-in."""
+        cookie = {"Cookie": f"__Host-admissions-browser={browser}"} if browser else {}
+        found.request("POST", "/sign-in", headers={"Content-Length": "0", **cookie})
+        answer = found.getresponse()
+        answer.read()
+        return answer.status
 
 
 @pytest.fixture(name="site")
@@ -126,3 +144,20 @@ def test_an_answer_that_broke_off_is_told_apart(site: Site) -> None:
         status, text = site.get("/")
         thread.join()
     assert (status, "There was no answer" in text) == (502, True)
+
+
+def test_who_makes_up_browsers_leaves_room_for_the_sign_ins_of_others(
+    machine: pathlib.Path, register: registers.Register, write_as_me: None
+) -> None:
+    """A zone that is full of long keys would have no room for the short one of another address."""
+    list(certificates.make(register, HOST))
+    found = Site(machine, register)
+    settings = found.settings.read_text(encoding="utf-8")
+    assert "zone=admissions_sign_in:4m" in settings
+    found.settings.write_text(settings.replace("zone=admissions_sign_in:4m",
+                                               "zone=admissions_sign_in:64k"), encoding="utf-8")
+    with found.served():
+        made_up = set(found.sign_ins(f"{'x' * 190}{at:03}end" for at in range(300)))
+        # (the application does not run)
+        assert (made_up, found.sign_ins(["", "b" * 100])) == (
+            {502}, [502, 502])
