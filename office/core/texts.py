@@ -7,6 +7,9 @@ import unicodedata
 from collections.abc import Iterable
 
 LONGEST = 60
+# what is typed to look for something has so many characters at most, and what else is compared and
+# kept for the next time so many: a longer text is no name, and some thousands would fill the memory
+MOST_SOUGHT, MOST_KEPT = 200, 1_000
 # ends of lines, control characters, and those that turn the direction of the text around them
 UNSHOWN = re.compile("[\x00-\x1f\x7f-\x9f\u2028\u2029\u200e\u200f\u202a-\u202e\u2066-\u2069\ufeff]")
 CONTROL = re.compile("[\x00-\x1f\x7f-\x9f]")
@@ -55,9 +58,19 @@ def plain(text: str) -> str:
     return "".join(it for it in letters if not unicodedata.combining(it)).casefold()
 
 
-@functools.lru_cache(maxsize=1 << 16)
 def folded(name: str) -> str:
     """A name without accents, capitals, punctuation and order of its parts, to be compared."""
+    return kept_folded(name) if len(name) <= MOST_KEPT else made_folded(name)
+
+
+@functools.lru_cache(maxsize=1 << 16)
+def kept_folded(name: str) -> str:
+    """The same of a name, or of a row of a list, which is compared many times."""
+    return made_folded(name)
+
+
+def made_folded(name: str) -> str:
+    """The same, made anew."""
     return " ".join(sorted(re.sub(r"[\W_]+", " ", re.sub(r"['’`]", "", plain(name))).split()))
 
 

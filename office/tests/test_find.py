@@ -3,6 +3,7 @@ asked, so that the right one is opened.
 """
 import pathlib
 import re
+import tracemalloc
 from collections.abc import Iterator
 
 import pytest
@@ -10,6 +11,7 @@ from applications import Site, office_over
 from conftest import apply, child, school
 from pages import Page
 
+from office.core import texts
 from office.web.frame.people import Person
 from office.web.letters.addresses import Addresses
 
@@ -77,3 +79,19 @@ def test_suggestions_name_the_first_preference_of_namesakes(office: Site) -> Non
     assert [it[0] for it in rita.get("/find/near?q=abel").json] == [
         "Zoë Abel-Moor, child 1", "Zoë Abel, child 2, first preference OAK School",
         "Zoe ABEL, child 3, first preference ELM School", "Zoë Abel, child 4"]
+
+
+def test_a_long_text_is_neither_looked_for_nor_kept(office: Site) -> None:
+    """Each word of it would be compared with each child, and some thousands would fill the memory.
+    """
+    rita = office.browser("rita", "reader")
+    for address in ("/find?q=", "/lists/children?words=", "/help/?q="):
+        page = rita.get(address + "x" * 5000)
+        assert page.status_code == 200 and "x" * 200 in page.text and "x" * 201 not in page.text
+    tracemalloc.start()
+    try:
+        for at in range(1000):
+            assert texts.folded(f"{at} {'x' * 5000}").startswith(str(at))
+        assert tracemalloc.get_traced_memory()[0] < 1_000_000
+    finally:
+        tracemalloc.stop()

@@ -58,8 +58,8 @@ def of_address(given: MultiDict[str, str]) -> Choice:
     """What an address chooses."""
     words, at, state, filled, order = (
         given.get(it, "").strip() for it in ("words", "at", "state", "filled", "order"))
-    return Choice(words, at, state, filled, tuple(dict.fromkeys(given.getlist("column"))), order,
-                  bool(given.get("down")))
+    return Choice(words[:texts.MOST_SOUGHT], at, state, filled,
+                  tuple(dict.fromkeys(given.getlist("column"))), order, bool(given.get("down")))
 
 
 def states(rows: Rows) -> list[str]:

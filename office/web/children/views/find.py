@@ -111,7 +111,7 @@ COLUMNS: dict[str, Column[Row]] = {
 
 def asked() -> str:
     """What was typed."""
-    return flask.request.args.get("q", "").strip()
+    return flask.request.args.get("q", "").strip()[:texts.MOST_SOUGHT]
 
 
 @screen.get("/find")

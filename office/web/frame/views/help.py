@@ -9,7 +9,7 @@ import markdown
 import markupsafe
 from werkzeug.wrappers import Response
 
-from office.core import rules
+from office.core import rules, texts
 
 from .. import topics
 from ..guard import SIGNED_IN, needs
@@ -57,7 +57,7 @@ def table_of(rows: str, title: str) -> str:
 @needs(SIGNED_IN)
 def show() -> str:
     """All topics by their groups, or those that have some words."""
-    text = flask.request.args.get("q", "").strip()
+    text = flask.request.args.get("q", "").strip()[:texts.MOST_SOUGHT]
     return flask.render_template(
         "help.html", text=text, found=topics.having(text), groups=topics.groups())
 
