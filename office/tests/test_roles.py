@@ -257,6 +257,21 @@ def test_heads_of_schools_see_a_round_from_its_day_on_and_audited(
     assert statuses(alpha) == {200}
 
 
+def test_lists_that_are_read_while_a_draw_is_sent_are_not_shown(
+    office: Site, monkeypatch: pytest.MonkeyPatch,
+) -> None:
+    """The draw is sent after it was looked whether they are shown, and before they are read."""
+    alpha, program = office.browser("alpha", SCHOOL), office.program("of.alpha", SCHOOL)
+    present, sent = list[None](), types.SimpleNamespace(state="sending")
+    monkeypatch.setattr(office.parts.draws, "present", lambda: present.pop() if present else sent)
+    for get, path in ((alpha.get, "/schools/A/waiting"), (alpha.get, "/schools/A/workbook"),
+                      (program.get, "/school/A/waiting")):
+        present.append(None)
+        answer = get(path)
+        assert answer.status_code == 403 and "once the draw is audited" in answer.text, path
+    assert "took a file" not in [it.what for it in office.parts.history.entries]
+
+
 def test_the_head_of_a_school_sees_no_other(office: Site) -> None:
     """Neither its page, nor its Excel file, nor, as a program, its list."""
     browser, program = office.browser("alpha", SCHOOL), office.program("of.alpha", SCHOOL)

@@ -358,6 +358,20 @@ def see_own_school(code: str) -> None:
         refused(found)
     if said := hidden():
         flask.abort(403, said)
+    flask.g.is_of_school = True
+
+
+def see_shown(response: flask.Response) -> flask.Response:
+    """Looks once more whether the lists of a school are shown, now that the answer is made: a draw
+    may have been sent since the first look, and before they were read.
+    """
+    if not flask.g.get("is_of_school"):
+        return response
+    try:
+        said = hidden()
+    except Refused as error:
+        said = str(error)
+    return flask.make_response(failed(403, said)) if said else response
 
 
 def hidden() -> str:
@@ -451,6 +465,7 @@ def guarded(app: flask.Flask) -> None:
     app.after_request(keep_turn)
     app.after_request(headers)
     app.after_request(record_export)
+    app.after_request(see_shown)
     app.teardown_request(leave)
     app.register_error_handler(Refused, on_refused)
     app.register_error_handler(OSError, on_files)
