@@ -44,6 +44,12 @@ class Site:
             f"http {{ {self.paths(folder)}\n{text} }}\n",
             encoding="utf-8")
 
+    def change(self, old: str, new: str) -> None:
+        """Has something otherwise than on a machine."""
+        text = self.settings.read_text(encoding="utf-8")
+        assert old in text
+        self.settings.write_text(text.replace(old, new), encoding="utf-8")
+
     @staticmethod
     def paths(folder: pathlib.Path) -> str:
         """Where nginx writes what it must."""
@@ -146,16 +152,51 @@ def test_an_answer_that_broke_off_is_told_apart(site: Site) -> None:
     assert (status, "There was no answer" in text) == (502, True)
 
 
+def test_few_long_bodies_of_one_address_are_read_at_once(
+    machine: pathlib.Path, register: registers.Register, write_as_me: None
+) -> None:
+    """Each is kept on the disk until all of it has come, as slowly as its sender likes."""
+    list(certificates.make(register, HOST))
+    found, asked = Site(machine, register), threading.Semaphore(0)
+    found.change("client_body_timeout 10s;", "client_body_timeout 600s;")
+
+    def say_who_asks(listener: socket.socket) -> None:
+        with contextlib.suppress(OSError):
+            while True:
+                taken, _ = listener.accept()
+                with taken:
+                    taken.recv(1 << 16)
+                    taken.sendall(b"HTTP/1.1 204 No Content\r\nConnection: close\r\n\r\n")
+                asked.release()
+
+    def begin(held: contextlib.ExitStack, **field: str) -> http.client.HTTPConnection:
+        """A request of which a part of the body is sent."""
+        made = held.enter_context(found.connected())
+        made.putrequest("POST", "/applications/gazetteer/file")
+        for name, value in field.items():
+            made.putheader(name.replace("_", "-"), value)
+        made.endheaders(b"5\r\nbegin\r\n")
+        return made
+
+    with socket.socket(socket.AF_UNIX) as listener, contextlib.ExitStack() as held:
+        listener.bind(str(found.socket))
+        listener.listen(64)
+        threading.Thread(target=say_who_asks, args=(listener,), daemon=True).start()
+        with found.served():
+            for length in (*["60000000"] * 8, *["99999"] * 9):
+                begin(held, Content_Length=length)
+                assert asked.acquire(timeout=60)
+            for field in ({"Content_Length": "100000"}, {"Transfer_Encoding": "chunked"}):
+                assert begin(held, **field).getresponse().status == 429, field
+
+
 def test_who_makes_up_browsers_leaves_room_for_the_sign_ins_of_others(
     machine: pathlib.Path, register: registers.Register, write_as_me: None
 ) -> None:
     """A zone that is full of long keys would have no room for the short one of another address."""
     list(certificates.make(register, HOST))
     found = Site(machine, register)
-    settings = found.settings.read_text(encoding="utf-8")
-    assert "zone=admissions_sign_in:4m" in settings
-    found.settings.write_text(settings.replace("zone=admissions_sign_in:4m",
-                                               "zone=admissions_sign_in:64k"), encoding="utf-8")
+    found.change("zone=admissions_sign_in:4m", "zone=admissions_sign_in:64k")
     with found.served():
         made_up = set(found.sign_ins(f"{'x' * 190}{at:03}end" for at in range(300)))
         # (the application does not run)
