@@ -33,6 +33,8 @@ def make(register: Register, host: str) -> typing.Iterator[str]:
     """Makes what is missing of a key, a request for a certificate, and a certificate that the key
     itself signs. Returns a line for each."""
     key, certificate, request = paths(register)
+    if certificate.exists() and not key.exists():
+        raise Refused(f"{key_problem(register)}: {repair(register)}")
     if not key.exists():
         files.write(key, new_key(), 0o600)
         yield f"made the key {key}"
@@ -77,6 +79,14 @@ def command(register: Register) -> str:
     return f"admissions-admin certificate {register.name} FILE"
 
 
+def repair(register: Register) -> str:
+    """What is typed where nginx cannot serve the site with its certificate: a lost key is made
+    anew, for which a CA signs another one."""
+    if paths(register)[0].exists():
+        return command(register)
+    return f"admissions-admin request {register.name} --new-key"
+
+
 def is_self_signed(certificate: pathlib.Path) -> bool:
     names = openssl(
         "x509", "-in", certificate, "-noout", "-subject", "-issuer", "-nameopt", "RFC2253"
@@ -87,6 +97,9 @@ def is_self_signed(certificate: pathlib.Path) -> bool:
 def key_problem(register: Register) -> str | None:
     """Why nginx cannot serve the site, where the certificate is not of the key."""
     key, certificate, _ = paths(register)
+    for it in (key, certificate):
+        if not it.exists():
+            return f"{it} is not there, so nginx cannot serve the site"
     if is_pair(certificate, key):
         return None
     return f"{certificate} is not of the key {key}, so nginx cannot serve the site"

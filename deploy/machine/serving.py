@@ -25,6 +25,8 @@ NEEDED = {
 # what the office's application imports
 MODULES = ("argon2", "authlib", "flask", "gunicorn", "markdown", "requests")
 WAIT = 60
+# what a server answers to everything once its store has failed, until it is restarted
+STOPPED = 503
 # where systemd finds what starts no more
 MASKS = pathlib.Path("/etc/systemd/system")
 # what the application asks for
@@ -144,9 +146,10 @@ def is_closed(register: Register) -> bool:
 def answers_of(socket: pathlib.Path, wanted: tuple[int, ...], what: str, unit: str) -> None:
     """Waits until what is behind a socket answers."""
     end = time.monotonic() + WAIT
-    while status_of(socket) not in wanted:
+    while (status := status_of(socket)) not in wanted:
         if time.monotonic() > end:
-            raise Refused(f"{what} does not answer: journalctl -u {unit}")
+            said = f"answers {status}" if status else "does not answer"
+            raise Refused(f"{what} {said}: journalctl -u {unit}")
         time.sleep(0.1)
 
 

@@ -203,6 +203,25 @@ def test_a_key_that_others_have_is_replaced_and_is_nowhere_afterwards(
     assert "have the CA revoke its certificate" in capsys.readouterr().out
 
 
+def test_a_key_that_is_lost_is_made_anew(
+    at_site: registers.Register, tmp_path: pathlib.Path
+) -> None:
+    """By what the status says, and set-up makes none for which the site has no certificate."""
+    how = f"admissions-admin request {at_site.name} --new-key"
+    (at_site.settings / "site.key").unlink()
+    found = status.report(at_site)["certificate"]
+    assert found.level.label == "FAILED" and found.text.endswith(f"cannot serve the site: {how}")
+    with pytest.raises(Refused, match=f"site.key is not there, .*: {how}$"):
+        list(certificates.make(at_site, HOST))
+    request = tmp_path / "new.csr"
+    assert typed("request", "--new-key") == 0
+    key = at_site.settings / "site.key.new"
+    request.write_text(certificates.requested(key, HOST), encoding="ascii")
+    assert typed("certificate", str(signed(tmp_path, "new", request, key)), "--yes") == 0
+    assert certificates.key_problem(at_site) is None
+    assert set(content(at_site)) == {*NAMES, "site-name"}
+
+
 def killed(*_: object, **more: object) -> typing.NoReturn:
     """As a command that is killed there."""
     raise KeyboardInterrupt

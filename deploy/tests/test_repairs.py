@@ -95,7 +95,7 @@ def test_a_changed_history_is_mended(
 
 
 @pytest.mark.parametrize("answer, end", [
-    (503, f"systemctl restart admissions@{NAME}"),
+    (503, f"admissions-admin open {NAME}"),
     (None, f"systemctl start admissions@{NAME}.service"),
     (500, f"journalctl -n 20 -u admissions@{NAME}"),
 ])

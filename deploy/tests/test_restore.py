@@ -11,7 +11,7 @@ import typing
 import pytest
 from conftest import Systemd, Terminal, document, typed
 from machine import brought, copies, files, office_copy, office_store, people, registers, serving
-from machine.verbs import copy as copy_verb, restore, status, takeover
+from machine.verbs import copy as copy_verb, open as open_verb, restore, status, takeover
 from office.web.register.history import ANSWER, SENDS, History
 from register_files import Refused
 
@@ -281,6 +281,19 @@ def test_what_stands_in_the_way_is_named(
     with pytest.raises(Refused, match=f"has no nightly copy: admissions-admin takeover {NAME}"):
         typed("restore", "--yes")
     assert systemd.calls == [] and damaged.file.read_text(encoding="ascii") == "damaged"
+
+
+def test_a_server_that_refuses_everything_is_restarted(
+    users: registers.Register, systemd: Systemd, monkeypatch: pytest.MonkeyPatch,
+    capsys: pytest.CaptureFixture[str],
+) -> None:
+    """As after a full disk; one that answers is not."""
+    cases: list[tuple[int, list[str]]] = [(503, [f"restart admissions@{NAME}.service"]), (404, [])]
+    for answer, wanted in cases:
+        monkeypatch.setattr(open_verb, "status_of", lambda _, answer=answer: answer)
+        assert typed("open") == 0
+        assert systemd.lines("restart", "start") == [*wanted, *STARTS]
+        assert capsys.readouterr().out.startswith("restarted") == bool(wanted)
 
 
 def test_an_office_is_closed_until_it_is_opened(

@@ -299,6 +299,8 @@ def test_encrypted_copies_that_nobody_opens_need_attention(
         os.utime(path, (time.time() - days * 86400, time.time() - days * 86400))
     found, text = status.drill_of(register)
     assert (found, "opened there" in text) == (is_well, True)
+    how = f"admissions-admin drill {register.name} --identity FILE"
+    assert text.endswith(how) == (not is_well)
 
 
 def test_a_record_of_what_was_sent_that_is_lost_or_damaged(

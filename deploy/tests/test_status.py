@@ -146,7 +146,7 @@ def test_the_days_of_a_certificate(
     "text, is_well, said",
     [
         (None, False, "no second place is named in"),
-        ("# one line\n", False, "write `none` if there shall be none"),
+        ("# one line\n", False, "admissions-admin second-place PLACE, or second-place none"),
         ("# one line\nnone\n", True, "none, as"),
         ("/mnt/copies\n", False, "copied nothing to /mnt/copies yet"),
         ("none\n/mnt/copies\n", False, "must have one line"),

@@ -3,7 +3,8 @@
   admissions-admin open [NAME]
 
 It starts the server, the application and the timers, also those that failed,
-and waits until both answer.
+and waits until both answer. A server that refuses everything, as after a full
+disk, is restarted.
 
 example:
   admissions-admin open secondary-2025
@@ -13,6 +14,7 @@ import argparse
 from register_files import Refused
 
 from .. import answers, second_copy, serving
+from ..desk import status_of
 from . import takeover
 
 
@@ -29,6 +31,9 @@ def main(given: argparse.Namespace) -> int:
     if serving.is_closed(register):
         units = (*serving.application(register), serving.desk(register))
         serving.systemctl("unmask", *units)
+    if status_of(register.socket) == serving.STOPPED:
+        serving.systemctl("restart", serving.desk(register))
+        print(f"restarted {serving.desk(register)}", flush=True)
     if not serving.start(register):
         return 1
     print(f"{register.name} is open at https://{register.host}/")

@@ -254,9 +254,9 @@ def desk_of(register: Register) -> State:
     status = status_of(register.socket)
     if status in (200, 404):
         return True, f"answers in {1000 * (time.monotonic() - before):.0f} ms"
-    if status == 503:
+    if status == serving.STOPPED:
         raise Failed("answers 503: it refuses everything, mostly since a disk is full. Once there"
-                     f" is room: systemctl restart admissions@{register.name}")
+                     f" is room: admissions-admin open {register.name}")
     if status is None:
         raise Failed(f"does not answer: {repairs.desk_line(register)}")
     raise Failed(f"answers {status}: journalctl -n 20 -u admissions@{register.name}")
@@ -498,7 +498,7 @@ def second_of(register: Register) -> State:
         return True, f"none, as {setting} says"
     if place is None:
         lost = f"no second place is named in {setting}, so all copies are lost with this machine"
-        return False, f"{lost}: name one there, or write `{NONE}` if there shall be none"
+        return False, f"{lost}: admissions-admin second-place PLACE, or second-place {NONE}"
     see_taken_over(register)
     found = report_of(register, SECOND)
     how = f"systemctl start admissions-second-copy@{register.name}"
@@ -526,11 +526,11 @@ def drill_of(register: Register) -> State:
     text = f"{found[0]}; {age_text(found[1])}"
     if NOT_TRIED not in found[0]:
         return is_well, text
-    if opened := report_of(register, OPENED):
-        is_opened = is_recent(opened[1], DRILL_DAYS * 86400)
-        return is_well and is_opened, f"{text}; one was opened there {age_text(opened[1])}"
-    how = f"/usr/lib/admissions/drill {register.name} --identity FILE"
-    return is_well and is_young(register), f"{text}; none was opened there yet: {how}"
+    opened = report_of(register, OPENED)
+    is_opened = is_recent(opened[1], DRILL_DAYS * 86400) if opened else is_young(register)
+    said = f"one was opened there {age_text(opened[1])}" if opened else "none was opened there yet"
+    how = "" if is_opened else f": admissions-admin drill {register.name} --identity FILE"
+    return is_well and is_opened, f"{text}; {said}{how}"
 
 
 def is_young(register: Register) -> bool:
@@ -561,7 +561,7 @@ def certificate_of(register: Register) -> State:
     if register.host is None:
         return True, "it has no site"
     if problem := certificates.key_problem(register):
-        raise Failed(f"{problem}: {certificates.command(register)}")
+        raise Failed(f"{problem}: {certificates.repair(register)}")
     days = certificates.days_left(certificate)
     if days <= 0:
         ends = "has ended" if days < 0 else "ends"
