@@ -109,8 +109,13 @@ def test_a_role_that_another_has_changed_meanwhile_stays(
 def test_another_password_ends_the_first(
     users: registers.Register, capsys: pytest.CaptureFixture[str]
 ) -> None:
+    """Once that is confirmed."""
     first = people.reset(users, "jane")
-    assert typed("people", users.name, "--user", "jane", "--new-password") == 0
+    words = ("people", users.name, "--user", "jane", "--new-password")
+    with pytest.raises(Refused, match="jane gets another password .*: nothing was changed"):
+        typed(*words)
+    assert signs_in(users, "jane", first)
+    assert typed(*words, "--yes") == 0
     [line] = capsys.readouterr().out.splitlines()
     assert (signs_in(users, "jane", first), signs_in(users, "jane", line.split()[-1])) == (
         False, True)

@@ -104,6 +104,8 @@ def give(register: Register, given: argparse.Namespace) -> None:
         people.set_role(register, found, given.role)
         print(f"{name} has the role {given.role}, and no longer {found.role}", flush=True)
     if given.new_password:
+        confirm(f"{name} gets another password in place of the one before, and is signed out",
+                given.yes)
         print(f"{signs_in} {people.reset(register, name)}")
     else:
         print(f"{name} keeps the password; to draw another one: {another}")
