@@ -4,6 +4,7 @@ import argparse
 import contextlib
 import datetime
 import os
+import pathlib
 import re
 import socket
 import sys
@@ -97,6 +98,12 @@ def file(name: str) -> str:
     if not os.path.isfile(path):
         raise Refused(f"{path} is not there, or is no file", 2)
     return path
+
+
+def identity_file(name: str | None) -> pathlib.Path:
+    """The identity file that is given, or that is typed on the terminal."""
+    what = "--identity, the identity file that opens the encrypted copies"
+    return pathlib.Path(file(name) if name else ask(what, file))
 
 
 def ask(question: str, take: typing.Callable[[str], Taken], default: str = "") -> Taken:

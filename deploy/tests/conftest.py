@@ -22,6 +22,7 @@ import machine as package  # noqa: E402
 from machine import (  # noqa: E402
     admin, files, people, programs, registers, second_copy, serving,
 )
+from machine.verbs import takeover  # noqa: E402
 
 # the modules, of which some name a folder of the machine by a constant of registers
 MODULES = [importlib.import_module(it.name)
@@ -104,6 +105,15 @@ def document(schools: int = 0, holidays: typing.Sequence[str] = ()) -> str:
     return json.dumps({"children": [], "draws": [], "schools": listed, "season": season})
 
 
+def stand_in(machine: pathlib.Path, monkeypatch: pytest.MonkeyPatch) -> None:
+    """Has the machine show a register by a stand-in for the program."""
+    program = machine / "admissions"
+    program.write_text(STAND_IN, encoding="utf-8")
+    program.chmod(0o755)
+    for module in (registers, takeover):
+        monkeypatch.setattr(module, "program", lambda name: str(machine / name))
+
+
 @pytest.fixture(name="register")
 def register_fixture(
     machine: pathlib.Path, monkeypatch: pytest.MonkeyPatch
@@ -115,10 +125,7 @@ def register_fixture(
     ):
         path.mkdir()
     register.file.write_text(document(), encoding="utf-8")
-    program = machine / "admissions"
-    program.write_text(STAND_IN, encoding="utf-8")
-    program.chmod(0o755)
-    monkeypatch.setattr(registers, "program", lambda name: str(machine / name))
+    stand_in(machine, monkeypatch)
     (register.settings / "site-name").write_text("admissions.example\n")
     return register
 

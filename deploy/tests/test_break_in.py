@@ -140,9 +140,14 @@ def test_evidence_is_kept_once_and_is_not_read_by_others(
 def test_programs_that_one_machine_alone_has_are_named(
     kept: pathlib.Path, capsys: pytest.CaptureFixture[str]
 ) -> None:
-    """Also where it is typed again."""
+    """Also where it is typed again, which replaces what is there after a yes."""
     (kept / "usr/sbin/admissions-admin").unlink()
-    assert typed("evidence", "--open", str(kept / "mnt/evidence")) == 0
+    note = add(kept / "root/seized/note", "what was found")
+    with pytest.raises(Refused, match="root/seized is unpacked anew: .*: nothing was changed"):
+        typed("evidence", "--open", str(kept / "mnt/evidence"))
+    assert note.exists()
+    assert typed("evidence", "--open", str(kept / "mnt/evidence"), "--yes") == 0
+    assert not note.exists()
     assert "usr/sbin/admissions-admin is on the seized machine alone\n" in capsys.readouterr().out
 
 
@@ -180,7 +185,7 @@ def test_what_is_no_file_among_the_copies_of_the_machine_is_named_and_not_read(
 
 
 def test_encrypted_copies_are_decrypted_aside(
-    kept: pathlib.Path, capsys: pytest.CaptureFixture[str]
+    kept: pathlib.Path, monkeypatch: pytest.MonkeyPatch, capsys: pytest.CaptureFixture[str]
 ) -> None:
     """All of them: also the history, and copies from before encryption. One of another key is
     named."""
@@ -195,11 +200,13 @@ def test_encrypted_copies_are_decrypted_aside(
         key = public[path.name == LATER]
         sealed.encrypt(path, path.with_name(f"{path.name}.age"), key)
         path.unlink()
-    with pytest.raises(Refused, match="is encrypted: repeat the line with --identity FILE"):
-        typed("evidence", NAME, "--compare", str(there.parent))
-    for _ in range(2):
-        words = ["evidence", NAME, "--compare", str(there.parent), "--identity", str(keys[0])]
-        assert typed(*words) == 0
+    words = ["evidence", NAME, "--compare", str(there.parent)]
+    with pytest.raises(Refused, match="^not given: --identity, the identity file that opens"):
+        typed(*words)
+    given: list[list[str]] = [["--identity", str(keys[0])], []]
+    for more in given:
+        monkeypatch.setattr(sys, "stdin", Terminal(f"{keys[0]}\n"))
+        assert typed(*words, *more) == 0
         said = capsys.readouterr().out
         assert f"{LATER}.age does not open" in said and f"{LATER} is not in " in said
         assert "3 of 4 files of nights are equal" in said

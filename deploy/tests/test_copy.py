@@ -214,11 +214,19 @@ def test_a_disk_is_the_second_place(
 
 
 def test_no_place_is_named_to_which_nothing_goes_encrypted(
-    place: pathlib.Path, machine: pathlib.Path, capsys: pytest.CaptureFixture[str]
+    place: pathlib.Path, machine: pathlib.Path, monkeypatch: pytest.MonkeyPatch,
+    capsys: pytest.CaptureFixture[str],
 ) -> None:
-    """With the key in the same line it is."""
-    with pytest.raises(Refused, match="only encrypted: admissions-admin second-place --encrypt"):
+    """Without a key it is asked for. With the key in the same line it is named."""
+    with pytest.raises(Refused, match="^not given: --encrypt, the public key"):
         typed("second-place", str(place))
+    with monkeypatch.context() as patch:
+        patch.setattr(sys, "stdin", Terminal(f"age1\nage1{'b' * 58}\n"))
+        assert typed("second-place", str(place)) == 0
+    assert sealed.recipient() == f"age1{'b' * 58}"
+    assert "that is no public key of age" in capsys.readouterr().out
+    (machine / "etc/second-copy-recipient").unlink()
+    (machine / "etc/second-copy").write_text("# a remark\n")
     assert setting(machine) == ["# a remark"]
     assert typed("second-place") == 0 and "names no key, so nothing" in capsys.readouterr().out
     assert typed("second-place", str(place), "--encrypt", f"age1{'a' * 58}") == 0
@@ -255,7 +263,7 @@ def test_a_wrong_place_or_key_changes_nothing(
     monkeypatch: pytest.MonkeyPatch,
 ) -> None:
     monkeypatch.setattr(sys, "stdin", io.StringIO(""))
-    monkeypatch.setattr(sealed, "needed", lambda: "a key")
+    monkeypatch.setattr(sealed, "recipient", lambda: "a key")
     with pytest.raises(Refused, match=said) as found:
         typed("second-place", *words)
     assert (found.value.status, setting(machine)) == (2, ["# a remark"])
@@ -321,4 +329,5 @@ def test_a_machine_that_is_not_reached_is_no_second_place(
     assert setting(machine) == ["# a remark"]
     assert typed("second-place", "copies@vault.example:copies") == 0
     assert setting(machine) == ["# a remark", "copies@vault.example:copies"]
-    assert calls[0][1:] == ["--list-only", "copies@vault.example:copies/"]
+    assert calls[0][1:] == ["--list-only", "--rsh", second_place.ASKS,
+                            "copies@vault.example:copies/"]

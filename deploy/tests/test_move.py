@@ -223,10 +223,10 @@ def test_a_wrong_place_or_name_moves_nothing(
 
 
 @pytest.mark.parametrize("place, name, is_done", [
-    # (a machine for trials, and typed again; one in use, with a place, none or neither; one that is
-    # prepared to take a register over)
-    ("# a comment\n", "", True), ("none\n", "primary-2026", True), ("/mnt/copies\n", NAME, False),
-    ("# a comment\n", NAME, False), ("/mnt/copies\n", "", False),
+    # (a machine for trials; one in use, with and without a place; one that is prepared to take a
+    # register over)
+    ("# a comment\n", "", True), ("/mnt/copies\n", "primary-2026", False),
+    ("# a comment\n", "primary-2026", False), ("# a comment\n/mnt/copies\n", "", True),
 ])
 @pytest.mark.parametrize("verb", ["rehearse", "takeover"])
 def test_the_second_place_of_a_machine_in_use_is_not_switched_off(
@@ -244,9 +244,7 @@ def test_the_second_place_of_a_machine_in_use_is_not_switched_off(
     more = ["--site", "trial.example"] if verb == "rehearse" else ["--no-copies"]
     with pytest.raises(KeyboardInterrupt if is_done else Refused):
         typed(verb, NAME, "/mnt/copies", *more)
-    assert second_copy.line_of() == ("none" if is_done else second_copy.line_of())
-    assert path.read_text().startswith(place.splitlines()[0])
-    assert is_done or path.read_text() == place
+    assert path.read_text() == ("# a comment\nnone\n" if is_done else place)
 
 
 def test_a_rehearsal_says_how_long_it_took_and_what_the_copy_has(
@@ -259,11 +257,10 @@ def test_a_rehearsal_says_how_long_it_took_and_what_the_copy_has(
         given.append(words)
         return 0
 
-    monkeypatch.setattr(takeover, "main", take_over)
+    monkeypatch.setattr(takeover, "taken", take_over)
     monkeypatch.setattr(drill, "main", lambda it: print("restored and opened"))
     assert typed("rehearse", NAME, "/mnt/copies", "--site", "trial.example") == 0
-    assert (given[0].no_copies, given[0].site, given[0].place) == (
-        True, "trial.example", "/mnt/copies")
+    assert (given[0].site, given[0].place) == ("trial.example", "/mnt/copies")
     assert capsys.readouterr().out.startswith("it took 0 seconds\nrestored and opened\nnext: ")
     for words in ([NAME], [NAME, "/mnt/copies"]):
         with pytest.raises(Refused, match="PLACE and --site are missing"):
@@ -274,7 +271,7 @@ def test_a_rehearsal_is_ended_where_it_was_and_nowhere_else(
     register: registers.Register, machine: pathlib.Path, monkeypatch: pytest.MonkeyPatch,
     write_as_me: None,
 ) -> None:
-    """The line none goes with the last register, and only if that was deleted."""
+    """With the last register, and only if that was deleted, the second place is named again."""
     given: list[argparse.Namespace] = []
 
     def delete(words: argparse.Namespace) -> int:
@@ -285,9 +282,16 @@ def test_a_rehearsal_is_ended_where_it_was_and_nowhere_else(
     path = machine / "etc/second-copy"
     path.write_text("# a comment\n/mnt/copies\n")
     monkeypatch.setattr(retire, "main", delete)
-    with pytest.raises(Refused, match="no rehearsal was prepared on this machine"):
-        typed("rehearse", NAME, "--end", "--yes")
-    path.write_text("# a comment\nnone\n")
+    for line in ("/mnt/copies", "none"):
+        path.write_text(f"# a comment\n{line}\n")
+        with pytest.raises(Refused, match="no rehearsal was begun on this machine"):
+            typed("rehearse", NAME, "--end", "--yes")
+    register.file.unlink()
+    path.write_text("# a comment\n/mnt/copies\n")
+    for _ in range(2):
+        # (the second one is typed again)
+        rehearse.copy_nowhere()
+    register.file.write_text(document())
     (machine / "lib/primary-2026").mkdir()
     other = machine / "lib/primary-2026/reg.db"
     other.write_text(document())
@@ -297,4 +301,5 @@ def test_a_rehearsal_is_ended_where_it_was_and_nowhere_else(
     other.unlink()
     register.file.write_text(document())
     assert typed("rehearse", NAME, "--end") == 0 and not given[1].yes
-    assert path.read_text() == "# a comment\n"
+    assert path.read_text() == "# a comment\n/mnt/copies\n"
+    assert not (machine / "etc" / rehearse.BEFORE).exists()

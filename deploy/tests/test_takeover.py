@@ -9,13 +9,17 @@ import pathlib
 import pwd
 import shutil
 import subprocess
+import sys
 import tempfile
 import typing
 
 import pytest
-from conftest import document, typed
-from machine import brought, copies, files, office_copy, registers, sealed, serving
-from machine.verbs import setup, status, takeover
+from conftest import Systemd, Terminal, document, stand_in, typed
+from machine import (
+    brought, certificates, copies, files, office_copy, registers, repairs, sealed, second_copy,
+    serving,
+)
+from machine.verbs import second_place, setup, status, takeover
 from office.web.register.history import ANSWER, RESTORED, SENDS, History
 from register_files import Refused
 
@@ -78,10 +82,10 @@ def test_what_is_fetched_from_a_disk_is_written_by_the_user_of_the_copies(
 
 def test_what_is_encrypted_is_opened_with_the_identity_of_this_machine(
     place: pathlib.Path, machine: pathlib.Path, write_as_me: None, tmp_path: pathlib.Path,
-    monkeypatch: pytest.MonkeyPatch,
+    monkeypatch: pytest.MonkeyPatch, capsys: pytest.CaptureFixture[str],
 ) -> None:
-    """All of it, also the history; without the file nothing is set up, and the message says how it
-    is given. It may be lent by the line. What was sent before the key was set is taken as it is.
+    """All of it, also the history; without the file it is asked for, and without a terminal nothing
+    is set up. It may be lent by the line. What was sent before the key was set is taken as it is.
     """
     monkeypatch.setattr(sealed, "MEMORY", tmp_path)
     identity = machine / "etc/second-copy-identity"
@@ -94,8 +98,13 @@ def test_what_is_encrypted_is_opened_with_the_identity_of_this_machine(
     for it in names:
         subprocess.run(["age", "-r", key, "-o", there / f"{it}.age", there / it], check=True)
         (there / it).unlink()
-    with pytest.raises(Refused, match="is encrypted: repeat the line with --identity FILE"):
+    with pytest.raises(Refused, match="^not given: --identity, the identity file that opens"):
         takeover.fetch(NAME, str(place))
+    with monkeypatch.context() as patch:
+        patch.setattr(sys, "stdin", Terminal(f"/gone\n{tmp_path / 'vault.key'}\n"))
+        copy = takeover.fetch(NAME, str(place))
+    assert "/gone is not there, or is no file" in capsys.readouterr().out
+    assert {it: (copy.parent / it).read_bytes() for it in names} == wanted
     identity.write_bytes((tmp_path / "vault.key").read_bytes())
     identity.chmod(0o640)
     with pytest.raises(Refused, match=f"chown admissions: {identity} && chmod 400 {identity}$"):
@@ -107,12 +116,12 @@ def test_what_is_encrypted_is_opened_with_the_identity_of_this_machine(
     with pytest.raises(Refused, match=r"\.age is encrypted for another key than that of .*\(age1"):
         takeover.fetch(NAME, str(place))
     with pytest.raises(Refused, match=r"\.age is encrypted for another key than that of .*\(age1"):
-        takeover.fetch(NAME, str(place), identity=identity.with_name("wrong"))
+        takeover.fetch(NAME, str(place), identity=str(identity.with_name("wrong")))
     identity.chmod(0o600)
     identity.write_bytes((tmp_path / "vault.key").read_bytes())
     identity.chmod(0o400)
     identity.unlink()
-    copy = takeover.fetch(NAME, str(place), identity=tmp_path / "vault.key")
+    copy = takeover.fetch(NAME, str(place), identity=str(tmp_path / "vault.key"))
     assert copy.name == COPIES[2]
     assert {it: (copy.parent / it).read_bytes() for it in names} == wanted
     found = {str(it.relative_to(copy.parent)): it.stat().st_mode & 0o777
@@ -151,9 +160,46 @@ def test_a_machine_that_has_the_register_does_not_take_over(
     register: registers.Register, place: pathlib.Path, monkeypatch: pytest.MonkeyPatch
 ) -> None:
     monkeypatch.setattr(registers, "is_blank", lambda _: False)
+    monkeypatch.setattr(serving, "see_needed", lambda: None)
     with pytest.raises(Refused, match="is there already, so this machine does not take over"):
-        takeover.fetch(NAME, str(place))
+        typed("takeover", NAME, str(place), "--yes")
     assert not list(register.copies.iterdir())
+
+
+def test_a_register_that_cannot_be_read_is_made_again_from_the_second_place(
+    register: registers.Register, made: "Made", takes_over: "Takeover", systemd: Systemd,
+    monkeypatch: pytest.MonkeyPatch,
+) -> None:
+    """As both its status and `restore` say where no nightly copy is here. After a yes its server is
+    stopped; the restore keeps what is there, once."""
+    made.register.file.write_text("damaged", encoding="ascii")
+    how = f"admissions-admin takeover {NAME}"
+    assert repairs.register_line(register) == how
+    with pytest.raises(Refused, match=f"has no nightly copy: {how}$"):
+        typed("restore", NAME, "--yes")
+    restored: list[tuple[object, ...]] = []
+
+    def restore(*words: object, **_: object) -> None:
+        restored.append(words)
+        register.file.write_text(document(), encoding="utf-8")
+
+    def set_up() -> int:
+        for _ in range(2):
+            list(setup.make_register(register, takes_over.given))
+        made.all_of_it(takes_over.given)
+        return 0
+
+    monkeypatch.setattr(setup, "call", restore)
+    monkeypatch.setattr(setup, "program", str)
+    monkeypatch.setattr(setup, "give_to_desk", lambda _: None)
+    with pytest.raises(Refused, match="reg.db cannot be read .* nothing was changed"):
+        takes_over.ended(set_up)
+    assert (systemd.calls, restored, register.nightly_copies()) == ([], [], [])
+    assert takes_over.ended(set_up, "--yes") == 0
+    assert systemd.lines("stop")[-1].endswith(f" admissions@{NAME}.service")
+    copy = register.copies / COPIES[2]
+    assert [it[1:] for it in restored] == [(str(copy), register.file)]
+    assert made.waiting() == [[3]]
 
 
 def test_a_place_without_the_register(
@@ -215,6 +261,7 @@ class Takeover:
         self.monkeypatch, self.place = monkeypatch, place
         self.given = argparse.Namespace()
         monkeypatch.setattr(serving, "see_needed", lambda: None)
+        monkeypatch.setattr(certificates, "is_self_signed", lambda _: True)
 
     def ended(self, step: typing.Callable[[], int], *more: str) -> int:
         """The status with which it ends, if a step sets the register up."""
@@ -239,6 +286,7 @@ def other_fixture(
     before the second copy, one before the last, and one after it."""
     monkeypatch.setattr(registers, "is_blank", lambda _: False)
     monkeypatch.setattr(office_copy, "give", lambda _: None)
+    stand_in(machine, monkeypatch)
     other = registers.Register("other")
     other.office.mkdir()
     for child, moment in enumerate(("02T02:29", "02T09:00", "03T09:00"), 1):
@@ -417,12 +465,45 @@ def test_what_else_was_done_since_is_counted(
         assert found and said in found.done[0].said
 
 
-def test_the_identity_that_remains_is_named(
-    machine: pathlib.Path, capsys: pytest.CaptureFixture[str]
+@pytest.mark.parametrize("more", [[], ["--no-copies"]])
+def test_what_is_next_is_in_the_order_in_which_it_can_be_done(
+    more: list[str], machine: pathlib.Path, made: Made, takes_over: Takeover,
+    capfd: pytest.CaptureFixture[str],
 ) -> None:
-    takeover.remind()
-    assert capsys.readouterr().out == ""
-    identity = machine / "etc/second-copy-identity"
-    identity.touch()
-    takeover.remind()
-    assert f"rm {identity}" in capsys.readouterr().out
+    """The identity file goes, a second place is named where none is, and nobody reaches the screen
+    that sends again before the certificate and the name are right."""
+    def done() -> int:
+        made.all_of_it(takes_over.given)
+        return 0
+
+    (machine / "etc/second-copy").write_text(
+        "# a remark\n" if more else f"{takes_over.place}\n", encoding="utf-8")
+    (machine / "etc/second-copy-identity").touch(0o400)
+    assert takes_over.ended(done, *more) == 0
+    said = [it for it in capfd.readouterr().out.splitlines() if it.startswith("next, ")]
+    wanted = [f"rm {machine / 'etc/second-copy-identity'}",
+              "admissions-admin second-place PLACE" if more else f"copies go to {takes_over.place}",
+              f"admissions-admin people {NAME}", "let a CA sign ",
+              "lead admissions.example to this machine", "the office sends again"]
+    assert [it.startswith(f"next, {number}: {begin}") for number, (it, begin) in enumerate(
+        zip(said, wanted, strict=True), 1)] == [True] * len(wanted), said
+    assert second_copy.line_of() == ("" if more else str(takes_over.place))
+
+
+def test_another_machine_that_was_never_met_is_seen_before_anything_is_fetched(
+    machine: pathlib.Path, write_as_me: None, monkeypatch: pytest.MonkeyPatch
+) -> None:
+    """ssh asks on the terminal whether its key is right, as a copy never does."""
+    calls: list[list[str]] = []
+
+    def run(words: list[str], **_: object) -> "subprocess.CompletedProcess[str]":
+        calls.append(words)
+        return subprocess.CompletedProcess(words, 1, "", "")
+
+    monkeypatch.setattr(subprocess, "run", run)
+    with pytest.raises(Refused, match="second-place --ssh-key prints what that machine needs"):
+        takeover.fetch(NAME, "copies@vault.example:copies")
+    [words] = calls
+    assert words[1:] == ["--list-only", "--rsh", second_place.ASKS, "copies@vault.example:copies/"]
+    assert "BatchMode" not in second_place.ASKS and "BatchMode=yes" in second_copy.SSH
+    assert not (machine / "backups" / NAME).exists()

@@ -74,12 +74,12 @@ def main(given: argparse.Namespace) -> int:
     if given.keep:
         return keep(mounted(given.keep))
     if given.open:
-        return unpack(pathlib.Path(given.open))
+        return unpack(pathlib.Path(given.open), given.yes)
     if not given.name:
         raise Refused("NAME is missing: of which register?", 2)
     if given.compare:
         return compare(named(given.name), pathlib.Path(given.compare), given.identity)
-    return check(named(given.name), pathlib.Path(given.check))
+    return check(named(given.name), pathlib.Path(answers.file(given.check)))
 
 
 def stop(is_confirmed: bool) -> int:
@@ -133,7 +133,7 @@ def keep(place: pathlib.Path) -> int:
     return 0
 
 
-def unpack(place: pathlib.Path) -> int:
+def unpack(place: pathlib.Path, is_confirmed: bool) -> int:
     """Unpacks what was kept, as it was kept, and names programs that are none of this release."""
     sums = (place / SUMS).read_text(encoding="ascii")
     print(f"compare with what you wrote down: {hashlib.sha256(sums.encode()).hexdigest()}")
@@ -142,6 +142,8 @@ def unpack(place: pathlib.Path) -> int:
         if "/" in name or sealed.digest(place / name) != wanted:
             raise Refused(f"{place / name} is not what was kept")
     seized = ROOM / "seized"
+    if seized.exists():
+        answers.confirm(f"{seized} is unpacked anew: what is there goes", is_confirmed)
     shutil.rmtree(seized, ignore_errors=True)
     seized.mkdir(mode=0o700)
     call(tool("tar", "tar"), "-C", seized, "-x", "-z", "-p", "--numeric-owner", "-f",
@@ -202,8 +204,7 @@ def compare(register: Register, place: pathlib.Path, identity: str | None) -> in
 
 def decrypted(there: pathlib.Path, register: Register, identity: str | None) -> pathlib.Path:
     """A folder with all copies, decrypted; what does not open is named."""
-    if not identity:
-        raise Refused(f"{there} is encrypted: repeat the line with --identity FILE", 2)
+    key = answers.identity_file(identity)
     room = ROOM / "copies" / register.name
     shutil.rmtree(room, ignore_errors=True)
     room.mkdir(parents=True, mode=0o700)
@@ -215,7 +216,7 @@ def decrypted(there: pathlib.Path, register: Register, identity: str | None) -> 
         shutil.copy2(it, target)
         if it.name.endswith(sealed.END):
             try:
-                shutil.copystat(target, sealed.decrypt(target, pathlib.Path(identity)))
+                shutil.copystat(target, sealed.decrypt(target, key))
             except Refused as error:
                 print(f"{it.name} does not open: {error}")
             target.unlink()

@@ -28,7 +28,7 @@ from office.work import drills
 from register_files import Refused
 
 from .. import (
-    answers, brought, copies, files, histories, office_restore, office_store, serving,
+    answers, brought, copies, files, histories, office_restore, office_store, repairs, serving,
     settings_copy,
 )
 from ..programs import USER, call, is_booted, program
@@ -86,8 +86,8 @@ def chosen(words: list[str]) -> tuple[Register, pathlib.Path]:
         return register, register.copies / named[0]
     made = register.nightly_copies()
     if not made:
-        raise Refused(f"{register.copies} has no nightly copy: admissions-admin takeover"
-                      f" {register.name}")
+        how = "" if repairs.is_register(register) else f": {repairs.register_line(register)}"
+        raise Refused(f"{register.copies} has no nightly copy{how}")
     return register, made[-1]
 
 

@@ -9,14 +9,14 @@ another machine, and the key for which they are encrypted there.
 
 The first form shows what is set. Copies leave this machine only encrypted. KEY
 is the public half of a key of age, whose secret half, the identity file, is
-made and kept on another machine and on paper: age-keygen -o vault.key. PLACE is
-a folder of another disk, which is mounted, or one of another machine, as
-copies@vault.example:copies. --ssh-key makes the key by which the user of the
-copies signs in there, and prints what is typed on that machine. --key-here
-makes a KEY on this machine, where none is set, as an upgrade does for a place
-to which an earlier version copied unencrypted: its identity file is lost with
-this machine unless you keep it elsewhere. The line `none` says that there shall
-be no second place.
+made and kept on another machine and on paper: age-keygen -o vault.key. Where
+none is set, it is asked for. PLACE is a folder of another disk, which is
+mounted, or one of another machine, as copies@vault.example:copies. --ssh-key
+makes the key by which the user of the copies signs in there, and prints what is
+typed on that machine. --key-here makes a KEY on this machine, where none is
+set, as an upgrade does for a place to which an earlier version copied
+unencrypted: its identity file is lost with this machine unless you keep it
+elsewhere. The line `none` says that there shall be no second place.
 
 example:
   admissions-admin second-place /mnt/copies --encrypt age1..
@@ -35,6 +35,8 @@ from ..registers import COPIES, SETTINGS, all_registers
 SSH = pathlib.Path("/var/lib/admissions/.ssh")
 # on the other machine: an account for copies alone, and the folder that its key reaches
 ACCOUNT, FOLDER = "copies", "/home/copies/vault"
+# as a copy calls ssh, but that it may ask whether the key of that machine is right
+ASKS = "ssh -o PasswordAuthentication=no -o ConnectTimeout=30"
 
 
 def arguments(reader: argparse.ArgumentParser) -> None:
@@ -71,11 +73,16 @@ def show() -> None:
               " there")
 
 
-def encrypt(key: str, is_confirmed: bool) -> None:
-    """Sets the key for which copies are encrypted from now on."""
-    if not sealed.KEY.fullmatch(key):
+def public_key(text: str) -> str:
+    if not sealed.KEY.fullmatch(text):
         raise Refused("that is no public key of age, as age-keygen -y prints it (age1..): nothing"
                       " was changed", 2)
+    return text
+
+
+def encrypt(key: str, is_confirmed: bool) -> None:
+    """Sets the key for which copies are encrypted from now on."""
+    public_key(key)
     sealed.age()
     before = sealed.recipient() if (SETTINGS / sealed.RECIPIENT).exists() else None
     if before not in (None, key):
@@ -114,19 +121,21 @@ def print_key() -> None:
   install -d -m 700 -o {ACCOUNT} -g {ACCOUNT} {FOLDER}/copies /home/{ACCOUNT}/.ssh
 and for each machine that copies or may take over, in /home/{ACCOUNT}/.ssh/authorized_keys:
   restrict,command="/usr/bin/rrsync -no-del {FOLDER}" {public}
-Then here, with the name of that machine: admissions-admin second-place {ACCOUNT}@MACHINE:copies""")
+Here it is the place {ACCOUNT}@MACHINE:copies: of second-place, or of a takeover or rehearsal""")
 
 
 def name(place: str, is_confirmed: bool) -> None:
     """Names the second place, which must be there, and to which copies go encrypted alone."""
-    if place != second_copy.NONE:
-        sealed.needed()
+    warned = ""
+    if place != second_copy.NONE and sealed.recipient() is None:
+        encrypt(answers.ask("--encrypt, the public key for which copies are encrypted (age1..)",
+                            public_key), is_confirmed)
     if place == second_copy.NONE:
         warned = "all copies are lost with this machine"
     elif second_copy.is_local(place):
         warned = see_folder(place)
     else:
-        warned = see_machine(place)
+        see_machine(place)
     before = second_copy.line_of()
     if before not in ("", place):
         warned = f"copies go no longer to {before}{'; ' if warned else ''}{warned}"
@@ -153,13 +162,13 @@ def see_folder(place: str) -> str:
     return "it is on the disk of the first copies, and lost with it" if is_same else ""
 
 
-def see_machine(place: str) -> str:
-    """Looks whether the user of the copies reaches a folder of another machine. ssh asks on the
-    terminal whether the key of that machine is right."""
-    words = [tool("rsync", "rsync"), "--list-only", f"{place}/"]
+def see_machine(place: str) -> None:
+    """Looks whether the user of the copies reaches a folder of another machine. Where it has not
+    met that machine, ssh shows its key on the terminal, and asks whether it is right."""
+    words = [tool("rsync", "rsync"), "--list-only", "--rsh", ASKS, f"{place}/"]
     done = subprocess.run(words, check=False, cwd="/", user=USER, group=USER, extra_groups=[],
                           stdout=subprocess.DEVNULL)
     if done.returncode:
         raise Refused(f"{place} cannot be reached by the user {USER}: admissions-admin second-place"
-                      " --ssh-key prints what that machine needs")
-    return ""
+                      " --ssh-key prints what that machine needs, and the first time it is reached"
+                      " from a terminal, which shows its key")

@@ -33,7 +33,8 @@ from office.core import model
 from register_files import Refused
 
 from .. import (
-    answers, brought, certificates, files, history_copies, people, serving, settings_copy, sites,
+    answers, brought, certificates, files, history_copies, people, repairs, serving, settings_copy,
+    sites,
 )
 from ..answers import ask, confirm
 from ..programs import USER, call, is_booted, program, tool
@@ -246,7 +247,9 @@ def see_site_is_free(register: Register, host: str) -> None:
 def make_register(register: Register, given: argparse.Namespace) -> typing.Iterator[str]:
     """Makes the register, or sees that the one that is there is the one that is named."""
     file = register.file
-    if register.is_made:
+    # (one that cannot be read is kept by the restore)
+    is_damaged = given.is_takeover and register.is_made and not repairs.is_register(register)
+    if register.is_made and not is_damaged:
         found = stored(file)
         if given.phase not in (None, found.phase) or given.year not in (None, found.year):
             raise Refused(

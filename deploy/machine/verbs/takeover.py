@@ -1,7 +1,7 @@
 """Goes on with a register of a machine that is lost, on this one.
 
-  admissions-admin takeover NAME [PLACE] [--copy COPY] [--history FILE]
-    [--site HOST]
+  admissions-admin takeover NAME [PLACE] [--identity FILE] [--copy COPY]
+    [--history FILE] [--site HOST]
 
 What PLACE has, or the second place that /etc/admissions/second-copy names, is
 fetched, and the register is made from the copy that was made last, with its
@@ -9,9 +9,12 @@ people, settings and history. What was sent since, as far as the history there
 has it, waits on the screen Copies of the office, which sends it again: until
 then recording is paused. What else people did since is counted. COPY is the
 name of an older copy there, from which it is made in place of the last one, and
-FILE another history, as of a machine that was broken into. HOST is another name
-of the site. A takeover that was interrupted goes on when it is typed again.
-With --no-copies this machine leaves PLACE as it is, as after a break-in.
+FILE of --history another history, as of a machine that was broken into. HOST is
+another name of the site. What is encrypted is opened with the identity file,
+which is asked for unless it is given. A register that is here and cannot be
+read is kept beside the one that is made. A takeover that was interrupted goes
+on when it is typed again. With --no-copies this machine leaves PLACE as it is,
+as after a break-in, and copies nowhere until a second place is named.
 
 example:
   admissions-admin takeover secondary-2025 /mnt/copies
@@ -29,11 +32,12 @@ import typing
 from register_files import Refused
 
 from .. import (
-    answers, brought, copies, files, histories, history_copies, sealed, second_copy, serving,
+    answers, brought, certificates, copies, files, histories, history_copies, sealed, second_copy,
+    serving,
 )
-from ..programs import OFFICE, USER, call, tool
-from ..registers import SETTINGS, Register, all_registers, named
-from . import setup
+from ..programs import OFFICE, USER, call, program, tool
+from ..registers import SETTINGS, Register, all_registers, named, stored
+from . import second_place, setup
 
 # what is fetched: copies with what is beside each, and the history
 WANTED = (*copies.PATTERNS, *(f"{it}{sealed.END}" for it in copies.PATTERNS),
@@ -92,14 +96,11 @@ def keep(register: Register, found: Begun) -> None:
 
 
 def fetch(
-    name: str, place: str, wanted: str = "", identity: pathlib.Path | None = None
+    name: str, place: str, wanted: str = "", identity: str | None = None
 ) -> pathlib.Path:
-    """Fetches what the second place has of a register that is not here, and returns the copy from
-    which it goes on: the one that is wanted, or the last one."""
+    """Fetches what the second place has of a register, and returns the copy from which it goes on:
+    the one that is wanted, or the last one."""
     register = named(name)
-    if register.is_made:
-        raise Refused(f"{register.file} is there already, so this machine does not take over. To"
-                      f" put a copy in its place: admissions-admin restore {register.name}")
     place = (place or second_copy.place_of() or "").rstrip("/")
     if not place:
         raise Refused(f"name the second place, here or in {SETTINGS / 'second-copy'}", 2)
@@ -152,8 +153,10 @@ def last_on_the_way(made: list[pathlib.Path]) -> pathlib.Path:
 
 
 def see_place(name: str, place: str) -> None:
-    """Refuses a place of this machine that is not there, or has no folder of the register."""
+    """Refuses a place of this machine that is not there, or has no folder of the register; and
+    another machine that is not reached."""
     if not second_copy.is_local(place):
+        second_place.see_machine(place)
         return
     path = pathlib.Path(place)
     if not path.is_dir():
@@ -165,17 +168,16 @@ def see_place(name: str, place: str) -> None:
                       f" folders there: {there}{above}")
 
 
-def decrypt_all(register: Register, given: pathlib.Path | None) -> None:
-    """Decrypts what was fetched encrypted, with the identity file that is given, or that of this
-    machine."""
+def decrypt_all(register: Register, given: str | None) -> None:
+    """Decrypts what was fetched encrypted, with the identity file that is given, that of this
+    machine, or the one that is typed."""
     found = sorted(register.copies.rglob(f"*{sealed.END}"))
     if not found:
         return
     with contextlib.ExitStack() as stack:
-        identity = stack.enter_context(sealed.lent(given)) if given else sealed.identity()
+        identity = None if given else sealed.identity()
         if identity is None:
-            raise Refused("what is at the second place is encrypted: repeat the line with"
-                          " --identity FILE, the file that opens it")
+            identity = stack.enter_context(sealed.lent(answers.identity_file(given)))
         # (in a folder of the user of the copies)
         stack.enter_context(files.as_desk())
         for path in found:
@@ -205,19 +207,46 @@ def checked(given: argparse.Namespace) -> None:
     if given.copy and not copies.NAME.fullmatch(given.copy.removesuffix(sealed.END)):
         raise Refused(f"{given.copy!r} is no name of a copy at the second place, as"
                       " nightly-000012-2025-03-03T023000.db", 2)
+    if given.identity:
+        answers.file(given.identity)
     if not re.fullmatch(r"[^-].*|", given.place):
         raise Refused(f"{given.place!r} is no place", 2)
 
 
+def see_free(register: Register, is_confirmed: bool) -> None:
+    """Refuses a register that is here, unless it cannot be read: then it is made again."""
+    if not register.is_made:
+        return
+    program("admissions")
+    try:
+        stored(register.file)
+    except (OSError, Refused, ValueError) as error:
+        answers.confirm(f"{register.file} cannot be read ({error}). It is kept beside the one that"
+                        f" is made on {os.uname().nodename} from the second place", is_confirmed)
+        return
+    raise Refused(f"{register.file} is there already, so this machine does not take over. To"
+                  f" put a copy in its place: admissions-admin restore {register.name}")
+
+
 def main(given: argparse.Namespace) -> int:
+    """Takes the register over, and prints what is next, in its order."""
+    status = taken(given)
+    register = named(given.name)
+    if given.no_copies:
+        # (the archive of the copy has brought no place here, and the status asks for one now)
+        second_copy.keep_line("")
+    for number, it in enumerate(next_steps(register), 1):
+        print(f"next, {number}: {it}", flush=True)
+    return status
+
+
+def taken(given: argparse.Namespace) -> int:
     """Fetches the copies, has the register set up from the last one, or from the one that is
     named, and prints what it lacks. Until that is printed the takeover is not over, and goes on
     when it is typed again."""
     serving.see_needed()
     checked(given)
     register = named(given.name)
-    if given.no_copies:
-        copy_nowhere()
     wanted = (given.copy or "").removesuffix(sealed.END)
     found = begun(register)
     if found and wanted not in ("", found.copy):
@@ -232,29 +261,29 @@ def main(given: argparse.Namespace) -> int:
         copy = register.copies / found.copy
         print(f"goes on with the takeover of {register.name} from {copy}", flush=True)
     else:
-        identity = pathlib.Path(answers.file(given.identity)) if given.identity else None
-        copy = fetch(given.name, given.place, wanted, identity)
+        see_free(register, given.yes)
+        if given.no_copies:
+            copy_nowhere()
+        copy = fetch(given.name, given.place, wanted, given.identity)
         keep(register, Begun(copy.name))
     given.copy = str(copy)
+    if register.is_made:
+        # (it may be damaged, or open)
+        serving.stop(register)
     status = setup.set_up_as_given(given, bring)
     own_places(register, given.place)
     begun_place(register).unlink()
-    remind()
     return status
 
 
 def copy_nowhere() -> None:
-    """Has this machine copy to no second place, unless it is in use: then that would end its own
+    """Has this machine copy to no second place, unless it serves a register: that would end its own
     copies."""
-    line = second_copy.line_of()
-    if line == second_copy.NONE:
+    if second_copy.line_of() == second_copy.NONE:
         return
-    if line or all_registers():
-        raise Refused("this machine serves a register, or copies to a second place: nothing was"
-                      " changed")
+    if all_registers():
+        raise Refused("this machine serves a register: nothing was changed")
     second_copy.keep_line(second_copy.NONE)
-    print(f"{SETTINGS / 'second-copy'} has the line none: name a place where this machine stays in"
-          " use (admissions-admin second-place)", flush=True)
 
 
 def own_places(register: Register, place: str) -> None:
@@ -269,9 +298,22 @@ def own_places(register: Register, place: str) -> None:
                   f" {second_copy.OWNER} cannot be written there: {error}")
 
 
-def remind() -> None:
-    """What is to be done after a takeover with what it has used."""
-    path = SETTINGS / sealed.IDENTITY
-    if path.exists():
-        print(f"{path} is still here, and opens all copies at the second place: rm {path}, unless"
-              " the nightly copies of this machine shall be opened with it")
+def next_steps(register: Register) -> typing.Iterator[str]:
+    """What is to be done after a takeover, in this order: the screen is reached by the name of the
+    site alone, and with a certificate that browsers trust."""
+    identity = SETTINGS / sealed.IDENTITY
+    if identity.exists():
+        yield (f"rm {identity}, which opens all copies at the second place, unless the nightly"
+               " copies of this machine shall be opened with it")
+    if line := second_copy.line_of():
+        yield f"copies go to {line} from now on; another place: admissions-admin second-place PLACE"
+    else:
+        yield "admissions-admin second-place PLACE, to which copies go from now on"
+    yield (f"admissions-admin people {register.name}, and --remove each person who has left since"
+           " that night")
+    if certificates.is_self_signed(certificates.paths(register)[1]):
+        yield (f"let a CA sign {certificates.paths(register)[2]}, and type"
+               f" {certificates.command(register)}: browsers that know the site let nobody past"
+               " the present certificate")
+    yield f"lead {register.host} to this machine (DNS)"
+    yield "the office sends again what waits on its screen Copies"
