@@ -28,9 +28,9 @@ LINES = {
         ),
         "OnSuccess": (
             "admissions@%i.service admissions-second-copy@%i.service",
-            "starts both again, even if the copy failed",
+            "starts the server again, even if the copy failed",
         ),
-        "OnFailure": ("admissions@%i.service", "starts both again, even if the copy failed"),
+        "OnFailure": ("admissions@%i.service", "starts the server again, even if the copy failed"),
         "User": ("admissions", ""),
     },
     "admissions-second-copy@.service": {
