@@ -5,6 +5,8 @@ import enum
 import json
 import typing
 
+from register_files import Refused
+
 VERSION = 1
 # the exit status of a plugin of Nagios that does not know: UNKNOWN
 UNKNOWN = 3
@@ -31,6 +33,14 @@ class Level(enum.IntEnum):
     def label(self) -> str:
         """As the text has it."""
         return "ok" if self is Level.OK else self.name
+
+
+# whether a part is well, and a text
+State = tuple[bool, str]
+
+
+class Failed(Refused):
+    """What keeps an office from working."""
 
 
 class Finding(typing.NamedTuple):

@@ -18,6 +18,7 @@ from conftest import typed
 from machine import (
     certificates,
     copies,
+    copies_status,
     drill,
     files,
     history_copies,
@@ -149,17 +150,17 @@ def test_no_number_is_given_twice(
 )
 def test_the_age_of_the_last_copy(age: float, is_well: bool, register: registers.Register) -> None:
     copy(register, "nightly-000001-2025-03-01T023000.db", age)
-    assert status.copy_of(register)[0] is is_well
+    assert copies_status.copy_of(register)[0] is is_well
 
 
 def test_a_name_makes_no_copy_younger(register: registers.Register) -> None:
     copy(register, f"nightly-000001-{time.strftime(copies.TIME)}.db", 27 * HOUR)
-    assert status.copy_of(register)[0] is False
+    assert copies_status.copy_of(register)[0] is False
 
 
 def test_a_copy_that_is_dated_ahead_names_the_clock(register: registers.Register) -> None:
     copy(register, "nightly-000001-2025-03-01T023000.db", -10 * DAY)
-    is_well, text = status.copy_of(register)
+    is_well, text = copies_status.copy_of(register)
     assert (is_well, "240 hours in the future" in text, "is the clock right?" in text) == (
         False,
         True,
@@ -170,18 +171,18 @@ def test_a_copy_that_is_dated_ahead_names_the_clock(register: registers.Register
 def test_so_does_an_earlier_one_and_one_by_its_name(register: registers.Register) -> None:
     copy(register, "nightly-000001-2096-03-01T023000.db", DAY)
     copy(register, "nightly-000002-2025-03-01T023000.db", 1)
-    is_well, text = status.copy_of(register)
+    is_well, text = copies_status.copy_of(register)
     assert (is_well, "nightly-000001-2096-03-01T023000.db is dated" in text) == (False, True)
 
 
 def test_a_name_of_a_day_that_is_none(register: registers.Register) -> None:
     copy(register, "nightly-000001-2025-02-30T023000.db", HOUR)
-    assert status.copy_of(register)[0] is True
+    assert copies_status.copy_of(register)[0] is True
 
 
 def test_a_copy_without_settings_is_reported(register: registers.Register) -> None:
     copy(register, "nightly-000001-2025-03-01T023000.db", with_settings=False)
-    is_well, text = status.copy_of(register)
+    is_well, text = copies_status.copy_of(register)
     assert (is_well, "without people and settings" in text) == (False, True)
 
 
@@ -196,7 +197,7 @@ def test_the_age_of_the_second_copy(
     report = register.copies / "second-copy.report"
     report.write_text(f"x.db is in /mnt/copies/{register.name}, equal to the first copy\n")
     os.utime(report, (time.time() - age, time.time() - age))
-    assert status.second_of(register)[0] is is_well
+    assert copies_status.second_of(register)[0] is is_well
 
 
 def test_a_second_copy_at_another_place_is_none_here(
@@ -205,14 +206,14 @@ def test_a_second_copy_at_another_place_is_none_here(
     (machine / "etc/second-copy").write_text("/mnt/other\n")
     line = f"x.db is in /mnt/copies/{register.name}, equal to the first copy, and opens"
     (register.copies / "second-copy.report").write_text(f"{line}\n")
-    is_well, text = status.second_of(register)
+    is_well, text = copies_status.second_of(register)
     said = "this machine has copied nothing to /mnt/other yet: systemctl start admissions-second-"
     assert (is_well, text.startswith(said), text.endswith(line)) == (False, True, True)
 
 
 def test_a_folder_of_copies_that_is_gone_is_named(register: registers.Register) -> None:
     register.copies.rmdir()
-    assert status.copy_of(register) == (
+    assert copies_status.copy_of(register) == (
         False, f"{register.copies} is not there, so no copy can be made: admissions-admin setup"
         f" {register.name} makes it")
 
@@ -225,9 +226,9 @@ def test_the_age_of_the_last_drill(age: float, is_well: bool, register: register
     ):
         path.write_text(text)
         os.utime(path, (time.time() - age, time.time() - age))
-    assert status.drill_of(register)[0] is is_well
+    assert copies_status.drill_of(register)[0] is is_well
     (register.copies / "drill.report").unlink()
-    assert status.drill_of(register)[0] is is_well
+    assert copies_status.drill_of(register)[0] is is_well
 
 
 def copy_settings(register: registers.Register) -> int:
@@ -359,11 +360,11 @@ def test_people_that_cannot_be_copied_are_named_and_the_history_is_copied(
     ):
         copy_settings(office)
     assert (path.with_suffix(".tar").exists(), len(made_of(path))) == (False, 1)
-    is_well, text = status.copy_of(office)
+    is_well, text = copies_status.copy_of(office)
     assert (is_well, "without people and settings" in text) == (False, True)
     file.with_name("aside").rename(file)
     assert (copy_settings(office), path.with_suffix(".tar").exists()) == (0, True)
-    assert status.copy_of(office)[0] is True
+    assert copies_status.copy_of(office)[0] is True
 
 
 def test_the_history_is_copied_without_a_torn_line(
@@ -418,14 +419,14 @@ def test_a_history_that_was_emptied_cut_or_begun_anew_leaves_the_copy(
         record(register, *more)
         with pytest.raises(Refused, match=said):
             copy_settings(register)
-        assert status.history_of(register)[0] is status.copy_of(register)[0] is False
+        assert status.history_of(register)[0] is copies_status.copy_of(register)[0] is False
         assert said in status.history_of(register)[1]
         more = []
     assert [children_of(it) for it in made_of(copied)] == children
     assert acknowledge(register) == acknowledge(register) == 0
     record(register, 4)
     assert "does not begin" not in status.history_of(register)[1]
-    assert (status.copy_of(register)[0], copy_settings(register)) == (True, 0)
+    assert (copies_status.copy_of(register)[0], copy_settings(register)) == (True, 0)
     register.history.write_bytes(b"")
     assert status.history_of(register)[0] is False
 
@@ -466,11 +467,11 @@ def test_a_history_that_was_changed_is_copied_beside_it_and_named(
         with pytest.raises(Refused, match=said):
             copy_settings(register)
     assert made_of(copied) == [before, b"".join(lines)]
-    is_well, text = status.copy_of(register)
+    is_well, text = copies_status.copy_of(register)
     assert (is_well, f"line {line + 1}: the history was changed" in text) == (False, True)
     register.history.write_bytes(before)
     assert acknowledge(register) == 0
-    assert (copy_settings(register), status.copy_of(register)[0]) == (0, True)
+    assert (copy_settings(register), copies_status.copy_of(register)[0]) == (0, True)
 
 
 Damage = typing.Callable[[bytes], bytes]
@@ -521,12 +522,12 @@ def test_a_history_that_cannot_be_read_is_named(
 def test_copies_that_ended_before_the_history_are_reported(
     copied: pathlib.Path, register: registers.Register, monkeypatch: pytest.MonkeyPatch
 ) -> None:
-    assert status.copy_of(register)[0] is True
+    assert copies_status.copy_of(register)[0] is True
     copy(register, "nightly-000002-2025-03-02T023000.db", with_settings=False)
     monkeypatch.setattr(history_copies, "copy", lambda _: 1 / 0)
     with pytest.raises(ZeroDivisionError):
         copy_settings(register)
-    is_well, text = status.copy_of(register)
+    is_well, text = copies_status.copy_of(register)
     assert (is_well, "without the whole history" in text) == (False, True)
 
 
@@ -545,7 +546,7 @@ def test_what_an_earlier_register_has_left_at_the_second_place_is_named(
     (machine / "etc/second-copy").write_text(f"{place}\n")
     (place / register.name / f"{name}.age").write_text("of before")
     second_copy.write_report(register, second_copy.REPORT, second_copy.copied(register, str(place)))
-    is_well, text = status.second_of(register)
+    is_well, text = copies_status.second_of(register)
     assert not is_well
     assert f"WARNING: {name} there is of another register of this name" in text
     (place / register.name).rename(place / "before")

@@ -14,8 +14,8 @@ import typing
 
 import pytest
 from machine import (
-    copies, desk, files, histories, history_copies, metrics, office_delete, office_restore,
-    office_store, people, registers, settings_copy,
+    copies, copies_status, desk, files, histories, history_copies, metrics, office_delete,
+    office_restore, office_store, people, registers, settings_copy,
 )
 from machine.findings import Level
 from machine.verbs import status
@@ -58,7 +58,7 @@ def test_a_report_that_is_no_file_of_its_user_is_not_read(
         (tmp_path / "secret").write_text("a secret of root\n", encoding="ascii")
         path.symlink_to(tmp_path / "secret")
     with pytest.raises((Refused, OSError), match=name):
-        status.report_of(office, name)
+        copies_status.report_of(office, name)
 
 
 @pytest.mark.parametrize("kind", ["link", "pipe"])

@@ -10,8 +10,7 @@ import typing
 
 import pytest
 from conftest import made_key
-from machine import copies, drill, programs, registers, sealed, second_copy
-from machine.verbs import status
+from machine import copies, copies_status, drill, programs, registers, sealed, second_copy
 from register_files import Refused
 
 PLACE = "mnt"
@@ -185,7 +184,7 @@ def test_what_an_earlier_version_left_there_unencrypted_is_named(
     line = send(copied, machine)
     assert "WARNING: 5 files there are not encrypted" in line
     (copied.copies / "second-copy.report").write_text(f"{line}\n")
-    assert status.second_of(copied)[0] is False
+    assert copies_status.second_of(copied)[0] is False
 
 
 def test_with_the_identity_here_the_copy_is_decrypted_and_opened(
@@ -267,7 +266,7 @@ def test_an_identity_that_others_may_read_is_named_and_no_copy_fails(
     assert f"as it was sent; WARNING: not opened: {said}" in send(copied, machine)
     _, lines = drilled(copied, monkeypatch)
     assert f"not tried: WARNING: {said}" in lines[1]
-    assert status.drill_of(copied)[0] is False
+    assert copies_status.drill_of(copied)[0] is False
 
 
 def test_an_identity_of_another_user_opens_nothing(
@@ -297,7 +296,7 @@ def test_encrypted_copies_that_nobody_opens_need_attention(
         ages[register.copies / drill.OPENED] = days_of_opened
     for path, days in ages.items():
         os.utime(path, (time.time() - days * 86400, time.time() - days * 86400))
-    found, text = status.drill_of(register)
+    found, text = copies_status.drill_of(register)
     assert (found, "opened there" in text) == (is_well, True)
     how = f"admissions-admin drill {register.name} --identity FILE"
     assert text.endswith(how) == (not is_well)

@@ -10,7 +10,7 @@ import typing
 
 import pytest
 from conftest import ROOT
-from machine import registers, second_copy
+from machine import copies_status, findings, registers, second_copy
 from machine.verbs import status, takeover
 from machine.findings import Level
 from register_files import Refused
@@ -122,8 +122,8 @@ def test_a_machine_that_was_taken_over_can_be_opened_again(machines: Machines) -
     machines.be(FIRST)
     with pytest.raises(Refused):
         machines.copy(2)
-    with pytest.raises(status.Failed, match="remove owner there, and then type: rm ") as error:
-        status.second_of(machines.register)
+    with pytest.raises(findings.Failed, match="remove owner there, and then type: rm ") as error:
+        copies_status.second_of(machines.register)
     (machines.place / NAME / "owner").unlink()
     line = str(error.value).rpartition("type: ")[2]
     command, units = line.split(" && ")
@@ -195,7 +195,7 @@ def test_a_copy_that_arrives_otherwise_than_it_was_sent_is_no_copy(
     monkeypatch.setenv("PATH", f"{rsync.parent}:{os.environ['PATH']}")
     with pytest.raises(Refused, match=f"{there}/{COPY.format(2)}.age is not what was sent"):
         machines.copy(2)
-    assert COPY.format(2) not in status.second_of(machines.register)[1]
+    assert COPY.format(2) not in copies_status.second_of(machines.register)[1]
 
 
 def test_a_copy_that_does_not_open_is_no_copy(
@@ -214,7 +214,7 @@ def test_a_copy_that_does_not_open_is_no_copy(
             with pytest.raises(Refused, match=f"{path.name}.age does not open: "):
                 second_copy.main(given)
     assert (machines.place / NAME / f"{COPY.format(2)}.age").exists()
-    assert COPY.format(2) not in status.second_of(machines.register)[1]
+    assert COPY.format(2) not in copies_status.second_of(machines.register)[1]
 
 
 @pytest.mark.parametrize("unit", [

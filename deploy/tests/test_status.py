@@ -13,7 +13,8 @@ import time
 
 import pytest
 from machine import (
-    certificates, deletion, metrics, office_store, registers, sealed, second_copy, serving,
+    certificates, copies_status, deletion, metrics, office_store, registers, sealed, second_copy,
+    serving,
 )
 from machine.findings import Level
 from machine.verbs import status
@@ -71,7 +72,7 @@ def test_the_room_on_the_disks(
             return Usage(10**12, 0, free if path == here else 10**12)
 
         monkeypatch.setattr(shutil, "disk_usage", usage)
-        found, text = status.room_of(register)
+        found, text = copies_status.room_of(register)
         assert (found, f"at {full}" in text) == (is_well, True)
 
 
@@ -89,12 +90,12 @@ def test_the_room_at_the_second_place(
     monkeypatch.setattr(shutil, "disk_usage", usage)
     for line in (place, "none", "vault.example:copies", f"{place}\n{place}"):
         setting.write_text(f"{line}\n", encoding="ascii")
-        assert status.room_of(register)[0] is True
+        assert copies_status.room_of(register)[0] is True
         assert second_copy.folder_here() is None
     place.mkdir()
     setting.write_text(f"{place}/\n", encoding="ascii")
     assert second_copy.folder_here() == place
-    found, text = status.room_of(register)
+    found, text = copies_status.room_of(register)
     assert (found, f"at {place}" in text) == (is_well, not is_well or free < 10**12)
     rooms = {it["of"]: value for _, it, value in metrics.of_disks(register)}
     assert rooms["second_place"] == free
