@@ -11,7 +11,7 @@ import sys
 
 import pytest
 from conftest import Systemd, Terminal, typed
-from machine import copies, registers, sealed, second_copy, settings_copy
+from machine import copies, fetching, registers, sealed, second_copy, settings_copy
 from machine.verbs import drill, second_place
 from register_files import Refused
 
@@ -329,5 +329,5 @@ def test_a_machine_that_is_not_reached_is_no_second_place(
     assert setting(machine) == ["# a remark"]
     assert typed("second-place", "copies@vault.example:copies") == 0
     assert setting(machine) == ["# a remark", "copies@vault.example:copies"]
-    assert calls[0][1:] == ["--list-only", "--rsh", second_place.ASKS,
+    assert calls[0][1:] == ["--list-only", "--rsh", fetching.ASKS,
                             "copies@vault.example:copies/"]

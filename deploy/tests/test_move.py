@@ -8,7 +8,9 @@ import typing
 
 import pytest
 from conftest import Systemd, document, typed
-from machine import certificates, copies, files, programs, registers, second_copy, serving, sites
+from machine import (
+    certificates, copies, fetching, files, programs, registers, second_copy, serving, sites,
+)
 from machine.verbs import (
     certificate, copy as copy_verb, drill, move, rehearse, retire, takeover,
 )
@@ -235,7 +237,7 @@ def test_the_second_place_of_a_machine_in_use_is_not_switched_off(
 ) -> None:
     """Neither to rehearse a takeover, nor for one after a break-in."""
     monkeypatch.setattr(serving, "see_needed", lambda: None)
-    monkeypatch.setattr(takeover, "fetch", killed)
+    monkeypatch.setattr(fetching, "fetch", killed)
     path = machine / "etc/second-copy"
     path.write_text(place)
     if name:

@@ -16,10 +16,10 @@ import typing
 import pytest
 from conftest import Systemd, Terminal, document, stand_in, typed
 from machine import (
-    brought, certificates, copies, files, office_copy, registers, repairs, sealed, second_copy,
-    serving,
+    brought, certificates, copies, fetching, files, office_copy, registers, repairs, sealed,
+    second_copy, serving,
 )
-from machine.verbs import second_place, setup, status, takeover
+from machine.verbs import setup, status, takeover
 from office.web.register.history import ANSWER, RESTORED, SENDS, History
 from register_files import Refused
 
@@ -32,7 +32,8 @@ COPIES = ("nightly-2025-03-01T023000.db", "nightly-000002-2025-03-02T023000.db",
 def place_fixture(tmp_path: pathlib.Path, monkeypatch: pytest.MonkeyPatch) -> pathlib.Path:
     """A second place with three copies, of which the one with the greatest number was made last."""
     me = getpass.getuser()
-    monkeypatch.setattr(takeover, "USER", me)
+    for module in (fetching, takeover):
+        monkeypatch.setattr(module, "USER", me)
     place = tmp_path / "place"
     (place / NAME / "history").mkdir(parents=True)
     for name in COPIES:
@@ -48,7 +49,7 @@ def test_what_is_fetched(
     capsys: pytest.CaptureFixture[str],
 ) -> None:
     """Copies, archives and the history; no report, and nothing through a link."""
-    copy = takeover.fetch(NAME, f"{place}/")
+    copy = fetching.fetch(NAME, f"{place}/")
     assert copy == machine / "backups" / NAME / COPIES[2]
     assert copy.read_text(encoding="ascii") == COPIES[2]
     found = {str(it.relative_to(copy.parent)): it.stat().st_mode & 0o777
@@ -68,15 +69,15 @@ def test_what_is_fetched_from_a_disk_is_written_by_the_user_of_the_copies(
         # (another user reaches it, where root runs the tests)
         os.chmod(room, 0o755)
         user = pwd.getpwnam("daemon" if os.geteuid() == 0 else getpass.getuser())
-        monkeypatch.setattr(takeover, "USER", user.pw_name)
+        monkeypatch.setattr(fetching, "USER", user.pw_name)
         monkeypatch.setattr(registers, "COPIES", pathlib.Path(room))
         monkeypatch.setattr(files, "numbers", lambda *_: (user.pw_uid, user.pw_gid))
-        copy = takeover.fetch(NAME, str(place))
+        copy = fetching.fetch(NAME, str(place))
         assert {it.stat().st_uid for it in copy.parent.rglob("*")} == {user.pw_uid}
         shutil.rmtree(copy.parent / "history")
         (copy.parent / "history").mkdir(mode=0o500)
         with pytest.raises(Refused, match="history.* Permission denied"):
-            takeover.fetch(NAME, str(place))
+            fetching.fetch(NAME, str(place))
         assert not list((copy.parent / "history").iterdir())
 
 
@@ -99,29 +100,29 @@ def test_what_is_encrypted_is_opened_with_the_identity_of_this_machine(
         subprocess.run(["age", "-r", key, "-o", there / f"{it}.age", there / it], check=True)
         (there / it).unlink()
     with pytest.raises(Refused, match="^not given: --identity, the identity file that opens"):
-        takeover.fetch(NAME, str(place))
+        fetching.fetch(NAME, str(place))
     with monkeypatch.context() as patch:
         patch.setattr(sys, "stdin", Terminal(f"/gone\n{tmp_path / 'vault.key'}\n"))
-        copy = takeover.fetch(NAME, str(place))
+        copy = fetching.fetch(NAME, str(place))
     assert "/gone is not there, or is no file" in capsys.readouterr().out
     assert {it: (copy.parent / it).read_bytes() for it in names} == wanted
     identity.write_bytes((tmp_path / "vault.key").read_bytes())
     identity.chmod(0o640)
     with pytest.raises(Refused, match=f"chown admissions: {identity} && chmod 400 {identity}$"):
-        takeover.fetch(NAME, str(place))
+        fetching.fetch(NAME, str(place))
     subprocess.run(["age-keygen", "-o", identity.with_name("wrong")], check=True,
                    capture_output=True)
     identity.write_bytes(identity.with_name("wrong").read_bytes())
     identity.chmod(0o400)
     with pytest.raises(Refused, match=r"\.age is encrypted for another key than that of .*\(age1"):
-        takeover.fetch(NAME, str(place))
+        fetching.fetch(NAME, str(place))
     with pytest.raises(Refused, match=r"\.age is encrypted for another key than that of .*\(age1"):
-        takeover.fetch(NAME, str(place), identity=str(identity.with_name("wrong")))
+        fetching.fetch(NAME, str(place), identity=str(identity.with_name("wrong")))
     identity.chmod(0o600)
     identity.write_bytes((tmp_path / "vault.key").read_bytes())
     identity.chmod(0o400)
     identity.unlink()
-    copy = takeover.fetch(NAME, str(place), identity=str(tmp_path / "vault.key"))
+    copy = fetching.fetch(NAME, str(place), identity=str(tmp_path / "vault.key"))
     assert copy.name == COPIES[2]
     assert {it: (copy.parent / it).read_bytes() for it in names} == wanted
     found = {str(it.relative_to(copy.parent)): it.stat().st_mode & 0o777
@@ -134,25 +135,25 @@ def test_an_older_copy_is_chosen_by_its_name(
 ) -> None:
     """All copies are fetched, so the next one still has the greatest number. One that is not there
     is refused, with names of those that are."""
-    copy = takeover.fetch(NAME, str(place), COPIES[1])
+    copy = fetching.fetch(NAME, str(place), COPIES[1])
     assert copy.read_text(encoding="ascii") == COPIES[1]
     assert copies.next_name(copy.parent).startswith("nightly-000011-")
     with pytest.raises(Refused, match=f"has no copy nightly-.*; of its 3 copies .*{COPIES[2]}$"):
-        takeover.fetch(NAME, str(place), "nightly-000003-2025-03-02T023000.db")
+        fetching.fetch(NAME, str(place), "nightly-000003-2025-03-02T023000.db")
 
 
 def test_the_place_of_the_settings(
     place: pathlib.Path, machine: pathlib.Path, write_as_me: None
 ) -> None:
     (machine / "etc/second-copy").write_text(f"{place}\n", encoding="utf-8")
-    assert takeover.fetch(NAME, "").name == COPIES[2]
+    assert fetching.fetch(NAME, "").name == COPIES[2]
 
 
 @pytest.mark.parametrize("line, status", [("none\n", 2), ("", 2)])
 def test_no_place(line: str, status: int, machine: pathlib.Path) -> None:
     (machine / "etc/second-copy").write_text(line, encoding="utf-8")
     with pytest.raises(Refused, match="^name the second place, here or in ") as found:
-        takeover.fetch(NAME, "")
+        fetching.fetch(NAME, "")
     assert found.value.status == status
 
 
@@ -207,14 +208,14 @@ def test_a_place_without_the_register(
 ) -> None:
     (place / "primary-2026").mkdir()
     with pytest.raises(Refused, match="has no copy of a register"):
-        takeover.fetch("primary-2026", str(place))
+        fetching.fetch("primary-2026", str(place))
     said = f"{place} has no folder primary-2027, .* folders there: primary-2026, {NAME}$"
     with pytest.raises(Refused, match=said):
-        takeover.fetch("primary-2027", str(place))
+        fetching.fetch("primary-2027", str(place))
     with pytest.raises(Refused, match=f"Name {place}, which has it$"):
-        takeover.fetch(NAME, str(place / NAME))
+        fetching.fetch(NAME, str(place / NAME))
     with pytest.raises(Refused, match="/gone is not there: is the disk mounted?"):
-        takeover.fetch(NAME, f"{place}/gone")
+        fetching.fetch(NAME, f"{place}/gone")
     assert not (machine / "backups/primary-2027").exists()
 
 
@@ -435,7 +436,7 @@ def test_a_copy_that_has_what_a_restore_has_undone_is_not_taken(
     (folder / "history-1-a.gz").unlink()
     (folder / "history-000001-0123456789abcdef.gz").write_bytes(
         gzip.compress(other.history.read_bytes()))
-    assert takeover.fetch(NAME, str(place)).name == wanted
+    assert fetching.fetch(NAME, str(place)).name == wanted
     said = f"goes on from {wanted}: since {COPIES[2]} the office has restored a copy"
     assert (said in capsys.readouterr().out) == (wanted != COPIES[2])
 
@@ -502,8 +503,8 @@ def test_another_machine_that_was_never_met_is_seen_before_anything_is_fetched(
 
     monkeypatch.setattr(subprocess, "run", run)
     with pytest.raises(Refused, match="second-place --ssh-key prints what that machine needs"):
-        takeover.fetch(NAME, "copies@vault.example:copies")
+        fetching.fetch(NAME, "copies@vault.example:copies")
     [words] = calls
-    assert words[1:] == ["--list-only", "--rsh", second_place.ASKS, "copies@vault.example:copies/"]
-    assert "BatchMode" not in second_place.ASKS and "BatchMode=yes" in second_copy.SSH
+    assert words[1:] == ["--list-only", "--rsh", fetching.ASKS, "copies@vault.example:copies/"]
+    assert "BatchMode" not in fetching.ASKS and "BatchMode=yes" in second_copy.SSH
     assert not (machine / "backups" / NAME).exists()

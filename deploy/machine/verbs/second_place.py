@@ -24,19 +24,16 @@ example:
 import argparse
 import os
 import pathlib
-import subprocess
 
 from register_files import Refused
 
-from .. import answers, files, sealed, second_copy
+from .. import answers, fetching, files, sealed, second_copy
 from ..programs import USER, call, tool
 from ..registers import COPIES, SETTINGS, all_registers
 
 SSH = pathlib.Path("/var/lib/admissions/.ssh")
 # on the other machine: an account for copies alone, and the folder that its key reaches
 ACCOUNT, FOLDER = "copies", "/home/copies/vault"
-# as a copy calls ssh, but that it may ask whether the key of that machine is right
-ASKS = "ssh -o PasswordAuthentication=no -o ConnectTimeout=30"
 
 
 def arguments(reader: argparse.ArgumentParser) -> None:
@@ -135,7 +132,7 @@ def name(place: str, is_confirmed: bool) -> None:
     elif second_copy.is_local(place):
         warned = see_folder(place)
     else:
-        see_machine(place)
+        fetching.see_machine(place)
     before = second_copy.line_of()
     if before not in ("", place):
         warned = f"copies go no longer to {before}{'; ' if warned else ''}{warned}"
@@ -160,15 +157,3 @@ def see_folder(place: str) -> str:
         print(f"gave {place} to the user {USER}")
     is_same = COPIES.is_dir() and path.stat().st_dev == COPIES.stat().st_dev
     return "it is on the disk of the first copies, and lost with it" if is_same else ""
-
-
-def see_machine(place: str) -> None:
-    """Looks whether the user of the copies reaches a folder of another machine. Where it has not
-    met that machine, ssh shows its key on the terminal, and asks whether it is right."""
-    words = [tool("rsync", "rsync"), "--list-only", "--rsh", ASKS, f"{place}/"]
-    done = subprocess.run(words, check=False, cwd="/", user=USER, group=USER, extra_groups=[],
-                          stdout=subprocess.DEVNULL)
-    if done.returncode:
-        raise Refused(f"{place} cannot be reached by the user {USER}: admissions-admin second-place"
-                      " --ssh-key prints what that machine needs, and the first time it is reached"
-                      " from a terminal, which shows its key")
