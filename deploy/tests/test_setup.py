@@ -410,6 +410,22 @@ def test_who_comes_with_a_copy_is_not_added_beside_it(
         assert (found.user, found.role) == ("mary", "head")
 
 
+def test_a_copy_of_a_machine_that_has_named_no_authority_asks_for_none(
+    register: registers.Register, machine: pathlib.Path, monkeypatch: pytest.MonkeyPatch
+) -> None:
+    """As in a takeover; of a copy without its settings it is asked for."""
+    register.file.unlink()
+    monkeypatch.setattr(setup, "AUTHORITY", machine / "etc/authority")
+    monkeypatch.setattr(settings_copy, "people_beside", lambda copy: [
+        people.User("ann", "person", "head", False)])
+    words, found = (register.name, "--copy", "gone.db", "--site", "x.example"), dict[str, str]()
+    monkeypatch.setattr(settings_copy, "names_of", lambda copy: found)
+    for left in ("", "none\n"):
+        given = completed(monkeypatch, "none\n", *words)
+        assert (given.authority, sys.stdin.read()) == (None, left)
+        found["site-name"] = "x.example"
+
+
 @pytest.mark.parametrize(
     "before, given, said",
     [

@@ -176,7 +176,7 @@ def completed(given: argparse.Namespace) -> Register:
         given.authority is None
         and not register.is_made
         and not AUTHORITY.exists()
-        and "authority" not in copied
+        and not copied
         and sys.stdin.isatty()
     ):
         given.authority = ask(
