@@ -88,16 +88,21 @@ class Site:
             answer = found.getresponse()
             return answer.status, answer.read().decode()
 
-    def sign_ins(self, browsers: typing.Iterable[str]) -> list[int]:
+    def sign_ins(
+        self, browsers: typing.Iterable[str], method: str = "POST", path: str = "/sign-in",
+    ) -> list[int]:
         """The statuses of sign-ins, each by a browser with this cookie, or none."""
         with self.connected() as found:
-            return [self.sign_in(found, it) for it in browsers]
+            return [self.sign_in(found, it, method, path) for it in browsers]
 
     @staticmethod
-    def sign_in(found: http.client.HTTPConnection, browser: str) -> int:
+    def sign_in(
+        found: http.client.HTTPConnection, browser: str, method: str, path: str,
+    ) -> int:
         """The status of a sign-in."""
         cookie = {"Cookie": f"__Host-admissions-browser={browser}"} if browser else {}
-        found.request("POST", "/sign-in", headers={"Content-Length": "0", **cookie})
+        length = {"Content-Length": "0"} if method == "POST" else {}
+        found.request(method, path, headers={**length, **cookie})
         answer = found.getresponse()
         answer.read()
         return answer.status
@@ -202,3 +207,17 @@ def test_who_makes_up_browsers_leaves_room_for_the_sign_ins_of_others(
         # (the application does not run)
         assert (made_up, found.sign_ins(["", "b" * 100])) == (
             {502}, [502, 502])
+
+
+def test_who_makes_up_browsers_asks_the_provider_no_more_often(
+    machine: pathlib.Path, register: registers.Register, write_as_me: None
+) -> None:
+    """Few ask it at once, and all places would be taken."""
+    list(certificates.make(register, HOST))
+    found = Site(machine, register)
+    found.change("zone=admissions_outside:4m rate=10r/s", "zone=admissions_outside:4m rate=1r/m")
+    with found.served():
+        for path in ("/sign-in/authority", "/sign-in/authority/back?code=none"):
+            made_up = [f"a-browser-{at:02}end" for at in range(70)]
+            assert found.sign_ins(made_up, "GET", path)[-1] == 429
+        assert found.sign_ins(made_up) == [502] * 70
