@@ -188,7 +188,7 @@ def test_few_long_bodies_of_one_address_are_read_at_once(
         listener.listen(64)
         threading.Thread(target=say_who_asks, args=(listener,), daemon=True).start()
         with found.served():
-            for length in (*["60000000"] * 8, *["99999"] * 9):
+            for length in (*["60000000"] * 16, *["99999"] * 17):
                 begin(held, Content_Length=length)
                 assert asked.acquire(timeout=60)
             for field in ({"Content_Length": "100000"}, {"Transfer_Encoding": "chunked"}):
