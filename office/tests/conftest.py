@@ -29,6 +29,8 @@ HEADER = "child,name,east,north,looked_after,flags,siblings,day,preferences,pres
 # what the fields of a child are that a command leaves out
 OMITTED = {it["field"]: it["omitted"] for it in json.loads(
     (ROOT / "office" / "rules.json").read_text("utf-8"))["commands"]["amend"] if it["optional"]}
+# (beside those below, the fixtures of a machine with a small register)
+pytest_plugins = ("draw_site",)
 OFFICE = ("audit",)
 # registers that are made once
 KEPT = tempfile.TemporaryDirectory(prefix="registers-")

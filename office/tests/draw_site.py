@@ -139,16 +139,26 @@ class Person:
         return self.browser.post(f"/draws/{number}/{second}{name}", {"seen": seen, **given})
 
 
-def small_register(factory: pytest.TempPathFactory) -> pathlib.Path:
-    """A register with a school of one place, and five children that all want it: two of them only a
-    lot can separate.
+@pytest.fixture(name="register", scope="module")
+def register_fixture(tmp_path_factory: pytest.TempPathFactory) -> pathlib.Path:
+    """The file of a small register: OAK has one place and ELM nine, and five children want both,
+    two of whom only a lot can separate.
     """
     commands = [school("OAK", 1), school("ELM", 9, 9000)]
     for at, home in enumerate((100, 200, 200, 300, 400), 1):
         commands += [child(at, home), apply(at, ["OAK", "ELM"])]
-    path = factory.mktemp("small") / "reg.db"
+    path = tmp_path_factory.mktemp("small") / "reg.db"
     make(path, commands)
     return path
+
+
+@pytest.fixture(name="small")
+def small_fixture(
+    tmp_path: pathlib.Path, register: pathlib.Path, monkeypatch: pytest.MonkeyPatch
+) -> Iterator[Machine]:
+    """A machine with the small register."""
+    with machine_over(tmp_path, register, monkeypatch) as found:
+        yield found
 
 
 def first_day(office: Site) -> None:

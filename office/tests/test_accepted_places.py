@@ -1,30 +1,9 @@
 """A draw that moves a child from a place which its family had accepted: it is said before the
 second person confirms, and in the letter.
 """
-import pathlib
-from collections.abc import Iterator
-
-import pytest
-from draw_site import (
-    HAL, JANE, Machine, after_round, begun, brought, machine_over, small_register, version,
-)
+from draw_site import HAL, JANE, Machine, after_round, begun, brought, version
 from letter_site import asked, letter_pages, made
 from pages import Page
-
-
-@pytest.fixture(name="register", scope="module")
-def register_fixture(tmp_path_factory: pytest.TempPathFactory) -> pathlib.Path:
-    """The file of a small register."""
-    return small_register(tmp_path_factory)
-
-
-@pytest.fixture(name="small")
-def small_fixture(
-    tmp_path: pathlib.Path, register: pathlib.Path, monkeypatch: pytest.MonkeyPatch
-) -> Iterator[Machine]:
-    """A machine with a small register."""
-    with machine_over(tmp_path, register, monkeypatch) as found:
-        yield found
 
 
 def test_a_fill_that_ends_an_accepted_place_says_so_before_it_is_confirmed(

@@ -7,32 +7,17 @@ import os
 import pathlib
 import sys
 import time
-from collections.abc import Callable, Iterator
+from collections.abc import Callable
 from typing import Any
 
 import pytest
-from draw_site import NAME, RAISED, Machine, machine_over, small_register
+from draw_site import NAME, RAISED, Machine
 from machine import office_copy, office_requests, office_restore, programs
 from machine.registers import Register
 from register_files import Refused
 from served import do_over
 
 from office.web.copies import copies
-
-
-@pytest.fixture(name="register", scope="module")
-def register_fixture(tmp_path_factory: pytest.TempPathFactory) -> pathlib.Path:
-    """The file of a small register."""
-    return small_register(tmp_path_factory)
-
-
-@pytest.fixture(name="small")
-def small_fixture(
-    tmp_path: pathlib.Path, register: pathlib.Path, monkeypatch: pytest.MonkeyPatch
-) -> Iterator[Machine]:
-    """A machine with a small register."""
-    with machine_over(tmp_path, register, monkeypatch) as found:
-        yield found
 
 
 def test_a_copy_is_that_of_the_register(small: Machine, monkeypatch: pytest.MonkeyPatch) -> None:

@@ -1,16 +1,14 @@
 """What follows a step of a draw by itself: the rehearsal after the seal, and the opening after an
 audit that agrees; also where the application ends in between, and where something cannot be done.
 """
-import pathlib
 import threading
-from collections.abc import Iterator
 from typing import Any
 
 import pytest
 from applications import Browser
 from draw_site import (
-    HAL, Crash, Fields, Machine, Person, at_lots, begun, brought, first_day, lot_of, machine_over,
-    no_answer, small_register, typed, version,
+    HAL, Crash, Fields, Machine, Person, at_lots, begun, brought, first_day, lot_of, no_answer,
+    typed, version,
 )
 from register_files import Refused
 
@@ -19,21 +17,6 @@ from office.web.rounds.draws import Draws
 
 # what only the office may see of a draw: names, what came of it, and why it does not go on
 HIDDEN = ("Child 1", "new place", "keeps its place", "moves", "Audit of", "rehears", "no answer")
-
-
-@pytest.fixture(name="register", scope="module")
-def register_fixture(tmp_path_factory: pytest.TempPathFactory) -> pathlib.Path:
-    """The file of a small register."""
-    return small_register(tmp_path_factory)
-
-
-@pytest.fixture(name="small")
-def small_fixture(
-    tmp_path: pathlib.Path, register: pathlib.Path, monkeypatch: pytest.MonkeyPatch
-) -> Iterator[Machine]:
-    """A machine with a small register."""
-    with machine_over(tmp_path, register, monkeypatch) as found:
-        yield found
 
 
 def seals(sup: Browser, number: int) -> Any:

@@ -2,15 +2,13 @@
 import csv
 import hashlib
 import io
-import pathlib
 import zipfile
-from collections.abc import Iterator
 
 import pytest
 from applications import ORIGIN
 from draw_site import (
     HAL, MISTYPED, SUP, Fields, Machine, Person, after_round, at_lots, begun, brought, lot_of,
-    machine_over, sealed, small_register, typed, version,
+    sealed, typed, version,
 )
 from pages import Page
 from register_files import Refused
@@ -21,21 +19,6 @@ from office.web.rounds import lots as draws_lots
 from office.web.rounds import sheet as draws_sheet
 from office.web.rounds.drafts import Typed
 from office.web.rounds.views import lots as screen
-
-
-@pytest.fixture(name="register", scope="module")
-def register_fixture(tmp_path_factory: pytest.TempPathFactory) -> pathlib.Path:
-    """The file of a small register."""
-    return small_register(tmp_path_factory)
-
-
-@pytest.fixture(name="small")
-def small_fixture(
-    tmp_path: pathlib.Path, register: pathlib.Path, monkeypatch: pytest.MonkeyPatch
-) -> Iterator[Machine]:
-    """A machine with a small register."""
-    with machine_over(tmp_path, register, monkeypatch) as found:
-        yield found
 
 
 def seeded(seed: str, draw: int, pair: Pair) -> int:

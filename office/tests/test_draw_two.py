@@ -4,7 +4,7 @@ in no state is it stuck, and in no state does one person alone hold it.
 import datetime
 import pathlib
 import re
-from collections.abc import Callable, Iterator
+from collections.abc import Callable
 from typing import Any, cast
 
 import flask
@@ -12,7 +12,7 @@ import pytest
 from applications import Browser, Site, site
 from draw_site import (
     HAL, MISTYPED, RAISED, SUP, Command, Fields, Machine, Person, after_round, at_lots, begun,
-    brought, given_up, lot_of, machine_over, sealed, small_register, typed, version, waiting,
+    brought, given_up, lot_of, sealed, typed, version, waiting,
 )
 from pages import Page, press
 from register_files import Refused
@@ -33,21 +33,6 @@ UNSEALED, UNSENT = STATES[:4], STATES[4:7]
 HOWS = (("hal", "renewed"), ("hal", "locked"), ("jane", "renewed"), ("jane", "locked"))
 OWN = "a password of their own"
 DONE = {"done": True}
-
-
-@pytest.fixture(name="register", scope="module")
-def register_fixture(tmp_path_factory: pytest.TempPathFactory) -> pathlib.Path:
-    """The file of a small register."""
-    return small_register(tmp_path_factory)
-
-
-@pytest.fixture(name="small")
-def small_fixture(
-    tmp_path: pathlib.Path, register: pathlib.Path, monkeypatch: pytest.MonkeyPatch
-) -> Iterator[Machine]:
-    """A machine with a small register."""
-    with machine_over(tmp_path, register, monkeypatch) as found:
-        yield found
 
 
 def office_of_two(office: Site) -> tuple[Person, Person]:

@@ -21,17 +21,18 @@ from conftest import PROGRAM, apply, child, make, school
 from draw_site import (
     HAL, JANE, MISTYPED, NAME, OFFER_DAY, RAISED, SUP, Command, Crash, Fields, Machine, Person,
     after_round, begun, brought, crashing, first_day, given_up, lot_of, machine_over, no_answer,
-    sealed, small_register, steps, typed, version, waiting,
+    sealed, steps, typed, version, waiting,
 )
 from files import register_of
 from pages import Page, tasks
 from register_files import Refused
 from served import do_over
 
-from office.core import kinds
+from office.core import days, kinds
 from office.core.model import Pair
 from office.web.copies import copies
 from office.web.frame import people
+from office.web.register import desk
 from office.web.rounds import checks as draws_checks
 from office.web.rounds import outcome as draws_outcome
 from office.web.rounds.rehearsal import Rehearsal
@@ -148,21 +149,6 @@ def machine_fixture(
     """A machine with the register of that town, before its first round."""
     make(tmp_path / "reg.db", town.commands())
     with machine_over(tmp_path, tmp_path / "reg.db", monkeypatch) as found:
-        yield found
-
-
-@pytest.fixture(name="register", scope="module")
-def register_fixture(tmp_path_factory: pytest.TempPathFactory) -> pathlib.Path:
-    """The file of a small register."""
-    return small_register(tmp_path_factory)
-
-
-@pytest.fixture(name="small")
-def small_fixture(
-    tmp_path: pathlib.Path, register: pathlib.Path, monkeypatch: pytest.MonkeyPatch
-) -> Iterator[Machine]:
-    """A machine with a small register."""
-    with machine_over(tmp_path, register, monkeypatch) as found:
         yield found
 
 
@@ -425,21 +411,27 @@ def test_three_fills_in_one_closure(small: Machine) -> None:
         assert not kinds.is_done(register, {**whole, "cmd": "round"})
 
 
-def test_nobody_else_records_while_it_is_closed(small: Machine) -> None:
+def test_nobody_else_records_while_it_is_closed(
+    small: Machine, monkeypatch: pytest.MonkeyPatch
+) -> None:
     """From the close to the end, by whatever way; and what is closed is said, by whom and since
-    when.
+    when: on another day with the day.
     """
     with small.office() as office:
         number, jane, portal = begun(office), office.browser("jane"), office.program("portal")
         command = {"cmd": "raise_pan", "school": "ELM", "pan": 10}
+        brought(office, number, "closed")
+        closed = office.parts.draws.get(number).came_to("closed").at
+        since = datetime.datetime.fromisoformat(closed).astimezone()
+        monkeypatch.setattr(desk, "today", since.date)
         for state in ("closed", "copied", "lots", "sealed", "rehearsed", "confirmed", "sending",
                       "audited"):
             brought(office, number, state)
             waiting(office, number)
             found = portal.command(command)
             assert found.status_code == 503
-            assert re.fullmatch(r"Recording is paused for draw 1 by hal since \d\d:\d\d\.",
-                                found.json["reason"])
+            said = f"Recording is paused for draw 1 by hal since {since:%H:%M}"
+            assert found.json["reason"] == f"{said}."
             rows = portal.post("/import", "child\n", "text/csv")
             assert rows.status_code == 503
             assert "Recording is paused for draw 1" in rows.json["reason"]
@@ -449,6 +441,9 @@ def test_nobody_else_records_while_it_is_closed(small: Machine) -> None:
             assert text.count("Recording is paused for draw 1 by hal since") == 1, screen
             assert text.count(f'href="/draws/{number}">To draw 1</a>') == 1, screen
         assert "To draw 1<" not in jane.get(f"/draws/{number}").text
+        next_day = since.date() + datetime.timedelta(days=1)
+        monkeypatch.setattr(desk, "today", lambda: next_day)
+        assert f"{said} on {days.in_words(since.date())}." in jane.get("/").text
         assert "Closed for" not in office.browser("sup", "supervisor").get("/lots/").text
         assert office.parts.desk.now().schools["ELM"].pan == 9
         brought(office, number, "opened")

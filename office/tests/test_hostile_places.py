@@ -15,7 +15,7 @@ import letter_site
 import pytest
 from applications import ORIGIN, Browser, Site
 from conftest import HEADER, ROOT, apply, child, make, school
-from draw_site import Machine, after_round, at_lots, begun, brought, machine_over, small_register
+from draw_site import Machine, after_round, at_lots, begun, brought, machine_over
 from hostile_places import WATCH, Bait, Request, Sender, addresses, crawl, raw
 from pages import Form
 from werkzeug.exceptions import HTTPException
@@ -408,15 +408,9 @@ def test_no_page_of_another_site_sends_a_form_to_any_place(world: World) -> None
             assert found.status_code == 403, (paths[0], origin, found.status_code)
 
 
-def test_hostile_lots_are_answered_in_words(
-    tmp_path: pathlib.Path, tmp_path_factory: pytest.TempPathFactory,
-    monkeypatch: pytest.MonkeyPatch,
-) -> None:
+def test_hostile_lots_are_answered_in_words(small: Machine, tmp_path: pathlib.Path) -> None:
     """A sheet, cells, a seed, a page and a seal of anything: no sheet is taken."""
-    register = small_register(tmp_path_factory)
-    (tmp_path / "machine").mkdir()
-    with machine_over(tmp_path / "machine", register, monkeypatch) as machine, (
-            machine.office()) as office:
+    with small.office() as office:
         office.app.request_class = Request
         number = begun(office)
         brought(office, number, "lots")

@@ -2,14 +2,12 @@
 program shows them.
 """
 import json
-import pathlib
 import re
 import subprocess
 
-import pytest
 from applications import Site
 from conftest import PROGRAM
-from draw_site import after_round, begun, brought, machine_over, small_register
+from draw_site import Machine, after_round, begun, brought
 from pages import Page
 
 from office.web.machinery import pictures
@@ -24,18 +22,14 @@ def in_copy(office: Site, number: int) -> dict[int, int]:
             if wish["school"] == "OAK" and wish["state"] == "waits"}
 
 
-def test_the_movement_of_a_list_is_that_of_the_copies(
-    tmp_path: pathlib.Path, tmp_path_factory: pytest.TempPathFactory,
-    monkeypatch: pytest.MonkeyPatch,
-) -> None:
+def test_the_movement_of_a_list_is_that_of_the_copies(small: Machine) -> None:
     """Five children want the one place of OAK; the nearest has it, and 2 and 3 are equal. Then 2
     leaves the list, and a fill is held. A copy that is not there is named as that.
     """
-    register = small_register(tmp_path_factory)
-    with machine_over(tmp_path, register, monkeypatch) as machine, machine.office() as office:
+    with small.office() as office:
         rita = office.browser("rita", "reader")
         assert "No round was held yet" in rita.get("/schools/OAK/moves").text
-        after_round(machine, office)
+        after_round(small, office)
         assert in_copy(office, 1) == {}
         assert in_copy(office, 2) == {2: 1, 3: 1, 4: 3, 5: 4}
 

@@ -21,8 +21,7 @@ import pytest
 from applications import Browser, Site, site
 from conftest import HEADER, apply, child
 from draw_site import (
-    HAL, JANE, OFFER_DAY, SUP, Machine, begun, brought, given_up, machine_over, small_register,
-    version,
+    HAL, JANE, OFFER_DAY, SUP, Machine, begun, brought, given_up, version,
 )
 from pages import Page, press
 from register_files import Refused
@@ -44,21 +43,6 @@ from office.web.rounds import again as draws_again
 from office.web.rounds.drafts import Typed
 
 Command = dict[str, Any]
-
-
-@pytest.fixture(name="register", scope="module")
-def register_fixture(tmp_path_factory: pytest.TempPathFactory) -> pathlib.Path:
-    """The file of a small register."""
-    return small_register(tmp_path_factory)
-
-
-@pytest.fixture(name="small")
-def small_fixture(
-    tmp_path: pathlib.Path, register: pathlib.Path, monkeypatch: pytest.MonkeyPatch
-) -> Iterator[Machine]:
-    """A machine with a small register."""
-    with machine_over(tmp_path, register, monkeypatch) as found:
-        yield found
 
 
 class Model:

@@ -13,9 +13,7 @@ from typing import Any
 
 import pytest
 from applications import ORIGIN, ROUND, Answer, Browser, Program, Site, office_over, town
-from draw_site import (
-    HAL, MISTYPED, SUP, begun, brought, machine_over, small_register, typed,
-)
+from draw_site import HAL, MISTYPED, SUP, Machine, begun, brought, typed
 
 from office.web.frame import guard
 
@@ -291,18 +289,14 @@ def words_in(data: bytes) -> str:
         return "\n".join(words_in(parts.read(it)) for it in parts.namelist())
 
 
-def test_nobody_but_the_supervisor_sees_lots_before_the_seal(
-    tmp_path: pathlib.Path, tmp_path_factory: pytest.TempPathFactory,
-    monkeypatch: pytest.MonkeyPatch,
-) -> None:
+def test_nobody_but_the_supervisor_sees_lots_before_the_seal(small: Machine) -> None:
     """Neither the lots nor the seed of others, in no answer to anybody else: as long as they are
     not sealed, and once the draw was given up before that.
     """
     seed = "61 83 97 of the urn"
     lots = {(code, child): at + child for code, at in (("OAK", 3141592600), ("ELM", 2718281800))
             for child in (2, 3)}
-    register = small_register(tmp_path_factory)
-    with machine_over(tmp_path, register, monkeypatch) as machine, machine.office() as office:
+    with small.office() as office:
         number = begun(office)
         brought(office, number, "lots")
         assert office.parts.lots.draw_by_seed(SUP, number, seed) == 6

@@ -23,7 +23,7 @@ import openpyxl
 import pytest
 from applications import ORIGIN, ROUND, Browser, Site, office_over, site, town
 from conftest import PROGRAM, ROOT, make
-from draw_site import HAL, JANE, NAME, Fields, Machine, machine_over, small_register
+from draw_site import HAL, JANE, NAME, Fields, Machine, machine_over
 from machine import deletion, office_delete, office_deletion_day, registers, second_copy
 from register_files import Refused
 from served import served
@@ -49,12 +49,6 @@ WHERE, WHY = "the safe of the <records> office", "rule 4.2 & the head"
 
 class Killed(BaseException):
     """The application was ended here."""
-
-
-@pytest.fixture(name="register", scope="module")
-def register_fixture(tmp_path_factory: pytest.TempPathFactory) -> pathlib.Path:
-    """The file of a small register: OAK has one place and ELM nine, and five children want both."""
-    return small_register(tmp_path_factory)
 
 
 @pytest.fixture(name="small")

@@ -107,10 +107,15 @@ def is_about(register: Register, entry: Entry, number: int) -> bool:
         "draw" in command and register.fresh.get(command["draw"], {}).get(number, False))
 
 
+def today() -> datetime.date:
+    """The day of today, by the clock of this machine."""
+    return datetime.datetime.now().date()
+
+
 def local(at: str) -> str:
     """A moment of the history by the clock of this machine, with its day if that is not today."""
-    found, now = datetime.datetime.fromisoformat(at).astimezone(), datetime.datetime.now()
-    day = "" if found.date() == now.date() else f" on {days.in_words(found.date())}"
+    found = datetime.datetime.fromisoformat(at).astimezone()
+    day = "" if found.date() == today() else f" on {days.in_words(found.date())}"
     return f"{found:%H:%M}{day}"
 
 
