@@ -9,7 +9,7 @@ from collections.abc import Iterator
 
 import pytest
 from applications import ROUND, Site, office_over, town
-from pages import Page, tasks
+from pages import Page, press, tasks
 
 from office.web.frame import guard
 from office.web.frame.people import Person
@@ -107,8 +107,32 @@ def test_an_administrator_sees_who_cannot_sign_in(office: Site) -> None:
                              "Not signed in yet": "1", "Locked": "1"}
     assert [it[1] for it in tasks(text)["When you are ready"]] == [
         "Not signed in yet: newcomer.", "Locked: gone."]
-    assert {it for it in Page(text).stops if it.startswith("/people")} == {"/people/"}
+    assert {it for it in Page(text).stops if it.startswith("/people")} == {
+        "/people/", "/people/#roles"}
     assert "Ada Abel" not in text and "Alpha" not in text and "/find" not in text
+
+
+def test_an_administrator_adds_people_on_the_first_screen(office: Site) -> None:
+    """Once, whatever a second press and a second window do; what is wrong is said at its field."""
+    ada = office.browser("ada", "administrator")
+    pages = [Page(ada.get("/").text) for _ in range(2)]
+    given = {"name": "newcomer", "role": "school-A", "kind": "person"}
+    found = press(ada, "/", pages[0], "Add", **given)
+    page = Page(found.text)
+    assert found.status_code == 200 and page.said() == "newcomer is added as school-A."
+    assert len(page.by_id["secret"]) > 10 and page.focus == "name"
+    for again in (pages[0], pages[1]):
+        found = press(ada, "/", again, "Add", **given)
+        page = Page(found.text)
+        assert found.status_code == 409 and "Nobody was added" in page.said()
+        assert page.error("name") == "newcomer is there already."
+    wrong = Page(press(ada, "/", pages[0], "Add", **{**given, "name": "No One"}).text)
+    assert "a name is 1 to 64" in wrong.error("name").lower()
+    assert wrong.form("Add").values["name"] == ["No One"]
+    assert [it["name"] for it in office.parts.store.rows("SELECT name FROM person")] == [
+        "ada", "newcomer"]
+    for name, role in (("hal", "head"), ("sue", "supervisor"), ("ann", "school-A")):
+        assert "Add" not in Page(office.browser(name, role).get("/").text).buttons()
 
 
 def test_a_first_screen_has_what_its_person_did(office: Site) -> None:

@@ -91,7 +91,7 @@ def added(office: Office, by: Hands, name: str, role: str) -> None:
 
 def people(office: Office) -> None:
     """The head adds an administrator, who adds the others with their roles, and a program with a
-    token.
+    token, from the first screen on.
     """
     office.report.step("people are added, and sign in")
     office.jane.go("Office", "People")
@@ -99,7 +99,6 @@ def people(office: Office) -> None:
     ann = office.arrive(ANN)
     sign_in(ann, office.drawn[ANN])
     office.report.same(ann.tab, "Home", "the first screen of the administrator")
-    ann.go("Office", "People")
     roles = ((HAL, OFFICER), (SUP, SUPERVISOR), (RITA, READER), (ABBEY, "school-A"),
              (PROGRAM, READER))
     for name, role in roles:

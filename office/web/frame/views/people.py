@@ -1,7 +1,9 @@
 """Who may sign in: added, given a role, locked, and given a new password, each asked before it is
 done, and on record.
 """
+import contextlib
 from collections.abc import Callable, Mapping
+from typing import Any
 
 import flask
 from register_files import Refused
@@ -19,26 +21,29 @@ Answer = str | Response | tuple[str, int]
 ADD = "add"
 
 
+def form_of(wrong: Mapping[str, str] | None = None) -> dict[str, Any]:
+    """The form to add somebody: with what was typed where that is wrong, and the focus after each.
+    """
+    form = flask.request.form
+    schools: list[str] = []
+    with contextlib.suppress(Refused):
+        schools = sorted(parts().desk.register().schools)
+    return {
+        "roles": people.ROLES, "school_roles": [people.SCHOOL + it for it in schools],
+        "typed": {it: form.get(it, "") if wrong else "" for it in ("name", "role", "kind")},
+        "wrong": {"name": "", "role": "", **(wrong or {})}, "is_adding": form.get("what") == ADD}
+
+
 def page(
     said: str = "", secret: tuple[str, str, bool] | None = None, status: int = 200,
     wrong: dict[str, str] | None = None,
 ) -> Answer:
     """The list of all, with a secret that is shown once: whose it is, and whether it is a token.
-    The form to add somebody has what was typed where that is wrong, and the focus after each.
     """
-    form = flask.request.form
-    typed = {it: form.get(it, "") if wrong else "" for it in ("name", "role", "kind")}
     rows = parts().store.rows("SELECT * FROM person ORDER BY kind, name")
-    schools: list[str] = []
-    try:
-        schools = sorted(parts().desk.register().schools)
-    except Refused:
-        pass
     return flask.render_template(
         "people.html", rows=rows, said=said, is_bad=status != 200, secret=secret,
-        roles=people.ROLES, school_roles=[people.SCHOOL + it for it in schools],
-        typed=typed, wrong={"name": "", "role": "", **(wrong or {})},
-        is_adding=form.get("what") == ADD), status
+        **form_of(wrong)), status
 
 
 @screen.get("/")

@@ -17,6 +17,7 @@ from office.web.frame import navigation as frame
 from office.web.frame.guard import SIGNED_IN, needs, parts, person
 from office.web.frame.people import DRAW, NOTES, PEOPLE, READ, RECORD, Person
 from office.web.frame.people import LOTS as OF_LOTS
+from office.web.frame.views import people
 from office.web.letters.sender import Sender
 from office.web.letters.views import letters
 from office.web.machinery import pictures
@@ -177,7 +178,8 @@ def first_page() -> str:
         tasks=[(title, [linked(it) for it in rows]) for title, rows in home.grouped(found.tasks)],
         done=[linked(it) for it in found.done],
         dates=home.dates(register, day, False) if register else [],
-        work=home.work([it for it in history if it.who == who.name], Names()))
+        work=home.work([it for it in history if it.who == who.name], Names()),
+        may_add=who.may(PEOPLE), **(people.form_of() if who.may(PEOPLE) else {}))
 
 
 def first_of(who: Person, register: Register | None, day: datetime.date) -> First:
