@@ -130,10 +130,10 @@ def test_37_errors_of_five_kinds_are_mended_in_twelve_presses(
     staging = office.app.extensions["staging"].staging
     given = {it: right[int(staging.row(int(it.removeprefix("name-"))).cells["child"])][1]
              for it in names}
-    assert len(given) == 2 and "ready" not in hands.page.by_id
+    assert len(given) == 2 and "verdict" not in hands.page.by_id
     hands.press("Save what was changed", **given)
-    assert hands.page.by_id["ready"] == "All rows are ready"
     assert hands.count <= 12
+    assert hands.page.by_id["verdict"].startswith("1,464 applications can be added")
     seen = screens.see("?show=ready")
     assert "kinds" not in seen.texts and "1,464 rows" in " ".join(seen.text.split())
     assert {int(it["child"]): [it[column] for column in COLUMNS]

@@ -31,8 +31,8 @@ from office.files import processes as apart
 from office.web.applications import check as staging_check
 from office.web.applications import commit as staging_commit
 from office.web.applications import form as staging_form
+from office.web.applications import tools as staging_tools
 from office.web.applications.rows import COMMITTED, OPEN, SENDING, WITHDRAWN
-from office.web.applications.views import commit as applications_commit
 from office.web.frame import uploads
 from office.web.frame.people import Person
 from office.web.register import schema, store
@@ -170,7 +170,7 @@ def test_families_may_change_theirs_until_the_closing_day(
     """The question says so up to that day, and not after it."""
     screens.add(("autumn.csv", lines(GOOD)))
     for day, is_said in ((CLOSING, True), (CLOSING + datetime.timedelta(1), False)):
-        monkeypatch.setattr(applications_commit, "today", lambda day=day: day)
+        monkeypatch.setattr(staging_tools, "today", lambda day=day: day)
         page = screens.see("commit/")
         assert page.buttons.count("Add 12 applications") == 1
         assert " ".join(page.texts["final"].split()) == (
@@ -178,6 +178,65 @@ def test_families_may_change_theirs_until_the_closing_day(
             " day stay, and it cannot be withdrawn. Name, home, ‘Looked after’, verified reasons,"
             " siblings’ schools and present school can still be corrected on the child’s page.")
         assert ("families may change theirs" in " ".join(page.text.split())) == is_said
+
+
+def test_a_file_without_errors_leads_to_its_question(office: Site, screens: Screens) -> None:
+    """It says what was added, what is to be checked first, and how the file was read. A second
+    press and a second window store nothing more, and lead to what is said of the first.
+    """
+    rows = [*GOOD, ["113", "Lou Lambe", "2100", "3100", "no", "", "", "2024-10-12", "OAK", ""]]
+    found = screens.add(("a.csv", lines(rows).decode().replace("Ada Abbot", "Zo\xeb Abbot")
+                         .encode("windows-1252")))
+    assert found.location.startswith("/applications/commit/?added=")
+    page = Seen(screens.browser.get(found.location).text)
+    assert page.texts["answer"] == "a.csv is added: 13 rows."
+    assert page.buttons.count("Add 13 applications") == 1 and not imports(office)
+    counts = " ".join(page.texts["counts"].split())
+    assert "To check first 4 rows Possible duplicates 1 pair" in counts
+    assert "are these the right letters? Zo\xeb (1 row)" in " ".join(page.texts["read-as"].split())
+    digest, other = page.value("digest"), screens.digest()
+    done = screens.store(digest)
+    assert done.status_code == 303 and other == digest
+    for _ in range(2):
+        again = screens.store(digest)
+        assert (again.status_code, again.location) == (303, done.location)
+    said = Seen(screens.browser.get(done.location).text).texts["answer"]
+    assert said == "Added to the register: 13 applications."
+    assert len(imports(office)) == 1 and states(office) == {COMMITTED: 13}
+
+
+def test_a_file_with_one_error_leads_to_it_and_its_correction_to_the_question(
+    office: Site, screens: Screens
+) -> None:
+    """So does a row that is set aside; a row in which nothing was wrong leads back to the table."""
+    found = screens.add(("a.csv", lines([changed(GOOD[0], 2, "1,000"), *GOOD[1:3]])))
+    assert found.location.startswith("/applications/?added=")
+    page = Seen(screens.browser.get(found.location).text)
+    row = page.row("row 2 of a.csv")
+    assert page.wrong() == {(row, "east")} and page.texts["answer"] == "a.csv is added: 3 rows."
+    found = screens.save(row, east="1000")
+    page = Seen(screens.browser.get(found.location).text)
+    assert page.texts["answer"] == "Saved: row 2 of a.csv; nothing is wrong in it."
+    assert page.buttons.count("Add 3 applications") == 1
+    assert screens.save(row, east="1001").location.startswith("/applications/?")
+    assert screens.save(row, east="1,001").location.startswith("/applications/?")
+    found = screens.withdraw(row)
+    page = Seen(screens.browser.get(found.location).text)
+    assert "Set aside: row 2 of a.csv." in page.texts["answer"]
+    assert page.buttons.count("Add 2 applications") == 1 and not imports(office)
+
+
+def test_until_the_closing_day_the_table_is_where_applications_are_collected(
+    screens: Screens, monkeypatch: pytest.MonkeyPatch
+) -> None:
+    """No file and no correction leads to what would make them final."""
+    monkeypatch.setattr(staging_tools, "today", lambda: CLOSING)
+    wrong = changed(GOOD[0], 2, "1,000")
+    assert screens.add(("a.csv", lines(GOOD[1:]))).location.startswith("/applications/?added=")
+    assert screens.add(("b.csv", lines([wrong]))).location.startswith("/applications/?added=")
+    row = screens.see().row("row 2 of b.csv")
+    assert screens.save(row, east="1000").location.startswith("/applications/?")
+    assert "Add 12 applications" in screens.see("commit/").buttons
 
 
 def test_the_counts_are_those_of_the_rows(office: Site, screens: Screens) -> None:
@@ -803,7 +862,8 @@ def test_what_has_changed_is_not_stored(office: Site, screens: Screens) -> None:
         assert "Add " in " ".join(Seen(found.text).buttons), "the new counts are shown"
     assert not imports(office)
     digest = screens.digest()
-    assert screens.store(digest).status_code == 303 and screens.store(digest).status_code == 409
+    done, again = screens.store(digest), screens.store(digest)
+    assert done.status_code == 303 and again.location == done.location
     assert screens.store("").status_code == 409 and len(imports(office)) == 1
 
 

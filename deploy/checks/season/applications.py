@@ -92,8 +92,7 @@ def corrected(office: Office) -> None:
         hal.see(f"With errors {left}")
     twice = row_of(hal, town.doubled(given))
     hal.press("Set aside", twice)
-    hal.see("With errors 0")
-    hal.see(f"To check {len(town.LATE)}")
+    hal.see("Set aside: ")
 
 
 def several(hal: Hands, cells: list[tuple[Child, str]]) -> None:
@@ -129,17 +128,20 @@ def slip(hal: Hands, child: Child) -> None:
 
 
 def stored(office: Office) -> None:
-    """All are stored by the question that names how many there are."""
+    """All are stored by the question that names how many there are, to which the last correction
+    has led.
+    """
     report, hal = office.report, office.people[HAL]
     given = list(office.season.children.values())
     report.step("they are stored")
-    hal.go("Applications", "Add to the register")
+    report.same(hal.title, "Add to the register", "the screen after the last correction")
     facts, late = hal.facts(), len(town.LATE)
     in_time = len(given) - late
     report.same(facts.get("Applications"), str(len(given)), "applications to be stored")
     report.see(facts.get("In time", "").startswith(f"{in_time},"),
                f"in time: {facts.get('In time')}")
     report.same(facts.get("Late"), str(late), "late ones to be stored")
+    report.same(facts.get("To check first"), f"{late} rows", "rows that should be checked first")
     report.same(facts.get("Looked after"), str(sum(it.looked_after for it in given)),
                 "looked after of those to be stored")
     hal.see(f"Shall {len(given)} applications be added to the register, {in_time} in time and"

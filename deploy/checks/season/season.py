@@ -136,7 +136,8 @@ STEPS: tuple[tuple[Callable[[Office], None], int], ...] = (
     (applications.from_workbook, 1),
     # the row that is set aside
     (applications.corrected, 1),
-    (applications.stored, 2),
+    # (the last correction has led to the question)
+    (applications.stored, 1),
     # the screen, the question, and its answer
     (applications.plans, 3),
     # for the head of the office the screen, the close and the draw; for the officer the draw and

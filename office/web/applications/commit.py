@@ -100,6 +100,11 @@ class Commit:
         """How many rows that would be stored should be checked first."""
         return sum(self.table.has_look(it.staged.id) for it in self.rows)
 
+    @property
+    def to_locate(self) -> int:
+        """How many rows have a home of which something is to be said first."""
+        return sum(it.needs_look for it in self.table.rows.values())
+
     @functools.cached_property
     def digest(self) -> str:
         """The digest of all that is shown: the rows in their versions, and what it rests on."""
@@ -223,6 +228,8 @@ class Committing:
     ) -> None:
         self.staging, self.checker, self.imports = staging, checker, imports
         self.desk, self.copy = imports.desk, copy
+        # what was stored last, by whom and its digest, for who presses twice
+        self.last: tuple[str, str, Outcome] | None = None
 
     def found(self, register: Register) -> Commit:
         """What would be stored now."""
@@ -236,6 +243,8 @@ class Committing:
         with self.staging.lock, self.desk.lock:
             if said := self.unknown():
                 return Outcome(False, said)
+            if self.last and self.last[:2] == (who.name, digest):
+                return self.last[2]
             found = self.found(self.desk.now())
             if found.digest != digest:
                 return Outcome(False, CHANGED)
@@ -246,8 +255,10 @@ class Committing:
                 return Outcome(True, "", None, len(found.equal))
             self.copy(PURPOSE, who.name)
             rows = [it.staged for it in found.rows]
-            return self.came(
-                found, *self.imports.store_rows(who, rows, found.csv, found.points))
+            came = self.came(found, *self.imports.store_rows(who, rows, found.csv, found.points))
+            if came.is_done:
+                self.last = who.name, digest, came
+            return came
 
     def came(self, found: Commit, result: Result, entry: Entry | None) -> Outcome:
         """What the sending came to."""

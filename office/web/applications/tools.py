@@ -1,5 +1,6 @@
 """What the screens of the staging table share in one application."""
 import dataclasses
+import datetime
 from collections.abc import Mapping
 from typing import Any, cast
 
@@ -60,6 +61,16 @@ def table_now() -> tuple[Table, str]:
     unknown = tools().committing.unknown()
     register, reason = register_now()
     return tools().checker.table(tools().staging.rows(OPEN), register), unknown or reason
+
+
+def today() -> datetime.date:
+    """The day of today."""
+    return datetime.date.today()
+
+
+def is_collecting(register: Register) -> bool:
+    """Whether families may still change what is in the table: until the closing day."""
+    return today() <= register.days[0]
 
 
 def numbers_taken(register: Register | None) -> set[int]:

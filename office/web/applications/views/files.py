@@ -58,7 +58,7 @@ def add() -> Answer:
         names = [it.name for it in tools().staging.files() if it.id in added]
         done = f" Added: {texts.listed(names)}." if names else ""
         return applications.page(f"Not added: {'; '.join(refused)}.{done}", True)
-    return flask.redirect(flask.url_for("applications.show", added=added), 303)
+    return applications.onward(False, {"added": added})
 
 
 @screen.post("/file/<int:number>")
@@ -107,4 +107,4 @@ def replace(number: int) -> Answer:
     except Refused as error:
         return page(number, f"Nothing was changed: {error}.")
     tools().points.fill(who, file)
-    return flask.redirect(flask.url_for("applications.show", did=entry), 303)
+    return applications.onward(False, {"did": entry})

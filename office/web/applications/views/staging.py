@@ -12,14 +12,14 @@ from office.core import persons, texts
 from office.web.frame.guard import needs, person
 from office.web.frame.people import RECORD
 from office.web.machinery import tables
-from office.work.check import ERROR
 
-from .. import mends, pictures, replace, sent
+from .. import latest, mends, pictures, replace, sent
 from .. import kinds as staging_kinds
 from .. import page as staging_page
 from .. import tools as staging_tools
 from ..check import Table
 from ..kinds import Kind
+from ..latest import said_of_saved
 from ..page import ALL, ASIDE, FILTERS, WRONG, Asked
 from ..rows import OPEN, REMARK, WITHDRAWN, digest_of
 from ..sent import Refusal
@@ -48,8 +48,8 @@ def page(text: str = "", is_bad: bool = False, saved: Sequence[int] = (),
     table, reason = table_now()
     args, staging = flask.request.args, tools().staging
     refused = refused or {}
-    edited = numbers_in("edit")
-    first = [*refused, *saved, *edited, *numbers_in("see")]
+    edited = latest.numbers_in(args, "edit")
+    first = [*refused, *saved, *edited, *latest.numbers_in(args, "see")]
     away = staging.rows(WITHDRAWN)
     counts = staging_page.counts(table, len(away))
     kinds = staging_kinds.kinds(table, lambda: numbers_taken(table.register))
@@ -74,7 +74,7 @@ def page(text: str = "", is_bad: bool = False, saved: Sequence[int] = (),
         pairs=len(table.pairs), lost=lost_of(there, refused),
         groups=staging_page.groups(),
         to_see=sum(it.needs_look for it in table.rows.values()),
-        undo=undo_of(numbers_in("did")), focus=staging_page.focus_of(shown, first),
+        undo=latest.undo_of(staging, args), focus=staging_page.focus_of(shown, first),
         may_add="add" in args or not counts[ALL], days=pictures.by_day(table),
         wanted=pictures.wanted(table), seen=digest_of(away))
     return body, 409 if is_bad else 200
@@ -104,18 +104,6 @@ def sources(table: Table) -> Iterator[tuple[Any, Any]]:
         yield it, staging_kinds.of_file(rows) if rows else None
 
 
-def undo_of(entries: Sequence[int]) -> Any:
-    """What can be taken back of what was done last."""
-    found = (mends.undoable(tools().staging, it) for it in entries[:1])
-    return next((it for it in found if it), None)
-
-
-def numbers_in(name: str) -> list[int]:
-    """The rows that the address names."""
-    return [int(it) for it in flask.request.args.getlist(name)
-            if it.isascii() and it.isdigit() and len(it) < 10]
-
-
 def lost_of(
     rows: Container[int], refused: Mapping[int, Refusal],
 ) -> list[tuple[str, dict[str, str]]]:
@@ -138,6 +126,20 @@ def to_table(**more: Any) -> Response:
     return flask.redirect(flask.url_for(view, **found), 303)
 
 
+def is_ready() -> bool:
+    """Whether the rows of the table can be stored, which families change no more."""
+    table, reason = table_now()
+    return bool(table.rows) and not (table.wrong() or reason) and table.register is not None and (
+        not staging_tools.is_collecting(table.register))
+
+
+def onward(was_ready: bool, done: dict[str, Any], **more: Any) -> Response:
+    """Back to the table; from the last of its errors to the question that waited for it."""
+    if was_ready or not is_ready():
+        return to_table(**done, **more)
+    return flask.redirect(flask.url_for("applications_commit.show", **done), 303)
+
+
 @screen.get("/")
 @needs(RECORD)
 def show() -> Answer:
@@ -147,38 +149,8 @@ def show() -> Answer:
 
 def rows_of(show: str = "") -> Answer:
     """The rows of a state, and what was done last."""
-    args, staging = flask.request.args, tools().staging
-    entry, out = number_in(args, "done"), number_in(args, "out")
-    if entry or out:
-        many = texts.count(staging.stored(entry), "application")
-        said = [f"Added to the register: {many}."] if entry else []
-        left = [f"{texts.count(out, 'row')} that the register had are out of the table."]
-        return page(" ".join(said + left if out else said), is_added=True, show=show)
-    saved = numbers_in("row")
-    if number := number_in(args, "aside"):
-        return page(f"Set aside: {staging.row(number).where}. It can be put back from the rows that"
-                    " are set aside.", saved=saved, show=show)
-    if saved or "same" in args:
-        return page("" if saved else "No cell was changed, and nothing had to be saved.",
-                    saved=saved, show=show)
-    if undone := number_in(args, "undone"):
-        return page(f"Undone: {texts.count(undone, 'row')} {'is' if undone == 1 else 'are'} as"
-                    " before.", show=show)
-    added = [it for it in staging.files() if str(it.id) in args.getlist("added")]
-    return page(" ".join(f"{it.name} is added: {texts.count(sum(it.counts.values()), 'row')}."
-                         for it in added), show=show)
-
-
-def said_of_saved(table: Table, numbers: Sequence[int]) -> str:
-    """What is said of rows that were saved."""
-    found = [it for it in numbers if it in table.rows]
-    if not found:
-        return ""
-    many = sum(finding.kind == ERROR for it in found for finding in table.findings[it])
-    where, them = (table.rows[found[0]].staged.where, "it") if len(found) == 1 else (
-        texts.count(len(found), "row"), "them")
-    left = f"{texts.count(many, 'error')} left" if many else f"nothing is wrong in {them}"
-    return f"Saved: {where}; {left}."
+    found = latest.last(tools().staging, flask.request.args)
+    return page(found.text, saved=found.saved, show=show, is_added=found.is_added)
 
 
 @screen.post("/")
@@ -193,6 +165,7 @@ def save() -> Answer:
         rows = sent.read(form)
     except Refused as error:
         return page(f"Nothing was changed: {error}.", True)
+    was_ready = is_ready()
     came = sent.save(staging, who, rows, number_in(form, "confirm"))
     for it in rows:
         if it.number in (aside, back):
@@ -203,8 +176,8 @@ def save() -> Answer:
                     list(came.saved), came.refused)
     if back:
         return to_table(see=back, show=None)
-    return to_table(row=list(came.saved), aside=aside or None,
-                    same=None if came.saved or aside else "yes")
+    done = {"row": list(came.saved), "aside": aside or None}
+    return onward(was_ready, done, same=None if came.saved or aside else "yes")
 
 
 @screen.post("/mend")
@@ -216,7 +189,7 @@ def mend() -> Answer:
     form, staging = flask.request.form, tools().staging
     with staging.lock:
         try:
-            table, _ = table_now()
+            was_ready, (table, _) = is_ready(), table_now()
             kinds = staging_kinds.kinds(table, lambda: numbers_taken(table.register))
             chosen = chosen_item(kinds) if "seen" in form else mends.chosen(
                 staging_kinds.all_mends(table, kinds), form.get("mend", ""))
@@ -227,7 +200,7 @@ def mend() -> Answer:
         except Refused as error:
             return page(f"Nothing was changed: {error}.", True)
     kept = {f"{BY}{key}": by for key, by in chosen_now().items()}
-    return to_table(did=did, kind=None, page=None, **kept)
+    return onward(was_ready, {"did": did}, kind=None, page=None, **kept)
 
 
 @screen.get("/aside")
