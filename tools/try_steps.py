@@ -165,7 +165,8 @@ class Making:
         head.upload("/schools/new/sheet", "sheet", "schools.csv",
                     try_season.schools_sheet())
         digest = field(head.get("/schools/new/").text, "digest")
-        head.post("/schools/new/store", {"digest": digest}, 200)
+        head.post("/schools/new/store", {"digest": digest})
+        head.waited("/schools/new/?done=stored")
         seen = field(head.get("/letters/office/").text, "seen")
         head.post("/letters/office/", {"opening": "", "closing": "", **try_season.OFFICE,
                                        "seen": seen, "what": "save"})

@@ -77,7 +77,7 @@ def schools(lived: Room, _: Trace) -> None:
     hal, jane = lived.person("hal"), lived.person("jane")
     jane.get("/schools/new/").press(
         "Add to the draft", files={"sheet": ("schools.csv", SCHOOLS.encode())}, at=1)
-    jane.press("Store 4 schools").press("Store 4 schools")
+    jane.press("Store 4 schools")
     hal.get("/flags/").press("Store the words", {"flag-1": "medical need",
                                                  "flag-2": "child of a member of staff"})
     ann, abbey = lived.person("ann"), lived.person("abbey")

@@ -86,7 +86,7 @@ TEXTS: dict[str, set[str]] = {
     "new_schools.last_year": set(),
     "new_schools.remove": {"number", "digest"},
     "new_schools.sheet": set(),
-    "new_schools.store": {"digest"},
+    "new_schools.store": {"digest", "seen", *(f"flag-{it}" for it in range(16))},
     "notes.add": {"text"},
     "notes.add_file": {"text"},
     "notes.remove": {"why"},

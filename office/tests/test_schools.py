@@ -6,6 +6,7 @@ import pathlib
 import re
 import sqlite3
 import sys
+import threading
 import zipfile
 from collections.abc import Iterator
 from typing import Any
@@ -25,6 +26,7 @@ from office.web.schools import flags
 from office.web.schools import rows as schools
 from office.web.schools.drafts import Draft, digest, seen_line
 from office.web.schools.rows import Line
+from office.web.schools.views import new as new_screen
 
 OAK: dict[str, Any] = {
     "cmd": "add_school", "school": "OAK", "name": "Oak \"School\" <b>&</b> Co", "pan": 30,
@@ -73,17 +75,28 @@ def upload(browser: Browser, path: str, name: str, data: bytes, file: str = "a.c
 
 
 def stores(browser: Browser, path: str, page: Page, button: str) -> Any:
-    """Presses the button of the draft, and that of the question where it is asked."""
+    """Presses the button of the draft, and that of the question where it is asked: the page that
+    follows.
+    """
     found = press(browser, path, page, button)
     question = Page(found.text)
-    return press(browser, "", question, button) if "schools" in question.by_id else found
+    if "schools" in question.by_id:
+        found = press(browser, "", question, button)
+    return browser.get(found.location) if found.status_code == 303 else found
+
+
+def asked(browser: Browser, text: str = SHEET) -> Page:
+    """The question to which an uploaded sheet leads in which nothing is wrong."""
+    found = upload(browser, "/schools/new/sheet", "sheet", text.encode())
+    assert found.location.startswith("/schools/new/store?digest="), Page(found.text).said()
+    return Page(browser.get(found.location).text)
 
 
 def drafted(browser: Browser, text: str = SHEET) -> Page:
     """The draft after an uploaded sheet."""
     found = upload(browser, "/schools/new/sheet", "sheet", text.encode())
     assert found.status_code == 303, Page(found.text).said()
-    return Page(browser.get(found.location).text)
+    return Page(browser.get("/schools/new/").text)
 
 
 def test_a_school_is_typed_and_shown_whole_before_it_is_stored(empty: Site) -> None:
@@ -134,7 +147,7 @@ def test_a_copy_is_made_before_schools_are_stored(
             late = press(jane, "", question, "Store 2 schools")
         assert late.status_code == 409 and said in Page(late.text).said()
         assert sent(empty) == [] and empty.copied == []
-    assert press(jane, "", question, "Store 2 schools").status_code == 200
+    assert press(jane, "", question, "Store 2 schools").status_code == 303
     assert empty.copied == ["before schools are stored"] and len(stored(empty)) == 2
 
 
@@ -149,7 +162,7 @@ def test_schools_are_asked_whole_before_they_are_stored(empty: Site) -> None:
     said = " ".join(question.by_id["schools"].split())
     assert found.status_code == 200 and sent(empty) == []
     assert f"OAK {OAK['name']}: admission number 30, east 4100, north 3600." in said
-    assert "1. with a brother or sister at the school" in said
+    assert "1. sibling: with a brother or sister at the school" in said
     assert "ELM" in said and "This cannot be undone" in question.text
     assert "only its admission number can be changed" in question.text
     drafted(jane, HEADER + "A,Alpha,1,1,1,\n")
@@ -158,7 +171,98 @@ def test_schools_are_asked_whole_before_they_are_stored(empty: Site) -> None:
     page = Page(jane.get("/schools/new/").text)
     question = Page(press(jane, "", page, "Store 3 schools").text)
     found = press(jane, "", question, "Store 3 schools")
-    assert found.status_code == 200 and len(sent(empty)) == 3
+    assert found.status_code == 303 and len(sent(empty)) == 3
+
+
+def test_a_sheet_without_errors_leads_to_its_question_and_is_stored_once(empty: Site) -> None:
+    """Whatever a second press and a second window do; each of them says what is stored."""
+    jane, bo = empty.browser("jane"), empty.browser("bo")
+    question = asked(jane)
+    said = " ".join(question.by_id["schools"].split())
+    assert f"OAK {OAK['name']}: admission number 30" in said and "This cannot be" in question.text
+    assert question.buttons() == ["Store 2 schools"] and sent(empty) == []
+    other = Page(press(bo, "", Page(bo.get("/schools/new/").text), "Store 2 schools").text)
+    first, again, late = (press(*it, "Store 2 schools") for it in (
+        (jane, "", question), (jane, "", question), (bo, "", other)))
+    assert {(it.status_code, it.location) for it in (first, again, late)} == {
+        (303, "/schools/new/?done=stored")}
+    page = Page(jane.get(first.location).text)
+    assert page.said() == "2 schools are stored." and len(page.tables["outcomes"]) == 3
+    assert len(sent(empty)) == 2 and [it["school"] for it in stored(empty)] == ["ELM", "OAK"]
+    # a colleague's line that is wrong is seen before anything is asked
+    with_error = HEADER + "ASH,Ash,500x,5,6,\n"
+    assert upload(bo, "/schools/new/sheet", "sheet", with_error.encode()).location == (
+        "/schools/new/?done=1")
+    page = drafted(jane, HEADER + "BAY,Bay,5,7,8,\n")
+    assert [it[0] for it in page.tables["Each line as it will be stored"][1:]] == ["ASH", "BAY"]
+    assert not any(it.startswith("Store") for it in page.buttons())
+
+
+def test_the_question_asks_for_the_words_of_reasons_that_have_none(empty: Site) -> None:
+    """They are stored before the schools, and are as on Verified reasons. What cannot be stored
+    stays in its field, and nothing else is stored then.
+    """
+    store, text = empty.parts.store, HEADER + "A,Alpha,1,1,1,flag:1;sibling\nB,Beta,1,2,2,flag:3\n"
+    flags.change(store, "{}", {3: "a twin"}, lambda _: None)
+    jane = empty.browser("jane")
+    question = asked(jane, text)
+    fields = {it for it in question.form("Store 2 schools").values if it.startswith("flag-")}
+    assert fields == {"flag-1"}
+    assert "1. flag:3: a twin" in question.by_id["schools"]
+    for typed, said in (("x" * 101, "At most 100 characters"), ("a\u202eb", "Words on one line")):
+        found = press(jane, "", question, "Store 2 schools", **{"flag-1": typed})
+        page = Page(found.text)
+        assert found.status_code == 409 and said.lower() in page.error("flag-1").lower()
+        assert 'href="#flag-1">Words of reason 1: ' in page.text
+        assert page.form("Store 2 schools").values["flag-1"] == [typed] and sent(empty) == []
+    flags.change(store, flags.text_of({3: "a twin"}), {3: "a triplet"}, lambda _: None)
+    found = press(jane, "", question, "Store 2 schools", **{"flag-1": "medical need"})
+    page = Page(found.text)
+    assert found.status_code == 409 and "The words were changed meanwhile" in page.said()
+    assert page.form("Store 2 schools").values["flag-1"] == ["medical need"] and sent(empty) == []
+    for _ in range(2):
+        found = press(jane, "", page, "Store 2 schools", **{"flag-1": " medical need "})
+        assert found.location == "/schools/new/?done=stored"
+    assert flags.words_of(store) == {1: "medical need", 3: "a triplet"} and len(sent(empty)) == 2
+    assert [it.what for it in empty.parts.history.entries].count("named flags") == 1
+    # (in another window other words were typed: they are not said to be stored)
+    found = press(jane, "", page, "Store 2 schools", **{"flag-1": "a rare need"})
+    assert found.status_code == 409 and "was changed since it was shown" in Page(found.text).said()
+    assert flags.words_of(store)[1] == "medical need"
+    question = asked(jane, HEADER + "C,Gamma,1,3,3,flag:1\n")
+    assert "nameless" not in question.by_id
+    assert "1. flag:1: medical need" in question.by_id["schools"]
+
+
+def test_storing_that_takes_long_says_at_its_end_what_is_stored(
+    empty: Site, monkeypatch: pytest.MonkeyPatch
+) -> None:
+    """The page looks again meanwhile; what hindered it after its answer is said there too."""
+    jane, go_on, make_copy = empty.browser("jane"), threading.Event(), empty.parts.copies.make
+    monkeypatch.setattr(new_screen, "WAIT_SECONDS", 0.0)
+    hinders = [Refused("there is no copy: the disk is full")]
+
+    def slow(*given: Any) -> int:
+        go_on.wait(60)
+        if hinders:
+            raise hinders.pop()
+        return make_copy(*given)
+
+    monkeypatch.setattr(empty.parts.copies, "make", slow)
+    question, path = asked(jane), "/schools/new/?done=stored"
+    for said in ("There is no copy: the disk is full. 2 lines remain in the draft.",
+                 "2 schools are stored."):
+        go_on.clear()
+        assert press(jane, "", question, "Store 2 schools").location == path
+        page = Page(jane.get(path).text)
+        assert page.fields["lines"]["data-running"] == path and sent(empty) == []
+        assert press(jane, "", question, "Store 2 schools").location == path
+        go_on.set()
+        job = empty.parts.jobs.last("school draft")
+        assert job and job.is_over.wait(60)
+        page = Page(jane.get(path).text)
+        assert page.said() == said and "data-running" not in page.fields["lines"]
+    assert len(sent(empty)) == 2
 
 
 WRONG = [
@@ -457,7 +561,8 @@ def test_a_school_with_other_data_is_named(empty: Site) -> None:
         return kept(*given)
 
     setattr(desk, "request", late)
-    outcome, = draft.store_all(Person("jane", "officer"), {}, digest(lines), 600)
+    draft.store_all(Person("jane", "officer"), {}, digest(lines), 600)
+    outcome, = draft.outcomes()
     assert not outcome.result.is_done and len(draft.rows()) == 1
     assert "Admission number 99 there, 12 here" in outcome.result.said
 

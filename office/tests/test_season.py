@@ -336,7 +336,7 @@ def test_a_step_that_begins_with_a_file_has_its_form_on_the_first_screen(
     then = ("child,name,east,north,looked_after,flags,siblings,day,preferences\n"
             "9,Ida Fox,1,2,false,,,2024-09-30,A\n")
     steps_of: tuple[tuple[list[dict[str, Any]], str, str, str, str], ...] = (
-        ([], "/schools/new/sheet", "sheet", first, "1 school is in the draft below."),
+        ([], "/schools/new/sheet", "sheet", first, "A <bdi>Ash</bdi>: admission number 2"),
         (town(), "/applications/files", "files", then, "lines.csv is added: 1 row."),
         ([*town(), ROUND], "", "", "", ""))
     for at, (commands, action, field, text, said) in enumerate(steps_of):

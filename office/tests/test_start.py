@@ -42,11 +42,11 @@ def test_the_first_hour_is_as_the_page_says(tmp_path: pathlib.Path) -> None:
     """Two schools, four applications of which two rows have errors, a correction, and a note."""
     with office_over(tmp_path, []) as office:
         harriet = office.browser("harriet", "head")
-        draft = chosen(harriet, "sheet", "schools.csv", SCHOOLS)
-        assert "living within 1,000 metres" in plain(draft.text)
-        question = pressed(harriet, "/schools/new/", draft, named("Store 2 schools"))
+        question = chosen(harriet, "sheet", "schools.csv", SCHOOLS)
+        assert "living within 1,000 metres" in plain(question.text)
         assert "only upwards" in plain(question.text)
-        pressed(harriet, "/schools/new/store", question, "Store 2 schools")
+        stored = pressed(harriet, "/schools/new/store", question, named("Store 2 schools"))
+        assert stored.said() == "2 schools are stored."
 
         table = chosen(harriet, "files", "children.csv", CHILDREN)
         assert "2 rows have errors of 2 kinds" in plain(table.text)

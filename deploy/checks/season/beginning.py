@@ -1,4 +1,5 @@
 """The begin of the season: people sign in, the schools, the words of flags, who may do what."""
+from selenium.webdriver.common.by import By
 from selenium.webdriver.common.keys import Keys
 
 from . import town
@@ -37,40 +38,45 @@ def first_sign_in(office: Office) -> None:
 
 
 def schools(office: Office) -> None:
-    """The schools from an Excel file: shown whole, and stored."""
+    """The schools from an Excel file: shown whole by the question, and stored."""
     office.report.step("schools from an Excel file")
-    jane, path = office.jane, office.folder / "schools.xlsx"
+    jane, path, button = office.jane, office.folder / "schools.xlsx", (
+        f"Store {len(town.SCHOOLS)} schools")
     town.write_schools(path)
     jane.choose("Sheet", path)
-    office.report.same(jane.title, "Add schools", "the screen of the draft of schools")
+    office.report.same(jane.title, button, "the question about the schools")
+    jane.look("Add schools, the question")
+    question = jane.driver.current_url
+    asked = [it.text for it in jane.driver.find_elements(By.CSS_SELECTOR, "#schools li")]
+    jane.open("/schools/new/", "Add schools, a draft")
     lines = jane.captioned("Each line as it will be stored")
-    jane.look("Add schools, a draft")
     for it in town.SCHOOLS:
         row = next((row for row in lines if row[0] == it.code), [""] * 6)
         office.report.same(row[:5], [it.code, it.name, str(it.pan), str(it.east), str(it.north)],
                            f"the line of {it.code} in the draft")
         office.report.see(all(one in row[5] for one in it.criteria),
                           f"the criteria of {it.code} in the draft: {row[5]}")
-    jane.press(f"Store {len(town.SCHOOLS)} schools")
-    asked = jane.text("#schools")
-    jane.look("Add schools, the question")
-    for it in town.SCHOOLS:
-        office.report.see(f"{it.code} {it.name}: admission number {it.pan}," in asked,
-                          f"the question has {it.code}: {asked}")
-    jane.press(f"Store {len(town.SCHOOLS)} schools")
+        said = next((one for one in asked if one.startswith(
+            f"{it.code} {it.name}: admission number {it.pan}, east {it.east}, north {it.north}.")),
+            "")
+        office.report.see(said and all(f"{at}. {one}: " in said for at, one in enumerate(
+            it.criteria, 1)), f"the question has {it.code} with its criteria: {asked}")
+    jane.driver.get(question)
+    for number, words in town.FLAG_WORDS.items():
+        jane.fill(f"Words of reason {number}", words)
+    jane.press(button)
     jane.see(f"{len(town.SCHOOLS)} schools are stored.")
     office.report.same(len(jane.rows("#outcomes")), len(town.SCHOOLS), "schools that were stored")
 
 
 def flags(office: Office) -> None:
-    """Words for flags."""
+    """The words of flags, which were asked for with the schools, and the schools that use them."""
     office.report.step("words for flags")
     jane = office.jane
-    jane.go("Schools", "Verified reasons")
+    jane.open("/flags/")
     for number, words in town.FLAG_WORDS.items():
-        jane.fill(f"Words of reason {number}", words)
-    jane.enter()
-    jane.see("The words are stored.")
+        here = jane.field(f"Words of reason {number}").get_attribute("value")
+        office.report.same(here, words, f"the words of flag {number}")
     rows = {row[0]: row[2] for row in jane.rows("table")}
     office.report.same(rows.get("2"), "A, FERN", "the schools with flag 2 among their criteria")
 
@@ -99,6 +105,7 @@ def people(office: Office) -> None:
     ann = office.arrive(ANN)
     sign_in(ann, office.drawn[ANN])
     office.report.same(ann.tab, "Home", "the first screen of the administrator")
+    ann.look("The first screen of the administrator")
     roles = ((HAL, OFFICER), (SUP, SUPERVISOR), (RITA, READER), (ABBEY, "school-A"),
              (PROGRAM, READER))
     for name, role in roles:

@@ -125,11 +125,11 @@ def other_screens(office: Office) -> None:
 # day than that of the draw.)
 STEPS: tuple[tuple[Callable[[Office], None], int], ...] = (
     (beginning.first_sign_in, 0),
-    # the file on the first screen, the schools in it, and the question
-    (beginning.schools, 3),
-    (beginning.flags, 1),
-    # the screen, for each of two people: each of six is added by typing
-    (beginning.people, 2),
+    # the file on the first screen, and the question, which asks for the words of flags too
+    (beginning.schools, 2),
+    (beginning.flags, 0),
+    # the screen of the head, who adds one; an administrator's first screen has the form
+    (beginning.people, 1),
     (beginning.arrivals, 0),
     (ready, 0),
     # the file, on the first screen

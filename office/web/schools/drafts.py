@@ -19,7 +19,7 @@ from office.web.register.desk import DIFFERS, DONE, Desk, Result
 from office.web.register.store import Store
 
 from . import rows as schools
-from .rows import Cells, Line
+from .rows import FLAG, Cells, Line
 
 MOST = LIMITS["schools"].most
 PURPOSE = "before schools are stored"
@@ -49,7 +49,8 @@ class Draft(Outbox[Item]):
     def __init__(self, store: Store, desk: Desk, jobs: Jobs, copies: Copies) -> None:
         super().__init__(store, desk, jobs)
         self.copies = copies
-        # what came of the lines that were confirmed last, by their numbers
+        # the lines that were confirmed last, and what came of them by their numbers
+        self.last: list[Line] = []
         self.results: dict[int, Result] = {}
 
     def request(self, it: Item) -> Request:
@@ -104,21 +105,18 @@ class Draft(Outbox[Item]):
 
     def store_all(
         self, who: Person, words: Mapping[int, str], shown: str, wait: float,
-    ) -> list[Outcome]:
-        """Begins to store the draft as it was shown, and waits for the end for some seconds; what
-        came of its lines until then.
-        """
+    ) -> None:
+        """Begins to store the draft as it was shown, and waits for the end for some seconds."""
         lines = lines_shown(self.desk.now().schools, self, words, shown)
         if not self.jobs.run(
                 self.job(DRAFT), who.name, lambda: self.send_all(who, lines), wait):
             raise Refused("the draft is being stored already")
-        return self.outcomes(lines)
 
     def send_all(self, who: Person, lines: list[Line]) -> None:
         """Stores lines as they were shown, in their order, after a copy of the register, until the
         end or until nothing can be sent.
         """
-        self.results = {}
+        self.last, self.results = lines, {}
         if not all(it.is_there for it in lines):
             copied(self.desk, self.copies, PURPOSE, who)
         self.send(who, self.confirmed(lines))
@@ -161,10 +159,22 @@ class Draft(Outbox[Item]):
                           " was stored for it.")
         return THERE
 
-    def outcomes(self, lines: Iterable[Line]) -> list[Outcome]:
-        """What came of lines that were confirmed, as far as they were sent."""
+    def is_sent(self, shown: str) -> bool:
+        """Whether the draft is being stored, or what was shown was stored already by a first press.
+        """
+        left = {number for number, _ in self.rows()}
+        return self.is_running(DRAFT) or bool(self.last) and digest(self.last) == shown and (
+            left.isdisjoint(it.number for it in self.last))
+
+    def outcomes(self) -> list[Outcome]:
+        """What came of the lines that were confirmed last, as far as they were sent."""
         return [Outcome(it.command["school"], it.command["name"], self.results[it.number])
-                for it in lines if it.command and it.number in self.results]
+                for it in self.last if it.command and it.number in self.results]
+
+    def hindered(self) -> str:
+        """What hindered the storing after its answer was given, or ""."""
+        job = self.jobs.last(self.job(DRAFT))
+        return job.refused if job and job.is_over.is_set() else ""
 
 
 def seen_line(cells: Cells) -> str:
@@ -186,6 +196,13 @@ def digest(lines: Iterable[Line]) -> str:
 def is_ready(lines: list[Line]) -> bool:
     """Whether each line can be stored."""
     return bool(lines) and all(it.command is not None for it in lines)
+
+
+def nameless(lines: Iterable[Line], words: Mapping[int, str]) -> list[int]:
+    """The flags among the criteria of lines that have no words yet."""
+    used = (it for line in lines if line.command for it in line.command["criteria"])
+    numbers = {int(it.removeprefix(FLAG)) for it in used if it.startswith(FLAG)}
+    return sorted(numbers - words.keys())
 
 
 def lines_shown(

@@ -1,11 +1,15 @@
 """Schools that are to be stored: typed, uploaded or taken from last year, shown whole in a draft,
 and stored by one confirmation.
 """
+import contextlib
+from collections.abc import Mapping
+
 import flask
 from register_files import Refused
 from werkzeug.wrappers import Response
 
 from office.core import texts
+from office.core.fields import trimmed
 from office.core.rules import LIMITS
 from office.core.wording import Order, classes, label, sentence
 from office.web.frame import guard, uploads
@@ -21,6 +25,8 @@ from ..rows import COLUMNS, Cells, Line
 screen = flask.Blueprint("new_schools", __name__, url_prefix="/schools/new")
 Answer = str | Response | tuple[str, int]
 NONE = {it: "" for it in COLUMNS}
+# what the address of the draft says where its lines were stored
+STORED = "stored"
 # so long the answer to 'Store' waits for the end; after it the page shows how far it is
 WAIT_SECONDS = 20.0
 
@@ -75,6 +81,16 @@ def to_draft(said: str) -> Response:
     return flask.redirect(flask.url_for("new_schools.show", done=said), 303)
 
 
+def onward(many: int) -> Response:
+    """Leads to the question where nothing is wrong in the draft, else to the draft."""
+    lines: list[Line] = []
+    with contextlib.suppress(Refused):
+        lines = schools.lines_of(draft().rows(), parts().desk.register().schools, flags.present())
+    if not drafts.is_ready(lines) or draft().came_of() or draft().is_running(DRAFT):
+        return to_draft(str(many))
+    return flask.redirect(flask.url_for("new_schools.ask", digest=drafts.digest(lines)), 303)
+
+
 DID = {"added": "The school is in the draft below.", "removed": "It is removed from the draft.",
        "changed": "The line is changed."}
 
@@ -84,10 +100,27 @@ DID = {"added": "The school is in the draft below.", "removed": "It is removed f
 def show() -> Answer:
     """The draft, with the form of a new school."""
     done = flask.request.args.get("done", "")
+    if done == STORED:
+        return stored()
     if done.isdecimal() and len(done) < 4:
         count = texts.count(int(done), "school is", "schools are")
         return page(said=f"{count} in the draft below.")
     return page(said=DID.get(done, ""))
+
+
+def stored() -> Answer:
+    """The draft, with what came of the lines that were confirmed last."""
+    if draft().is_running(DRAFT):
+        return page()
+    found, hindered = draft().outcomes(), draft().hindered()
+    done = sum(it.result.outcome == DONE for it in found)
+    said = [f"{texts.count(done, 'school is', 'schools are')} stored."] if found else []
+    if hindered:
+        said.append(sentence(hindered))
+    if left := len(draft().rows()):
+        said.append(f"{texts.count(left, 'line remains', 'lines remain')} in the draft.")
+    is_bad = bool(hindered) or done < len(found)
+    return page(said=" ".join(said), status=409 if is_bad else 200, outcomes=found)
 
 
 @screen.post("/")
@@ -107,12 +140,11 @@ def add() -> Answer:
     return to_draft("added")
 
 
-def add_many(given: list[Cells], source: str) -> Response:
+def add_many(given: list[Cells], source: str) -> None:
     """Schools of a file."""
     guard.record("added to the draft of schools", schools=[it["school"] for it in given],
                  source=source)
     draft().add(given)
-    return to_draft(str(len(given)))
 
 
 @screen.post("/sheet")
@@ -120,8 +152,9 @@ def add_many(given: list[Cells], source: str) -> Response:
 def sheet() -> Answer:
     """The schools of an Excel file or a CSV."""
     try:
-        rows = uploads.rows_of(flask.request.files.get("sheet"))
-        return add_many(schools.rows_of(rows), "a sheet")
+        given = schools.rows_of(uploads.rows_of(flask.request.files.get("sheet")))
+        add_many(given, "a sheet")
+        return onward(len(given))
     except Refused as error:
         return page(said=f"Nothing was added: {sentence(str(error))}", status=400)
 
@@ -138,7 +171,8 @@ def last_year() -> Answer:
                  if code not in there and code not in known]
         if not given:
             raise Refused("each of its schools is in the register or in the draft already")
-        return add_many(given, f"the register of {before.phase} entry in {before.year}")
+        add_many(given, f"the register of {before.phase} entry in {before.year}")
+        return to_draft(str(len(given)))
     except Refused as error:
         return page(said=f"Nothing was added: {sentence(str(error))}", status=400)
 
@@ -210,31 +244,49 @@ def removal(rows: list[tuple[int, Cells]], is_changed: bool) -> Answer:
 @needs(RECORD)
 def ask() -> Answer:
     """The question before schools are stored, with the draft whole."""
-    shown, words = flask.request.args.get("digest", ""), flags.present()
+    return question(flask.request.args.get("digest", ""))
+
+
+def question(
+    shown: str, typed: Mapping[int, str] | None = None, wrong: Mapping[int, str] | None = None,
+    said: str = "",
+) -> Answer:
+    """The same, with what was typed as the words of verified reasons that have none, and why it is
+    not stored.
+    """
+    words = flags.present()
     try:
         lines = drafts.lines_shown(parts().desk.now().schools, draft(), words, shown)
     except Refused as error:
         return page(said=sentence(str(error)), status=409)
     return flask.render_template(
         "store_schools.html", lines=lines, order={it.number: order_of(it, words) for it in lines},
-        digest=shown, button=f"Store {texts.count(len(lines), 'school')}")
+        digest=shown, button=f"Store {texts.count(len(lines), 'school')}", said=said,
+        nameless=drafts.nameless(lines, words), seen=flags.text_of(words), typed=typed or {},
+        wrong=wrong or {}), 409 if said else 200
 
 
 @screen.post("/store")
 @needs(RECORD)
 def store() -> Answer:
-    """Stores what was shown and confirmed."""
-    shown = flask.request.form.get("digest", "")
+    """Stores what was shown and confirmed, once; before it the words of the flags that have none.
+    """
+    form, known = flask.request.form, flags.present()
+    shown, given = form.get("digest", ""), (
+        (it, trimmed(form.get(f"flag-{it}", ""))) for it in flags.NUMBERS)
+    typed = {it: text for it, text in given if text}
+    words = {**known, **typed}
+    if draft().is_sent(shown) and words == known:
+        return to_draft(STORED)
+    if wrong := {it: said for it, text in typed.items() if (said := flags.wrong(text))}:
+        return question(shown, typed, wrong, "Nothing was stored: see the fields that are marked.")
     try:
         draft().look(DRAFT)
-        found = draft().store_all(person(), flags.present(), shown, WAIT_SECONDS)
+        drafts.lines_shown(parts().desk.now().schools, draft(), known, shown)
+        if typed:
+            flags.change(parts().store, form.get("seen", ""), words,
+                         lambda before: guard.record("named flags", words=words, before=before))
+        draft().store_all(person(), words, shown, WAIT_SECONDS)
     except Refused as error:
-        return page(said=sentence(str(error)), status=409)
-    if draft().is_running(DRAFT):
-        return flask.redirect(flask.url_for("new_schools.show"), 303)
-    done = sum(it.result.outcome == DONE for it in found)
-    left = len(draft().rows())
-    said = f"{texts.count(done, 'school is', 'schools are')} stored."
-    if left:
-        said += f" {texts.count(left, 'line remains', 'lines remain')} in the draft."
-    return page(said=said, status=200 if done == len(found) else 409, outcomes=found)
+        return question(shown, typed, said=sentence(str(error)))
+    return to_draft(STORED)
