@@ -659,9 +659,10 @@ def test_a_fill_takes_the_first_as_it_is_claimed(promises: typing.Any) -> None:
         ("", "IsFileOf first before"), ("", "RunsOver g before run after")}),
     # (an equation is the first of several premises)
     (("adm_program_laws", "run_once_more"), {
-        ("", "IsFileOf first (held_by_named held read)"),
-        ("", "HoldsNone (held_by_named held read)"),
-        ("", "MayRemain (held_by_named held read) end.remains after")}),
+        ("", "HoldsAfterRuns first runs (held_by_named held did.read)"),
+        ("", "IsFileOf first (held_by_named held did.read)"),
+        ("", "HoldsNone (held_by_named held did.read)"),
+        ("", "MayRemain (held_by_named held did.read) end.remains after")}),
     # (in an alternative)
     (("adm_desk", "Desk::handle"), {("", "old.failed ≡ false")}),
 ])

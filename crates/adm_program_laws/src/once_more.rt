@@ -1,7 +1,6 @@
 // A call of the program, over the files that the runs before it left.
-ghost use Rattle.adm_program.specs.Arguments.{texts};
 ghost use Rattle.adm_program.specs.Given.{around};
-ghost use Rattle.adm_program_laws.specs.OneRun.{FindsAnswered, KeepsAfterRuns, LeavesFirst};
+ghost use Rattle.adm_program_laws.specs.OneRun.{AddsRun, Begins, Recalls};
 
 use crate::birth::first_runs;
 use crate::found_again::answered_is_found;
@@ -37,15 +36,15 @@ pub fn run_once_more<
     errors: &mut E,
     log: &mut L,
 ) -> RunEnd<D>
-    ensures kept { KeepsAfterRuns (R.held files) (texts arguments.entry.now)
-        (around F.Rows rows.old rows.new P.Ports port.old port.new
-        I.Input input.old input.new O.Output output.old output.new E.Output errors.old errors.new) result }
-    ensures first { LeavesFirst (R.held files) (texts arguments.entry.now)
-        (around F.Rows rows.old rows.new P.Ports port.old port.new
-        I.Input input.old input.new O.Output output.old output.new E.Output errors.old errors.new) result }
-    ensures found { FindsAnswered (R.held files) (texts arguments.entry.now)
-        (around F.Rows rows.old rows.new P.Ports port.old port.new
-        I.Input input.old input.new O.Output output.old output.new E.Output errors.old errors.new) result }
+    ensures kept { AddsRun (R.held files) arguments.entry
+        (around F.Rows rows.old rows.new P.Ports port.old port.new I.Input input.old input.new
+        O.Output output.old output.new E.Output errors.old errors.new) L.Output log.old log.new result }
+    ensures first { Begins (R.held files) arguments.entry
+        (around F.Rows rows.old rows.new P.Ports port.old port.new I.Input input.old input.new
+        O.Output output.old output.new E.Output errors.old errors.new) L.Output log.old log.new result }
+    ensures found { Recalls (R.held files) arguments.entry
+        (around F.Rows rows.old rows.new P.Ports port.old port.new I.Input input.old input.new
+        O.Output output.old output.new E.Output errors.old errors.new) L.Output log.old log.new result }
 {
     // what the clauses of one run make of the files, calls of the laws say
     runs_in_order::<D>();
