@@ -2,8 +2,8 @@
 """Types answers on a terminal: deploy/steps/typed.py ANSWERS COMMAND [ARGUMENT..]
 
 Runs a command on a terminal of its own and prints what that terminal shows. Each line of the file
-ANSWERS is typed where a question waits: once what is shown ends in ': ' and nothing follows. The
-exit status is that of the command, or 1 where an answer was not asked for.
+ANSWERS is typed where a question waits: once what is shown ends in ': ' or '? ' and nothing
+follows. The exit status is that of the command, or 1 where an answer was not asked for.
 """
 import os
 import pty
@@ -21,7 +21,7 @@ def typed(answers: list[str], command: list[str]) -> int:
         os.execvp(command[0], command)
     shown = b""
     while True:
-        is_question = shown.endswith(b": ") and bool(answers)
+        is_question = shown.endswith((b": ", b"? ")) and bool(answers)
         ready, _, _ = select.select([terminal], [], [], SILENCE if is_question else None)
         if not ready:
             os.write(terminal, f"{answers.pop(0)}\n".encode())
