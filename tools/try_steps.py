@@ -143,7 +143,7 @@ class Making:
             self.say("the round: the supervisor's lots, and the rehearsal")
             self.round()
         if moment == MARCH:
-            self.say("the round, held and worked out again")
+            self.say("the round, run and worked out again")
             self.confirmed()
             self.say("the letters of the round")
             self.letters()
@@ -234,7 +234,7 @@ class Making:
         supervisor.post("/lots/1/seal", {it: field(page, it) for it in ("seen", "digest")})
 
     def confirmed(self) -> None:
-        """The second person confirms the round, and it is held."""
+        """The second person confirms the round, and it is run."""
         self.at("2027-03-01T08:50:00")
         self.drawn(OFFICER, "second/confirm")
         self.drawn(HEAD, "send")

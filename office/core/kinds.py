@@ -199,12 +199,12 @@ KINDS = {it.name: it for it in (
                  " register is made first: nobody can read it for some seconds.", is_final=True,
          answer="plan", read=("plan", "name_plan"), against=against_plan),
     Kind(name="round", rests_on=draws_in, is_done=effects.is_held,
-         work=ROUNDS, told="Held a round of {day} (draw {draw})",
-         noun="a round", deeds="Held a round"),
+         work=ROUNDS, told="Ran the round of {day}",
+         noun="a round", deeds="Ran a round"),
     Kind(name="fill", rests_on=draws_in, is_done=effects.is_held,
          work=ROUNDS,
-         told="Offered a place at {school} from the waiting list on {day} (draw {draw})",
-         noun="a fill", deeds="Held fills"),
+         told="Offered a place at {school} from the waiting list on {day}",
+         noun="a fill", deeds="Offered places from waiting lists"),
 )}
 # what can be recorded on a child's screen, by the end of its address
 ACTIONS = {it.path: it for it in KINDS.values() if it.path}

@@ -112,8 +112,9 @@ def state(found: Preference, held: Place | None) -> str:
 
 
 def draw_in_words(draw: Draw) -> str:
-    """A draw as an office names it."""
-    return f"round {draw.round}" if draw.round else f"fill of {draw.school} (draw {draw.number})"
+    """A draw of the register as an office names it."""
+    return f"round {draw.round}" if draw.round else (
+        f"offer of a place at {draw.school} (draw {draw.number})")
 
 
 # the fields of a child and of a school, as forms and lists have them

@@ -29,7 +29,7 @@ def after_round(
     with served(register) as (address, _), site(folder, address) as found:
         with found.parts.store.writing() as db:
             db.execute("INSERT INTO copy (number, purpose, asked, name, size) VALUES"
-                       " (1, 'before draw 1', '2025-03-03T08:00:00+00:00', ?, 1)", (COPY,))
+                       " (1, 'before round 1', '2025-03-03T08:00:00+00:00', ?, 1)", (COPY,))
             db.execute(
                 "INSERT INTO draw (first, school, fills, day, state, version, copy_before)"
                 " VALUES (1, NULL, 1, ?, 'opened', 9, 1)", (after[0]["day"],))

@@ -78,8 +78,8 @@ OFFICE = {
 # and when
 COPIES = (
     (staging_commit.PURPOSE, "jane", "2024-11-04T10:20:00+00:00"),
-    ("before draw 1", "jane", "2025-03-03T09:12:00+00:00"),
-    ("after draw 1", "jane", "2025-03-03T09:31:00+00:00"),
+    ("before round 1", "jane", "2025-03-03T09:12:00+00:00"),
+    ("after round 1", "jane", "2025-03-03T09:31:00+00:00"),
     ("before the EHC plans of March", "jane", "2025-03-10T10:02:00+00:00"),
 )
 # late applications, of which three rows have something wrong

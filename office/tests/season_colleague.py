@@ -127,7 +127,7 @@ def notices(lived: Room) -> Pressed:
 def closing(lived: Room) -> Pressed:
     """A draw that is to be closed, and is given up meanwhile."""
     hal, jane = lived.person("hal"), lived.person("jane")
-    hal.get("/draws/").press("Begin draw 2", {
+    hal.get("/draws/").press("Begin", {
         "kind": "fill", "day": "18 March 2025", "school": "ELM", "fills": "1"})
     jane.get(f"{hal.path}/cancel").press("Cancel ")
     return hal, "Pause recording for everyone", NOTHING
@@ -136,7 +136,7 @@ def closing(lived: Room) -> Pressed:
 def sealing(lived: Room) -> Pressed:
     """Lots that are to be sealed, of which one is another meanwhile."""
     sup, other = lived.person("sup"), Hand(lived, "sup", lived.person("sup").cookie())
-    begin_draw(lived.person("hal"), 2, kind="fill", day="18 March 2025", school="ELM", fills="1")
+    begin_draw(lived.person("hal"), kind="fill", day="18 March 2025", school="ELM", fills="1")
     path = lived.person("hal").path.replace("draws", "lots")
     names = [it for it in sup.get(path).form("Save").values if it.startswith("was-")]
     typed = {it.removeprefix("was-"): str(at + 5) for at, it in enumerate(names)}
@@ -162,7 +162,7 @@ def holding(lived: Room) -> Pressed:
     hal, jane = lived.person("hal"), lived.person("jane")
     hal.get(hal.path)
     jane.get(f"{hal.path}/cancel").press("Ask a second person ", {"reason": "a lot was mistyped"})
-    return hal, "Hold ", NOTHING
+    return hal, "Run ", NOTHING
 
 
 def restoring(lived: Room) -> Pressed:

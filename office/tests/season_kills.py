@@ -125,7 +125,7 @@ def schools_go_on(lived: Room) -> None:
 def to_fills(lived: Room) -> None:
     """Two fills are confirmed."""
     lived.person("olga").get("/schools/OAK/raise?pan=4").press("Raise ")
-    begin_draw(lived.person("hal"), 2, kind="fill", day="18 March 2025", school="OAK", fills="2")
+    begin_draw(lived.person("hal"), kind="fill", day="18 March 2025", school="OAK", fills="2")
     seal(lived.person("sup"), 2, "", types=True)
     lived.person("olga").get("/draws/2").press("Confirm ")
     lived.person("hal").get("/draws/2")
@@ -133,13 +133,13 @@ def to_fills(lived: Room) -> None:
 
 def hold(lived: Room) -> None:
     """They are held."""
-    lived.person("hal").press("Hold ")
+    lived.person("hal").press("Run ")
 
 
 def fills_go_on(lived: Room) -> None:
     """The page has the button of what was cut off, and no other one."""
     hal = lived.person("hal").get("/draws/2")
-    for it in ("Hold ", "Go on", "Audit ", "Resume "):
+    for it in ("Run ", "Go on", "Audit ", "Resume "):
         if has(hal, it):
             hal.press(it)
 

@@ -118,9 +118,9 @@ def commit(lived: Room, _: Trace) -> None:
     olga.get("/applications/commit/").press("Add ")
 
 
-def begin_draw(hal: Hand, number: int, **given: str) -> None:
+def begin_draw(hal: Hand, **given: str) -> None:
     """A draw is begun, and the register is closed for it."""
-    hal.get("/draws/").press(f"Begin draw {number}", given)
+    hal.get("/draws/").press("Begin", given)
     close_for_draw(hal)
 
 
@@ -163,12 +163,12 @@ def seal(sup: Hand, page: int, seed: str, by_workbook: bool = False, types: bool
 def held(lived: Room, page: int, second: str) -> None:
     """A draw whose lots are sealed is confirmed by a second person, and held."""
     lived.person(second).get(f"/draws/{page}").press("Confirm ")
-    lived.person("hal").get(f"/draws/{page}").press("Hold ")
+    lived.person("hal").get(f"/draws/{page}").press("Run ")
 
 
 def first_round(lived: Room, trace: Trace) -> None:
     """A round, whose lots come in an Excel file and by a seed."""
-    begin_draw(lived.person("hal"), 1, kind="round", day="3 March 2025")
+    begin_draw(lived.person("hal"), kind="round", day="3 March 2025")
     seal(lived.person("sup"), 1, "05 17 23 31 44 48", by_workbook=True)
     trace.file("sealed.txt of draw 1", lived.person("sup").file("/lots/1/sealed.txt"))
     held(lived, 1, "jane")
@@ -262,7 +262,7 @@ def reminders(lived: Room, trace: Trace) -> None:
 def fills(lived: Room, trace: Trace) -> None:
     """An admission number is raised, and two vacancies are filled in one closure, by typed lots."""
     lived.person("olga").get("/schools/OAK/raise?pan=4").press("Raise ")
-    begin_draw(lived.person("hal"), 2, kind="fill", day="20 March 2025", school="OAK", fills="2")
+    begin_draw(lived.person("hal"), kind="fill", day="20 March 2025", school="OAK", fills="2")
     seal(lived.person("sup"), 2, "", types=True)
     held(lived, 2, "olga")
     letters(lived.person("olga"), trace, "letters of draw 2", "/letters/whom?whom=offers&draw=2",
@@ -277,7 +277,7 @@ def withdrawals(lived: Room, trace: Trace) -> None:
 def wrong_round(lived: Room, trace: Trace) -> None:
     """A second round on a wrong day, and what is recorded after it."""
     jane, olga = lived.person("jane"), lived.person("olga")
-    begin_draw(lived.person("hal"), 4, kind="round", day="28 April 2025")
+    begin_draw(lived.person("hal"), kind="round", day="28 April 2025")
     seal(lived.person("sup"), 3, "02 03 19 28 41 47")
     held(lived, 3, "jane")
     trace.file("sealed.txt of the wrong draw 4", lived.person("sup").file("/lots/3/sealed.txt"))
@@ -301,7 +301,7 @@ def restored(lived: Room, trace: Trace) -> None:
     path = hal.path
     jane.get(path).press("Restore copy ")
     trace.page(jane, jane.path, ", done")
-    hal.get(path).press("Begin draw 4: a round again", {"day": "29 April 2025"})
+    hal.get(path).press("Begin round 2 again", {"day": "29 April 2025"})
     close_for_draw(hal)
     sup.get("/lots/4/seal").press("Seal the lots of ")
     held(lived, 4, "olga")

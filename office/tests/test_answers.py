@@ -650,10 +650,10 @@ def test_a_pile_is_kept_while_the_register_is_closed(office: Site) -> None:
     """Each answer says why it was not recorded, and is recorded later."""
     jane, desk = office.browser("jane"), office.parts.desk
     page = enter(jane, "11", "12")
-    desk.closed = lambda: "Recording is paused for draw 2 by hal."
+    desk.closed = lambda: "Recording is paused for round 2 by hal."
     record(jane, page, "Record 2 answers")
     page = shown(jane)
-    assert [row[5] for row in pile(page)] == ["", "Recording is paused for draw 2 by hal."]
+    assert [row[5] for row in pile(page)] == ["", "Recording is paused for round 2 by hal."]
     assert sent(office) == []
     desk.closed = str
     record(jane, page, "Record 2 answers")

@@ -197,7 +197,7 @@ def test_what_seems_to_be_no_command_is_on_record_too(
     assert (found.status_code, (found.json or {}).get("name")) == (400, "UnknownCommand")
     assert "no_such" in Page(office.browser("bo").get("/activity/").text).text
     monkeypatch.setattr("office.core.commands.wrong_field", lambda _: "a field is new")
-    said = "Recording is paused for draw 2 by hal."
+    said = "Recording is paused for round 2 by hal."
     monkeypatch.setattr(office.parts.desk, "closed", lambda: said)
     assert jane.command(ACCEPT).status_code == 503
     assert office.parts.desk.now().places[1].kind == "offered"

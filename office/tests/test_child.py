@@ -391,7 +391,7 @@ def test_a_draw_that_gave_a_place_is_named(office: Site) -> None:
     found = press(jane, "/children/3/decline", page, "Decline Beta for Cyd <b>Cole</b>")
     assert "Child 3: hal recorded a fill at " in Page(found.text).said()
     assert history(jane.get("/children/3").text) == [
-        ("hal", "Fill of A (draw 2): offered Alpha", "Dated 17 March 2025"),
+        ("hal", "Offer of a place at A (draw 2): offered Alpha", "Dated 17 March 2025"),
         ("3 March 2025", "Round 1: offered Beta", "Dated 3 March 2025")]
 
 

@@ -187,8 +187,8 @@ def test_what_differs_stays_closed(small: Machine, monkeypatch: pytest.MonkeyPat
         for who in (hal, jane):
             for path in ("/", f"/draws/{number}"):
                 page = who.browser.get(path).text
-                assert "Recording is paused for draw 1 by hal" in page
-            assert ">Cancel this round</a>" in page
+                assert "Recording is paused for round 1 by hal" in page
+            assert ">Undo this round</a>" in page
             assert "Ask a second person to undo round 1</button>" in who.browser.get(
                 f"/draws/{number}/cancel").text
             assert "Inform no family" in page and "open for all again" not in page
@@ -265,9 +265,9 @@ def test_long_work_says_that_it_runs(small: Machine, monkeypatch: pytest.MonkeyP
         for who in (hal, jane):
             page = who.browser.get(f"/draws/{number}").text
             assert f'data-running="/draws/{number}"' in page and "begun by hal" in page
-            assert "the draw is held, and then audited." in page
+            assert "the places are given, and then audited." in page
             assert "Audit round 1</button>" not in page and "Cancel this" not in page
-            assert "Draw 1: a round. A step of it runs now." in who.browser.get("/").text
+            assert "A step of it runs now." in who.browser.get("/").text
         found = jane.press(number, seen, "go-on")
         assert found.status_code == 409 and "A step is under way, which hal began" in found.text
         may_end.set()
@@ -293,10 +293,10 @@ def test_what_is_refused_after_the_answer_is_said(
         monkeypatch.setattr(office.parts.desk, "settle", refused)
         office.parts.following.wait = 0.05
         assert hal.step(number, "send").status_code == 303
-        assert "the draw is held." in hal.browser.get(f"/draws/{number}").text
+        assert "the places are given." in hal.browser.get(f"/draws/{number}").text
         work = office.parts.following.last
         may_end.set()
         assert work and work.is_over.wait(600)
         page = hal.browser.get(f"/draws/{number}").text
         assert "The last step was not done: The disk is full." in page
-        assert "Hold round 1</button>" in page
+        assert "Run round 1</button>" in page

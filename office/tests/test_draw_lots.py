@@ -48,7 +48,7 @@ def test_sealed_lots_cannot_be_changed(small: Machine) -> None:
         assert office.parts.lots.sheet(number)[1].text() == before
         with office.parts.store.writing() as db:
             db.execute("UPDATE lot SET text='77' WHERE school='OAK' AND child=1")
-        with pytest.raises(Refused, match="the lots are not those that were sealed. The draw must"):
+        with pytest.raises(Refused, match="the lots are not those that were sealed. Cancel it"):
             office.parts.draws.rehearse(HAL, number, version(office, number))
 
 
@@ -100,9 +100,9 @@ def test_no_step_is_sent_again_by_the_way_back(small: Machine) -> None:
         assert found.location == f"{path}/seal?done=saved&lots=0"
         page = Page(sup.get(found.location).text)
         assert page.said() == "What is on this page is saved."
-        assert "Seal the lots of draw 1" in page.buttons()
+        assert "Seal the lots of round 1" in page.buttons()
         for words in ("done=saved", "done=taken&lots=1", "lots=7", "done=x&lots=7",
-                      "done=taken&lots=1&changed=<b>&draw=1"):
+                      "done=taken&lots=1&changed=<b>"):
             assert Page(sup.get(f"{table}&{words}").text).said() == ""
 
 
@@ -249,13 +249,13 @@ def test_lots_come_from_a_sheet(small: Machine) -> None:
         filled += [[*row[:2], 50 + at] for at, row in enumerate(rows[1:])]
         path = f"/lots/{number}/sheet"
         page = sup.sent(path, {"file": (io.BytesIO(workbook(filled)), "lots.xlsx")})
-        assert page.status_code == 200 and "10 lots of draw 1: 10 new or changed." in page.text
+        assert page.status_code == 200 and "10 lots: 10 new or changed." in page.text
         want = {(str(row[0]), int(str(row[1]))): str(row[2]) for row in filled[1:]}
         cells = office.parts.lots.sheet(number)[1].cells()
         assert {pair: text for (pair, _), text in cells.items()} == want
         part = b"OAK;1;900\r\nOAK;2;901\r\n"
         page = sup.sent(path, {"file": (io.BytesIO(part), "x.csv")})
-        assert "2 lots of draw 1: 2 new or changed." in page.text
+        assert "2 lots: 2 new or changed." in page.text
         found = sup.client.get(f"/lots/{number}/sheet.xlsx", base_url=ORIGIN)
         assert zipfile.is_zipfile(io.BytesIO(found.data))
 
@@ -279,7 +279,7 @@ def test_each_of_several_fills_has_a_sheet_that_names_it(small: Machine) -> None
         page = sup.post(path, {"file": (io.BytesIO(workbook(filled)), "a.xlsx"), "fill": "0"})
         assert page.status_code == 409 and "lots of draw &#34;3&#34;, and draw 2" in page.text
         page = sup.sent(path, {"file": (io.BytesIO(workbook(filled)), "a.xlsx"), "fill": "1"})
-        assert "4 lots of draw 3: 4 new or changed." in page.text
+        assert "4 lots: 4 new or changed." in page.text
         cells = office.parts.lots.sheet(number)[1].cells()
         assert sorted(text for (_, at), text in cells.items() if at == 1) == [
             "50", "51", "52", "53"]
@@ -290,11 +290,11 @@ WRONG_SHEETS = {
     "no number": (b"OAK,1,<b>\n", "row 1 has a lot that is no number: &lt;b&gt;"),
     "another pair": (b"OAK,1,5\nOAK,99,6\n", "row 2 is for no lot of this draw: OAK 99"),
     "a pair twice": (b"OAK,1,5\nOAK,1,6\n", "row 2 is for the school and child of row 1: OAK 1"),
-    "no lot": (b"OAK,1\nOAK,2\n", "the file has no lot of this draw"),
+    "no lot": (b"OAK,1\nOAK,2\n", "the file has no lot of round 1"),
     "a web page": (b"<html><body>1</body></html>", "a web page (HTML)"),
     "a register": (b"SQLite format 3\0" + bytes(200), "a register, or another database"),
     "no archive": (b"PK\x03\x04" + bytes(200), "the file is no Excel file that can be read"),
-    "nothing": (b"", "the file has no lot of this draw"),
+    "nothing": (b"", "the file has no lot of round 1"),
     "an old workbook": (b"\xd0\xcf\x11\xe0" + bytes(200), "an Excel file of the older kind"),
     "too many columns": (b"x," * 100_000, "has too many columns"),
 }
@@ -350,10 +350,10 @@ def test_lots_that_were_taken_out_again_were_seen(small: Machine) -> None:
         assert not any(office.parts.lots.sheet(first)[1].cells().values())
         hal = Person(office, "hal", "head")
         found = hal.step(first, "give-up")
-        assert found.status_code == 409 and "Type the reason for cancelling the draw" in found.text
+        assert found.status_code == 409 and "Type the reason for cancelling it" in found.text
         assert hal.step(first, "give-up", reason=MISTYPED).status_code == 303
         page = hal.browser.get(f"/draws/{begun(office)}").text
-        assert "was begun before, and" in " ".join(page.split()) and MISTYPED in page
+        assert "and cancelled after the lots were" in " ".join(page.split()) and MISTYPED in page
 
 
 @pytest.mark.parametrize("when", ["before", "after"])

@@ -109,7 +109,7 @@ def test_the_flow_and_the_places_are_those_of_the_register(town: Machine) -> Non
             register, draw = shown.read("/register"), shown.read("/draw/1")
             has = {it["child"]: it["school"] for it in register["draws"][0]["outcomes"]}
             flow, names = flow_of(register), {it: f"{it} School" for it in CODES}
-            of_before = "A school’s own page is of before this round, until it is held."
+            of_before = "A school’s own page is of before this round, until it is run."
             assert (of_before in shown.page.by_id["schools"]) == (shown is before)
             tables = shown.page.tables
             rows = {it[0]: [int(one) for one in it[1:]] for it in tables["flow-table"][1:]}
@@ -151,7 +151,7 @@ def test_children_to_look_at_are_found_by_group(town: Machine) -> None:
         assert {it[3] for it in shown.children("what=late")} == {"late: not in this round"}
         assert shown.numbers("what=care") == set(CARE)
         assert shown.numbers("what=note") == {12}
-        checked = " ".join(shown.page.by_id["checked"].split())
+        checked = " ".join(shown.page.by_id["to-look-at"].split())
         assert "10 late Not in this round: they applied after the closing date" in checked
         assert "1 EHC plan" in checked and (
             "119 children take part. All children, with 10 late" in checked)
@@ -165,19 +165,19 @@ def test_children_to_look_at_are_found_by_group(town: Machine) -> None:
         none = shown.children("what=none")
         assert none and all(it[2] == "none" and "Why not " in it[4] for it in none)
         # (what other pages show is of before it, and they say so)
-        said = "Until it is held, all pages but its own show the register from before it."
+        said = "Until it is run, all pages but its own show the register from before it."
         assert said in shown.jane.get("/children/1").text
         assert said in shown.jane.get("/schools/ASH").text
         office.parts.draws.confirm(people.Person("jane", "officer"), number,
                                    version(office, number))
         office.add("hal", "head")
         page = " ".join(shown.at("").by_id["draw"].split())
-        assert re.search(r"You confirmed round 1 at [0-9:]{5}\. hal holds it next\.", page)
+        assert re.search(r"You confirmed round 1 at [0-9:]{5}\. hal runs it next\.", page)
         assert "It waits for a head of the office: hal." in page and "Waits for hal." in page
-        assert "Only a head of the office holds round 1." in page
+        assert "Only a head of the office runs round 1." in page
         home = shown.jane.get("/").text
-        assert "Round 1 waits for hal" in home and "Hold round 1" not in home
-        assert "Hold round 1" in office.browser("hal").get("/").text
+        assert "Round 1 waits for hal" in home and "Run round 1" not in home
+        assert "Run round 1" in office.browser("hal").get("/").text
         assert "What was checked" in page and "119 children take part." in page
         assert "No change since the applications were stored" in page
         assert f'href="/draws/{number}/audit"' in shown.at("").text

@@ -1,9 +1,12 @@
 """A draw of an office of two, one of whom gets a new password or is locked while it is in progress:
 in no state is it stuck, and in no state does one person alone hold it.
 """
+import contextlib
 import datetime
+import html
 import pathlib
 import re
+import sqlite3
 from collections.abc import Callable
 from typing import Any, cast
 
@@ -22,6 +25,8 @@ from office.web.copies import copies
 from office.web.frame import people
 from office.web.machinery.steps import Done
 from office.web.register.history import Entry
+from office.web.register.schema import STEPS
+from office.web.register.store import Store
 from office.web.rounds import page as draws_page
 from office.web.rounds.drafts import Typed
 from office.web.rounds.terms import Draw, Terms
@@ -80,7 +85,7 @@ def wanted(state: str, of: str, how: str, who: str) -> set[str]:
     if state == "rehearsed" and who == "jane" and is_steady:
         found.add("Confirm round 1")
     if state == "confirmed" and who == "hal":
-        found.add("Hold round 1")
+        found.add("Run round 1")
     return found
 
 
@@ -137,9 +142,9 @@ def test_one_gives_up_alone_whom_nobody_can_confirm(small: Machine) -> None:
             assert jane.press(number, seen, name).status_code == 409, name
         page = hal.browser.get(f"/draws/{number}/cancel").text
         assert re.search(r"Nobody else can confirm it now: jane was given another password by root"
-                         r" at \d\d:\d\d, after this draw was begun\.", page)
+                         r" at \d\d:\d\d, after it was begun\.", page)
         found = hal.step(number, "give-up-alone")
-        assert found.status_code == 409 and "Type the reason for cancelling the draw" in found.text
+        assert found.status_code == 409 and "Type the reason for cancelling it" in found.text
         assert hal.step(number, "give-up-alone", reason=MISTYPED).status_code == 303
         assert office.parts.desk.closed() == "" and office.parts.desk.now().draws == []
         last = office.parts.history.entries[-1]
@@ -150,9 +155,9 @@ def test_one_gives_up_alone_whom_nobody_can_confirm(small: Machine) -> None:
         for state in ("begun", "rehearsed"):
             brought(office, again, state)
             page = " ".join(jane.browser.get(f"/draws/{again}").text.split())
-            assert re.search("Draw 1 was begun before, and cancelled after the lots were sealed,"
-                             " when the outcome could be known: by hal alone, [^<]*, because:"
-                             f" <bdi>{MISTYPED}</bdi>", page)
+            assert re.search("Round 1, cancelled.*<p>Begun on [^<]* for 3 March 2025, and"
+                             " cancelled after the lots were sealed, when the outcome could be"
+                             f" known: by hal alone, [^<]*, because: <bdi>{MISTYPED}</bdi>", page)
         assert jane.step(again, "confirm").status_code == 303
         assert hal.step(again, "send").status_code == 303
         assert office.parts.draws.get(again).state == "opened"
@@ -165,7 +170,7 @@ def test_a_draw_given_up_by_two_names_both(small: Machine) -> None:
         first = begun(office)
         office.parts.draws.give_up(HAL, first, version(office, first))
         second = begun(office)
-        assert "begun before" not in hal.browser.get(f"/draws/{second}").text
+        assert "cancelled after" not in hal.browser.get(f"/draws/{second}").text
         brought(office, second, "sealed")
         waiting(office, second)
         assert jane.step(second, "ask-give-up", reason=MISTYPED).status_code == 303
@@ -173,7 +178,8 @@ def test_a_draw_given_up_by_two_names_both(small: Machine) -> None:
         assert found.status_code == 409 and "somebody else confirms" in found.text
         assert hal.step(second, "confirm-give-up").status_code == 303
         page = " ".join(jane.browser.get(f"/draws/{begun(office)}").text.split())
-        assert page.count("was begun before") == 1 and "by jane and hal, " in page
+        assert page.count("cancelled after the lots were sealed") == 1
+        assert "by jane and hal, " in page
 
 
 def test_a_draw_with_lots_is_given_up_for_a_reason(small: Machine) -> None:
@@ -187,10 +193,10 @@ def test_a_draw_with_lots_is_given_up_for_a_reason(small: Machine) -> None:
         brought(office, first, "lots")
         office.parts.lots.save(SUP, first, {(("OAK", 2), 0): Typed("", "14")})
         found = hal.step(first, "give-up")
-        assert found.status_code == 409 and "Type the reason for cancelling the draw" in found.text
+        assert found.status_code == 409 and "Type the reason for cancelling it" in found.text
         assert jane.step(first, "give-up", reason=MISTYPED).status_code == 303
-        said = ("Draw 2 was begun before, and cancelled after the lots were entered, and before"
-                " they were sealed: by jane alone, ")
+        said = (" for 3 March 2025, and cancelled after the lots were entered, and before they were"
+                " sealed: by jane alone, ")
         for school_code in (None, "OAK"):
             number = begun(office, school_code)
             assert said in words(hal, number) and f"because: {MISTYPED}" in words(jane, number)
@@ -254,10 +260,10 @@ def test_who_could_act_in_both_names_does_not_confirm(small: Machine, what: str)
         office.parts.history.add(by, whats, {"person": to, "role": "officer"})
         number = begun(office)
         why = f"{to} was (added|given another (role|password)) by {by} at"
-        assert re.search(f"May confirm it pat May not confirm it hal began this draw {why}",
+        assert re.search(f"May confirm it pat May not confirm it hal began round 1 {why}",
                          words(hal, number))
         brought(office, number, "rehearsed")
-        assert re.search(f"May confirm it pat May not confirm it hal began this draw {why}",
+        assert re.search(f"May confirm it pat May not confirm it hal began round 1 {why}",
                          words(pat, number))
         assert "Confirm round 1" not in ends(jane.browser, number)
         found = jane.step(number, "confirm")
@@ -285,7 +291,7 @@ def test_who_closed_it_does_not_confirm_it(small: Machine) -> None:
         brought(office, number, "rehearsed")
         page = words(pat, number)
         assert "pat closed the register for it. Somebody else confirms it." in page
-        assert "May confirm it jane May not confirm it hal began this draw pat closed the" in page
+        assert "May confirm it jane May not confirm it hal began round 1 pat closed the" in page
         for it in (hal, pat):
             found = it.step(number, "confirm")
             assert found.status_code == 409 and ": somebody else confirms it." in found.text
@@ -329,7 +335,7 @@ def test_another_head_holds_what_was_confirmed(small: Machine) -> None:
         found = pat.press(number, str(version(office, number)), "confirm")
         assert found.status_code == 409 and "pat was given another role by root" in found.text
         assert jane.step(number, "confirm").status_code == 303
-        assert "Hold round 1</button>" in pat.browser.get(f"/draws/{number}").text
+        assert "Run round 1</button>" in pat.browser.get(f"/draws/{number}").text
         assert pat.step(number, "send").status_code == 303
         assert office.parts.draws.get(number).who("sending") == "pat"
         small.do([RAISED])
@@ -358,7 +364,7 @@ def test_one_restores_alone_what_cannot_go_on(
         renewed(office, "jane")
         jane = Person(office, "jane", "officer")
         found = hal.step(number, "restore-alone")
-        assert found.status_code == 409 and "is as it was rehearsed: the draw goes" in found.text
+        assert found.status_code == 409 and "is as it was rehearsed: round 1 goes" in found.text
         with monkeypatch.context() as patch:
             patch.setattr("office.web.rounds.rehearsal.audit.audit",
                           lambda *_: (["not best: child 1"], False))
@@ -412,7 +418,7 @@ def test_a_supervisor_is_not_made_up(small: Machine, how: str) -> None:
         made = at_lots(office, name)
         page = made.get(f"/lots/{number}/seal")
         assert page.status_code == 403 and f"{name} was " in page.text.lower()
-        said = "Another supervisor draws and seals the lots, or the office gives the draw up"
+        said = "Another supervisor draws and seals the lots, or the office cancels round 1"
         assert said in page.text
         given = {"seen": str(version(office, number)), "digest": digest}
         found = made.post(f"/lots/{number}/seal", given)
@@ -439,11 +445,11 @@ def test_who_sealed_the_lots_reads_who_confirms(tmp_path: pathlib.Path) -> None:
     """Neither who began the draw, nor who sealed its lots."""
     done = (Done("begun", "hal", "", ""), Done("sealed", "sup", "", ""))
     terms, register = Terms(1, None, 1, datetime.date(2025, 3, 3)), cast(Any, object())
-    draw = Draw(1, terms, "rehearsed", 6, 1, None, "ab", {}, {}, "", "", "", "", done, None,
-                "")
+    draw = Draw(1, "round 1", terms, "rehearsed", 6, 1, None, "ab", {}, {}, "", "", "", "", done,
+                None, "")
     with site(tmp_path, "http://127.0.0.1:9") as office, office.app.test_request_context():
         for name, said in (("sup", "sup sealed the lots. Somebody else confirms it."),
-                           ("hal", "hal began this draw. Somebody else confirms it."),
+                           ("hal", "hal began round 1. Somebody else confirms it."),
                            ("jane", "")):
             flask.g.person = people.Person(name, "officer")
             assert draws_page.why_not(draw, "confirmed", register) == said
@@ -505,6 +511,14 @@ CHANGES: tuple[tuple[str, Command], ...] = (
 )
 
 
+def stored(office: Site) -> None:
+    """Stores the application of child 6."""
+    rows = "child,name,east,north,looked_after,flags,siblings,day,preferences\n6,Fay,0,450,no"
+    imported = office.parts.desk.send_import(
+        people.Person("jane", "officer"), f"{rows},,,2024-10-31,OAK\n".encode())
+    assert imported.is_done, imported
+
+
 def test_what_moved_a_class_or_a_limit_is_named(small: Machine) -> None:
     """Since the applications were stored, by child, with who and when: before the close, and to
     whoever confirms. What came before that, and what moves nothing, is not.
@@ -512,10 +526,7 @@ def test_what_moved_a_class_or_a_limit_is_named(small: Machine) -> None:
     with small.office() as office:
         hal, jane = office_of_two(office)
         office.record("jane", {"cmd": "raise_pan", "school": "OAK", "pan": 2})
-        rows = "child,name,east,north,looked_after,flags,siblings,day,preferences\n6,Fay,0,450,no"
-        imported = office.parts.desk.send_import(
-            people.Person("jane", "officer"), f"{rows},,,2024-10-31,OAK\n".encode())
-        assert imported.is_done, imported
+        stored(office)
         moved: Command = {
             "cmd": "amend", "child": 6, "name": "Fay", "east": 0, "north": 50,
             "looked_after": False, "flags": [], "siblings": ["OAK"]}
@@ -531,11 +542,54 @@ def test_what_moved_a_class_or_a_limit_is_named(small: Machine) -> None:
              "jane"],
             ["5", "Child 5 x", "North, in metres: 400 → 390", "pat"],
             ["6", "Fay Fox", "North, in metres: 450 → 50; Siblings at: none → OAK", "jane"]]
+        # (what the person who looks has changed is said to be theirs)
+        own = [[*it[:3], "you" if it[3] == "jane" else it[3]] for it in wanted]
         for state in ("begun", "rehearsed"):
             brought(office, number, state)
-            rows_shown = Page(jane.browser.get(f"/draws/{number}").text).tables["changes"][1:]
-            assert [it[:4] for it in rows_shown] == wanted
+            for reader, rows_wanted in ((hal, wanted), (jane, own)):
+                rows_shown = Page(reader.browser.get(f"/draws/{number}").text).tables["changes"][1:]
+                assert [it[:4] for it in rows_shown] == rows_wanted
         assert re.fullmatch(r"\d+ \w+ \d{4}, \d\d:\d\d", rows_shown[0][4])
+
+
+def test_the_second_person_reads_all_of_it_before_the_button(small: Machine) -> None:
+    """What was checked, the round that was cancelled before, each change with who made it, why two
+    people are needed, and what comes then.
+    """
+    with small.office() as office:
+        hal, jane = office_of_two(office)
+        first = begun(office)
+        brought(office, first, "sealed")
+        given_up(office, first)
+        stored(office)
+        for who, command in CHANGES[2:]:
+            office.record(who, command)
+        number = begun(office)
+        brought(office, number, "rehearsed")
+        page = Page(jane.browser.get(f"/draws/{number}").text)
+        at, card = page.text.index(">Confirm round 1</button>"), page.text.index('id="next"')
+        said = html.unescape(" ".join(re.sub("<[^>]*>", " ", page.text[card:at]).split()))
+        places = [said.index(it) for it in (
+            "Two people are needed, so that nobody decides alone who gets a place: hal and sup"
+            " cannot confirm round 1, and you can.",
+            "The independent audit, a second program, works out the same outcome",
+            "Round 1 was cancelled before, after lots were entered.",
+            "No school offers more places than it has.",
+            "2 changes since the applications were stored can move a criterion, a distance or a"
+            " limit. 1 of them was made by you.",
+            "Round 1, cancelled Begun on ", "cancelled after the lots were sealed",
+            "by hal and jane",
+            "admission number of ELM raised to 10 you", "entered an EHC plan that names OAK pat",
+            "Confirming gives no place yet: round 1 is run next, by hal, and then its letters are"
+            " made.")]
+        assert places == sorted(places) and "Run round 1" not in page.text
+        # (who has no part in the decision reads the same, and has no button)
+        other = hal.browser.get(f"/draws/{number}").text
+        assert "Round 1 was cancelled before" in other and "</button>" in other
+        assert "Confirm round 1</button>" not in other and "made by you" not in other
+        names = [it[0] for it in Page(hal.browser.get("/draws/").text).tables[
+            "Rounds and offers from waiting lists"][1:]]
+        assert names == ["Round 1", "Round 1, cancelled"]
 
 
 def test_a_step_that_is_sent_again_after_a_session_is_named(small: Machine) -> None:
@@ -561,12 +615,12 @@ def test_a_change_of_a_person_is_asked_first(small: Machine) -> None:
         assert {(it.action, it.method) for it in listed if "Add" not in it.buttons} == {
             ("/people/ask", "get")}
         before = hal.browser.get("/people/ask?what=lock&name=jane").text
-        assert "Draw 1" not in before and "Lock jane" in Page(before).buttons()
+        assert "Round 1" not in before and "Lock jane" in Page(before).buttons()
         number = begun(office)
         brought(office, number, "closed")
         late = press(hal.browser, "/people/", Page(before), "Lock jane")
         assert late.status_code == 409 and "jane could then not confirm it" in late.text
-        draw, later = "Draw 1: a round is in progress: ", "are not the two persons of any draw"
+        draw, later = "Round 1 is in progress: ", "are not the two persons of any round"
         for given, button, said, is_later in (
             ("what=lock&name=jane", "Lock jane", "jane could then not confirm it. Nobody else", 0),
             ("what=remove&name=jane", "Remove jane", "jane could then not confirm it. Nobody", 0),
@@ -592,9 +646,7 @@ def test_a_change_of_a_person_is_asked_first(small: Machine) -> None:
 
 
 def test_an_undone_draw_is_named_so(small: Machine) -> None:
-    """In each link and list, beside the one of the same number that is held again, which says the
-    number of its page too.
-    """
+    """In each link and list, beside the one of the same name that is run again."""
     with small.office() as office:
         hal, jane = office_of_two(office)
         first = begun(office)
@@ -604,15 +656,33 @@ def test_an_undone_draw_is_named_so(small: Machine) -> None:
         assert jane.step(first, "restore").status_code == 303
         again = begun(office)
         brought(office, again, "lots")
-        both = [["Draw 1 (page 2): a round"], ["Draw 1, undone: a round"]]
+        both = [["Round 1"], ["Round 1, undone"]]
         assert [it[:1] for it in Page(hal.browser.get("/draws/").text).tables[
-            "Rounds and offers from waiting lists"][1:]] == [
-                ["Round 1 draw 1 (page 2)"], ["Round 1, undone draw 1"]]
+            "Rounds and offers from waiting lists"][1:]] == both
         assert [it[:1] for it in Page(at_lots(office).get("/lots/").text).tables[
-            "Draws with lots"][1:]] == both
+            "Rounds and offers with lots"][1:]] == both
         assert "Repeats Round 1, undone, " in words(hal, again)
         assert "<h1 id=\"heading\" tabindex=\"-1\">Round 1, undone</h1>" in (
             hal.browser.get(f"/draws/{first}").text)
         page = hal.browser.get("/").text
-        assert f'<a href="/draws/{again}"' in page and "Draw 1 (page 2): a round." in page
-        assert f'href="/draws/{again}">To draw 1 (page 2)</a>' in page
+        assert f'<a href="/draws/{again}"' in page and ">Round 1 waits for sup</a>" in page
+        assert f'href="/draws/{again}">To round 1</a>' in page
+
+
+def test_an_older_store_names_its_draws(tmp_path: pathlib.Path) -> None:
+    """By their terms: the rounds that were run before it, or the places and the school's code."""
+    path = str(tmp_path / "office.db")
+    before = next(at for at, it in enumerate(STEPS) if "COLUMN name" in it)
+    with contextlib.closing(sqlite3.connect(path)) as db:
+        db.executescript("".join(STEPS[:before]))
+        db.executemany(
+            "INSERT INTO draw (first, school, fills, day, state, version) VALUES (?, ?, ?,"
+            " '2025-03-03', ?, 1)",
+            [(1, None, 1, "given up"), (1, None, 1, "opened"), (2, "OAK", 2, "opened"),
+             (4, "ELM", 1, "restored"), (4, None, 1, "sealed")])
+        db.execute(f"PRAGMA user_version={before}")
+        db.commit()
+    with contextlib.closing(Store(path)) as store:
+        assert [it["name"] for it in store.rows("SELECT name FROM draw ORDER BY id")] == [
+            "round 1", "round 1", "the offer of 2 places at OAK", "the offer of 1 place at ELM",
+            "round 2"]

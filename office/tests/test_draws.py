@@ -173,13 +173,13 @@ def test_a_round_by_five_hands(machine: Machine, town: Town) -> None:
         assert "from then on until the register is open again. All can still read" in page
         assert f"{len(lots)} pairs of 40 children and 4 schools." in page
         page = sup.get("/lots/")
-        assert page.status_code == 200 and "Draw 1: a round" not in page.text
+        assert page.status_code == 200 and "Round 1" not in page.text
         assert tasks(sup.get("/").text)["Not yet"][0][2] == "Soon"
         # (the copy and the pairs follow)
         assert hal.step(1, "close").status_code == 303
         (title, said, state), = tasks(sup.get("/").text)["Due now"]
-        assert (title, state) == ("Draw the lots of draw 1", "Waits for you")
-        assert said.startswith("A round for Monday, 3 March 2025.")
+        assert (title, state) == ("Draw the lots of round 1", "Waits for you")
+        assert said.startswith("For Monday, 3 March 2025. Type or upload them, and seal them.")
         assert 'href="/lots/1"' in sup.get("/lots/").text
         first = Fields(sup.get("/lots/1").text)
         fields = [it for it in first.values if it.startswith("lot-")]
@@ -198,14 +198,14 @@ def test_a_round_by_five_hands(machine: Machine, town: Town) -> None:
         given = {"seen": values["seen"], "digest": values["digest"]}
         assert sup.post("/lots/1/seal", given).status_code == 303
         found = tasks(sup.get("/").text)
-        assert "Due now" not in found and found["Done"][0][0] == "Seal the lots of draw 1"
-        assert found["Not yet"][0][::2] == ("See draw 1 held", "Nothing for you")
+        assert "Due now" not in found and found["Done"][0][0] == "Seal the lots of round 1"
+        assert found["Not yet"][0][::2] == ("Wait for round 1", "Nothing for you")
         assert sup.get("/lots/1/sealed.txt").text == text
         assert hal.browser.get("/draws/1/sealed.txt").text == text
         # (the rehearsal follows)
         page = jane.browser.get("/").text
         assert '<a href="/draws/1"' in page
-        assert ">Draw 1: a round. A second person has to confirm it.<" in page
+        assert ">A second person has to confirm it.<" in page
         wanted = town.allotted(lots)
         shown = hal.browser.get("/draws/1").text
         placed = sum(it is not None for it in wanted.values())
@@ -236,7 +236,7 @@ def test_a_round_by_five_hands(machine: Machine, town: Town) -> None:
             "copied the register", "audited", "opened the register"]
         names = [it.name for it in office.parts.copies.listed()]
         purposes = [it.purpose for it in office.parts.copies.listed()]
-        assert purposes == ["after draw 1", "before draw 1"]
+        assert purposes == ["after round 1", "before round 1"]
         assert all(re.fullmatch(r"office-00000[12]-\d{4}-\d\d-\d\dT\d{6}\.db", it) for it in names)
         assert [(machine.copies / it).stat().st_mode & 0o777 for it in names] == [0o640] * 2
 
@@ -361,14 +361,14 @@ def test_a_draw_is_not_said_to_be_missing_while_the_register_is_away(small: Mach
         waiting(office, number)
         hal = office.browser("hal", "head")
         page = hal.get(f"/draws/{number}").text
-        assert "the register has 1 of 1 draw" in page
+        assert "closed, and run; not audited yet" in page
         assert "Next: audit round 1" in page and "Audit round 1</button>" in page
         small.stop()
         # (what was read within two seconds is shown as it was)
         office.parts.desk.copy = None
         page = hal.get(f"/draws/{number}").text
         assert "The register does not answer now." in page
-        for said in ("the register has", "Next:", "Hold round 1", "Audit round 1"):
+        for said in ("so far", "Next:", "Run round 1", "Audit round 1"):
             assert said not in page, said
         small.start()
         assert "Audit round 1</button>" in hal.get(f"/draws/{number}").text
@@ -397,7 +397,8 @@ def test_three_fills_in_one_closure(small: Machine) -> None:
         assert register.lots(3) == {("OAK", 2): 8, ("OAK", 4): 1, ("OAK", 5): 2}
         assert register.lots(4) == {("OAK", 4): 3, ("OAK", 5): 4}
         draw = office.parts.draws.get(number)
-        assert draw.terms.in_words == "draws 2 to 4: 3 fills at OAK"
+        assert (draw.name, draw.terms.sealed) == (
+            "the offer of 3 places at OAK School", "draws 2 to 4: 3 fills at OAK")
         assert [it[:4] for it in draw.rehearsal["outcomes"]] == [
             [2, 3, "ELM", "OAK"], [3, 2, "ELM", "OAK"], [4, 4, "ELM", "OAK"]]
         command = {"cmd": "fill", "draw": 3, "school": "OAK", "day": "2025-04-07",
@@ -430,17 +431,17 @@ def test_nobody_else_records_while_it_is_closed(
             waiting(office, number)
             found = portal.command(command)
             assert found.status_code == 503
-            said = f"Recording is paused for draw 1 by hal since {since:%H:%M}"
+            said = f"Recording is paused for round 1 by hal since {since:%H:%M}"
             assert found.json["reason"] == f"{said}."
             rows = portal.post("/import", "child\n", "text/csv")
             assert rows.status_code == 503
-            assert "Recording is paused for draw 1" in rows.json["reason"]
+            assert "Recording is paused for round 1" in rows.json["reason"]
         for screen in ("/", "/schools/", "/applications/", "/applications/commit/", "/find",
                        "/children/1", "/answers/", "/draws/", "/lists/", "/flags/", "/activity/"):
             text = jane.get(screen).text
-            assert text.count("Recording is paused for draw 1 by hal since") == 1, screen
-            assert text.count(f'href="/draws/{number}">To draw 1</a>') == 1, screen
-        assert "To draw 1<" not in jane.get(f"/draws/{number}").text
+            assert text.count("Recording is paused for round 1 by hal since") == 1, screen
+            assert text.count(f'href="/draws/{number}">To round 1</a>') == 1, screen
+        assert "To round 1<" not in jane.get(f"/draws/{number}").text
         next_day = since.date() + datetime.timedelta(days=1)
         monkeypatch.setattr(desk, "today", lambda: next_day)
         assert f"{said} on {days.in_words(since.date())}." in jane.get("/").text
@@ -505,11 +506,11 @@ def test_the_second_person_is_another(small: Machine) -> None:
         typed(office, number, lot_of)
         digest = office.parts.lots.sheet(number)[1].digest()
         at = version(office, number)
-        with pytest.raises(Refused, match="hal began this draw: somebody else seals the lots"):
+        with pytest.raises(Refused, match="hal began round 1: somebody else seals the lots"):
             office.parts.lots.seal(HAL, number, at, digest)
         brought(office, number, "rehearsed")
         at = version(office, number)
-        with pytest.raises(Refused, match="hal began this draw: somebody else confirms it"):
+        with pytest.raises(Refused, match="hal began round 1: somebody else confirms it"):
             office.parts.draws.confirm(HAL, number, at)
         with pytest.raises(Refused, match="sup sealed the lots: somebody else confirms it"):
             office.parts.draws.confirm(SUP, number, at)
@@ -605,17 +606,17 @@ def test_a_register_that_changed_behind_is_refused(small: Machine) -> None:
     with small.office() as office:
         number = begun(office)
         behind(office, small, number, "sealed", LEFT)
-        with pytest.raises(Refused, match=r"wants no lot any more for ELM 5 and OAK 5\. The draw"):
+        with pytest.raises(Refused, match=r"wants no lot any more for ELM 5 and OAK 5\. Cancel it"):
             office.parts.draws.rehearse(HAL, number, version(office, number))
         given_up(office, number)
         number = begun(office)
         behind(office, small, number, "sealed", RAISED)
-        with pytest.raises(Refused, match=r"the register has changed since it was copied\. The dr"):
+        with pytest.raises(Refused, match="has changed since it was copied. Cancel it, and begin"):
             office.parts.draws.rehearse(HAL, number, version(office, number))
         given_up(office, number)
         number = begun(office)
         behind(office, small, number, "confirmed", {**RAISED, "pan": 3})
-        with pytest.raises(Refused, match="is not as it was rehearsed. The draw must be cancelled"):
+        with pytest.raises(Refused, match="is not as it was rehearsed. Cancel it, and begin"):
             office.parts.draws.send(HAL, number, version(office, number))
         assert office.parts.desk.now().draws == []
         assert office.parts.draws.get(number).state == "confirmed"
@@ -631,7 +632,7 @@ def test_the_very_round_sent_by_somebody_else_is_refused(small: Machine) -> None
         lots = office.parts.lots.sheet(number)[1].lots()
         do_over(small.address, [{"cmd": "round", "draw": 1, "day": OFFER_DAY,
                                  "lots": [lots[it][0] for it in sorted(lots)]}])
-        with pytest.raises(Refused, match="the register has the draw already"):
+        with pytest.raises(Refused, match="the register has round 1 already"):
             office.parts.draws.send(HAL, number, version(office, number))
         assert not office.parts.history.open_requests()
         assert not any(it.what == "sends" for it in office.parts.history.entries)
@@ -660,7 +661,7 @@ def test_a_draw_with_other_lots_is_not_taken_for_this_one(
         assert [it[1:4:2] for it in draw.rehearsal["outcomes"]] == [
             [child, code] for child, code in register.outcomes[1].items()]
         for step in (office.parts.draws.send, office.parts.draws.audit):
-            with pytest.raises(Refused, match="not as it was rehearsed. The draw cannot go on"):
+            with pytest.raises(Refused, match="not as it was rehearsed. It cannot go on"):
                 step(HAL, number, version(office, number))
 
 
@@ -721,10 +722,10 @@ def test_a_crash_between_fills(
         draw = office.parts.draws.get(number)
         held = {"before the second": 1}.get(when, 2)
         assert draw.state == "sending" and len(office.parts.desk.now().draws) == 1 + held
-        assert "Recording is paused for draws 2 to 4" in office.parts.desk.closed()
+        assert "Recording is paused for the offer of 3 places at " in office.parts.desk.closed()
         page = office.browser("rita", "reader").get(f"/draws/{number}").text
-        assert f"the register has {held} of 3 draws" in page and "go on, and hold the" in page
-        with pytest.raises(Refused, match="not all is held yet"):
+        assert f"{held} of 3 places so far" in page and "go on, and run the" in page
+        with pytest.raises(Refused, match="not all of it is run yet"):
             office.parts.draws.audit(HAL, number, version(office, number))
         assert office.parts.draws.get(number).state == "sending"
         jane = Person(office, "jane", "officer")
@@ -897,7 +898,7 @@ def test_a_draw_is_given_up_before_it_is_sent_alone(small: Machine) -> None:
     with small.office() as office:
         for state in ("begun", *STATES[:6]):
             number = begun(office)
-            with pytest.raises(Refused, match="draw 1 is in progress"):
+            with pytest.raises(Refused, match="round 1 is in progress"):
                 begun(office)
             brought(office, number, state)
             given_up(office, number)
@@ -933,7 +934,7 @@ def test_two_give_up_a_draw_whose_lots_are_sealed(small: Machine) -> None:
         found = hal.step(number, "give-up")
         assert found.status_code == 409 and "in which this cannot be done" in found.text
         found = jane.step(number, "confirm-give-up")
-        assert found.status_code == 409 and "Nobody has asked to cancel the draw." in found.text
+        assert found.status_code == 409 and "Nobody has asked to cancel round 1." in found.text
         seen = Fields(jane.browser.get(f"/draws/{number}").text).values["seen"]
         assert hal.step(number, "ask-give-up", reason=MISTYPED).status_code == 303
         stale = jane.press(number, seen, "confirm").text
@@ -945,7 +946,7 @@ def test_two_give_up_a_draw_whose_lots_are_sealed(small: Machine) -> None:
         found = hal.step(number, "confirm-give-up")
         assert found.status_code == 409 and "somebody else confirms it" in found.text
         found = jane.step(number, "confirm")
-        assert found.status_code == 409 and "hal has asked to cancel the draw" in found.text
+        assert found.status_code == 409 and "hal has asked to cancel round 1" in found.text
         # (it is taken back, and asked for once more)
         assert hal.step(number, "keep-on").status_code == 303
         assert ">Confirm round 1<" in jane.browser.get(f"/draws/{number}").text
@@ -974,7 +975,7 @@ def test_a_draw_whose_lots_are_sealed_is_given_up_for_a_reason(small: Machine) -
         for reason in ("", " ", "two\nlines", 501 * "x"):
             found = hal.step(number, "ask-give-up", reason=reason)
             assert found.status_code == 409, reason
-            assert "Type the reason for cancelling the draw in one line" in found.text
+            assert "Type the reason for cancelling it in one line" in found.text
             assert office.parts.draws.get(number).give_up_by == ""
         assert f'value="{501 * "x"}"' in found.text
         assert hal.step(number, "ask-give-up", reason=f" {MISTYPED} <b>").status_code == 303
@@ -1030,7 +1031,7 @@ def test_a_second_person_is_not_made_up(small: Machine, how: str) -> None:
 
         def refused(name: str) -> None:
             found = pat.press(number, str(version(office, number)), name)
-            assert found.status_code == 409 and ", after this draw was begun:" in found.text
+            assert found.status_code == 409 and ", after it was begun:" in found.text
             assert said in found.text, found.text
 
         page = pat.browser.get(f"/draws/{number}").text
@@ -1090,9 +1091,9 @@ def test_what_looks_wrong_is_read_before_it_closes(small: Machine) -> None:
         doubts = " ".join(page.by_id["to-look-at"].split())
         assert "Is this right? When hal closed the register, this looked wrong: " in doubts
         assert "It is 5 days after today." in doubts and "It is a Saturday." in doubts
-        assert doubts.endswith("hal said that it is right.") and "Agrees" in doubts
+        assert doubts.index("Agrees") < doubts.index("hal said that it is right.")
         at = page.text.index(">Confirm round 1</button>")
-        assert page.text.index('id="to-look-at"') < at < page.text.index('id="checked"')
+        assert page.text.index('id="to-look-at"') < at
         assert at < page.text.index('id="by-school"') < page.text.index("By child</caption>")
         assert at < page.text.index('aria-label="Steps"')
 
@@ -1158,8 +1159,8 @@ NOT_BEGUN = [
     ({"kind": "fill", "school": "OAK", "fills": "99", "day": OFFER_DAY}, "from 1 to 50"),
     ({"kind": "fill", "school": "OAK", "fills": "-1", "day": OFFER_DAY}, "from 1 to 50"),
     ({"kind": "fill", "school": "OAK", "fills": "٣", "day": OFFER_DAY}, "from 1 to 50"),
-    ({"kind": "round", "fills": "2", "day": "2025-02-30"}, "type the day of the draw as"),
-    ({"kind": "round", "fills": "<b>", "day": "<b>"}, "type the day of the draw as"),
+    ({"kind": "round", "fills": "2", "day": "2025-02-30"}, "type the day as"),
+    ({"kind": "round", "fills": "<b>", "day": "<b>"}, "type the day as"),
 ]
 
 

@@ -86,7 +86,7 @@ def test_who_took_no_part_is_explained_too(office: Site) -> None:
     assert " ".join(Page(rita.get("/children/6").text).by_id["why"].split()).startswith("Round 1")
     for path in ("/children/6/why/1/family", "/children/6/what-if/1"):
         found = rita.get(path)
-        assert found.status_code == 200 and "when the round was held." in found.text, path
+        assert found.status_code == 200 and "when the round was run." in found.text, path
 
 
 def printed(data: bytes, folder: pathlib.Path) -> str:
@@ -183,7 +183,7 @@ def test_a_fill_is_explained(tmp_path: pathlib.Path) -> None:
         office.add("jane", "officer")
         jane = office.browser("jane")
         words = " ".join(Page(jane.get("/children/4").text).by_id["why"].split())
-        assert words.startswith("Fill of A (draw 2), 14 April 2025: why not Alpha Round 1,")
+        assert words.startswith("Offer of a place at A (draw 2), 14 April 2025: why not Alpha Round 1,")
         page = Page(jane.get("/children/4/why/2/family").text)
         assert "Some children waited for the vacancy, your child among them." in page.text
         assert f"The child that was offered the place: {WORDS}." in page.text

@@ -60,7 +60,7 @@ def test_the_supervisor_sees_what_is_to_come(
     assert office.parts.desk.send(HAL, ROUND, draw=True).is_done
     on(monkeypatch, "2025-03-20")
     text = sue.get("/").text
-    assert [it[0] for it in tasks(text)["Not yet"]] == ["Draw the lots of the next round or fill"]
+    assert [it[0] for it in tasks(text)["Not yet"]] == ["Draw the lots of the next round or offer"]
     assert "Ada" not in text and "Alpha" not in text and 'href="/lots/"' in text
     on(monkeypatch, "2026-01-01")
     assert "Nothing is to be done now." in sue.get("/").text

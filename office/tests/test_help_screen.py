@@ -61,7 +61,7 @@ def test_each_screen_has_a_topic(office: Site) -> None:
     ("/applications/add/", "add-a-child"),
     ("/children/1", "a-childs-screen"), ("/children/1/plan", "ehc-plans"),
     ("/lists/unplaced", "children-without-a-place"), ("/lists/children", "lists"),
-    ("/schools/A/waiting", "waiting-lists"), ("/draws/", "hold-a-round"),
+    ("/schools/A/waiting", "waiting-lists"), ("/draws/", "run-a-round"),
     ("/answers/", "answers"), ("/password", "sign-in")])
 def test_a_screen_leads_to_its_topic(jane: Browser, path: str, name: str) -> None:
     page = jane.get(path)

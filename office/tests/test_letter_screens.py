@@ -190,12 +190,12 @@ def due_letters(browser: Browser) -> list[str]:
 def test_the_season_says_how_many_letters_are_not_recorded_as_sent(office: Site) -> None:
     """Until each child of the round has one, for those who may make letters."""
     jane, rita = office.browser("jane"), office.browser("rita", "reader")
-    assert due_letters(jane) == ["Send the letters of draw 1: 5 left"]
+    assert due_letters(jane) == ["Send the letters of round 1: 5 left"]
     assert not due_letters(rita)
     path = made(jane, asked(jane, "offers", "1", child=["2", "4"], kind="merge"))
-    assert due_letters(jane) == ["Send the letters of draw 1: 5 left"]
+    assert due_letters(jane) == ["Send the letters of round 1: 5 left"]
     assert recorded(jane, path)[0] == 303
-    assert due_letters(jane) == ["Send the letters of draw 1: 3 left"]
+    assert due_letters(jane) == ["Send the letters of round 1: 3 left"]
     path = made(jane, asked(jane, "part", "1", child=["1", "3", "5"], kind="merge"))
     assert recorded(jane, path)[0] == 303
     assert not due_letters(jane) and not due_letters(office.browser("hal", "head"))

@@ -290,7 +290,7 @@ def test_letters_of_a_draw_are_by_its_own_copy_alone(office: Office) -> None:
     that one no copy is known.
     """
     with office.store.writing() as db:
-        db.execute("INSERT INTO copy (number, purpose, asked) VALUES (7, 'before draw 1', ?)",
+        db.execute("INSERT INTO copy (number, purpose, asked) VALUES (7, 'before round 1', ?)",
                    (BEFORE,))
         db.execute("INSERT INTO draw (first, school, fills, day, state, version, copy_before)"
                    " VALUES (1, NULL, 1, '2025-03-03', 'opened', 9, 7)")

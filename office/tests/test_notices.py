@@ -492,11 +492,11 @@ def test_a_row_that_cannot_be_recorded_now_makes_no_copy(tmp_path: pathlib.Path)
     """
     with site(tmp_path, "http://127.0.0.1:9") as office:
         found, number = row_of(office, 1, 2)
-        office.parts.desk.closed = lambda: "Recording is paused for draw 1 by hal since 10:00."
+        office.parts.desk.closed = lambda: "Recording is paused for round 1 by hal since 10:00."
         found.send_all(JANE, number)
         row = found.get(number)
         assert row.said == (
-            "Recording is paused for draw 1 by hal since 10:00. Nothing was recorded.")
+            "Recording is paused for round 1 by hal since 10:00. Nothing was recorded.")
         assert not office.copied and row.copy is None and row.count("waits") == 2
         office.parts.desk.closed = str
         found.send_all(JANE, number)

@@ -48,6 +48,7 @@ OLD = {
     "[Bb]ring back|[Bb]rought back": "Put back", "Store in the register": "Add to the register",
     "Points of homes": "Homes to locate", r"\b[Ff]lags?\b(?!:)": "Verified reasons",
     "Correct the data": "Correct the details", r"\bpairs?\b": "lots",
+    r"\b[Hh]olds? (round|the (first )?(round|draw))\b": "Run",
 }
 # the texts within what a template computes, and the texts of attributes that are read out
 QUOTED = re.compile(r"\"([^\"]*)\"")

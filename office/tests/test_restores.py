@@ -654,7 +654,7 @@ def test_what_cannot_be_restored_is_said_before_the_register_is_closed(
 
         number = begun(office)
         refused = room.hal.post("/copies/1/restore")
-        assert refused.status_code == 409 and "draw 1 is in progress" in refused.text
+        assert refused.status_code == 409 and "round 1 is in progress" in refused.text
         office.parts.draws.give_up(HAL, number, version(office, number))
         with monkeypatch.context() as patch:
             patch.setattr(History, "write", full)
@@ -742,7 +742,7 @@ def test_a_draw_with_a_wrong_day_is_held_again_with_its_lots(small: Machine) -> 
         assert "It was undone." in page and f"{link}Begin round 1 again</a>" in page
         page = room.hal.get("/draws/").text
         assert page.count(f"{link}begin round 1 again</a>") == 2
-        assert "This form is for another one. To hold round 1 again, follow" in page
+        assert "This form is for another one. To run round 1 again, follow" in page
         assert link not in room.jane.get("/draws/").text + room.jane.get(f"/draws/{number}").text
         page = room.hal.get(f"/draws/?again={number}").text
         assert "This form is for another draw" not in page
@@ -783,26 +783,26 @@ def test_an_answer_to_an_undone_offer_waits_until_the_draw_is_held_again(small: 
         seen = " ".join(room.jane.get(path).text.split())
         # (the draw is lost, and the accept waits)
         assert ("2 entries came since then: none of them is sent again, and 1 is lost. 1 entry"
-                " waits until the draw is held again.") in seen
+                " waits until the round or offer is run again.") in seen
         assert press(room.jane, path, Page(seen), "Restore copy 1").status_code == 303
         assert room.state(restore) == "opened" and not office.parts.desk.closed()
         assert room.now().draws == [] and not room.now().places
 
-        found = press(room.hal, path, Page(room.hal.get(path).text), "Begin draw 1: a round again",
+        found = press(room.hal, path, Page(room.hal.get(path).text), "Begin round 1 again",
                       day="4 March 2025")
         number = int(found.headers["Location"].rsplit("/", 1)[1])
         assert str(office.parts.draws.get(number).terms.day) == "2025-03-04"
-        assert "Begin draw 1: a round again" not in Page(room.hal.get(path).text).buttons()
+        assert "Begin round 1 again" not in Page(room.hal.get(path).text).buttons()
         brought(office, number, "lots")
         sup = office.browser("sup", "supervisor")
         whole = sup.get(f"/lots/{number}").text
-        assert "Seal the lots of draw 1" in Page(whole).buttons()
-        assert "10 lots were sealed in the draw that this one repeats" in whole
+        assert "Seal the lots of round 1" in Page(whole).buttons()
+        assert "10 lots were sealed for round 1 before it was undone" in whole
         assert "Lots, page 1 of 1" in Page(sup.get(f"/lots/{number}?page=1").text).tables
         brought(office, number, "opened")
         assert not room.now().places[3].kind == "accepted"
         page = Page(room.hal.get(f"/draws/{number}").text)
-        assert "1 entry that came after the draw was held first" in page.by_id["unsent"]
+        assert "1 entry that came after it was run first" in page.by_id["unsent"]
         assert f"{path}#since" in page.stops
         page = Page(room.hal.get(path).text)
         assert press(room.hal, path, page, "Send what is ticked").status_code == 303
@@ -823,9 +823,9 @@ def held_again(room: Room, lots: dict[tuple[str, int], list[int]]) -> None:
     sheet = office.parts.lots.sheet(number)[1]
     assert not sheet.wrong() and sheet.lots() == lots
     pair = min(lots)
-    with pytest.raises(Refused, match="was sealed in the draw that this one repeats"):
+    with pytest.raises(Refused, match="was sealed before, and stays"):
         office.parts.lots.save(SUP, number, {(pair, 0): Typed(str(lots[pair][0]), "424242")})
-    with pytest.raises(Refused, match="was sealed in the draw that this one repeats"):
+    with pytest.raises(Refused, match="was sealed before, and stays"):
         office.parts.lots.take(SUP, number, 0, {pair: 424242})
     assert office.parts.lots.sheet(number)[1].lots() == lots
     given_up(office, number)

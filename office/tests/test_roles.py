@@ -314,7 +314,7 @@ def test_nobody_but_the_supervisor_sees_lots_before_the_seal(small: Machine) -> 
         texts = {(role, path): words_in(browser.get(path).data) for role, browser
                  in browsers.items() for path in sorted({*paths, "/children/1/held.html"})}
         assert [(*where, it) for where, text in texts.items() for it in secret if it in text] == []
-        said = "Draw 1 is in progress: the lots of this child in it are seen by the supervisor"
+        said = "Round 1 is in progress: the lots of this child in it are seen by the supervisor"
         for form in ("html", "json"):
             assert said in texts[OFFICER, f"/children/1/held.{form}"]
         office.parts.draws.give_up(HAL, number, office.parts.draws.get(number).version, MISTYPED)

@@ -145,7 +145,7 @@ def test_who_comes_next_is_shown_before_a_fill_begins(
     before = office.parts.history.entries[-1]
     text = hal.get("/schools/OAK/offer?places=2").text
     link = re.findall('href="(/draws/[?][^"#]*)', text)[0]
-    form = Page(hal.get(link.replace("&amp;", "&")).text).form("Begin draw 2").values
+    form = Page(hal.get(link.replace("&amp;", "&")).text).form("Begin").values
     assert (form["kind"], form["school"], form["fills"]) == (["fill"], ["OAK"], ["2"])
     assert office.parts.history.entries[-1] == before and office.parts.draws.present() is None
     # (who may not begin one sees who does)

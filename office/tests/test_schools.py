@@ -139,8 +139,8 @@ def test_a_copy_is_made_before_schools_are_stored(
         raise Refused("there is no copy: the disk is full")
 
     for name, found, said in (("make", none, "There is no copy: the disk is full."),
-                              ("closed", lambda: "Recording is paused for draw 1 by hal.",
-                               "Recording is paused for draw 1")):
+                              ("closed", lambda: "Recording is paused for round 1 by hal.",
+                               "Recording is paused for round 1")):
         with monkeypatch.context() as patch:
             target = empty.parts.copies if name == "make" else empty.parts.desk
             patch.setattr(target, name, found)
@@ -606,10 +606,10 @@ def test_nothing_is_stored_while_the_register_is_closed(empty: Site) -> None:
     """The draft stays, and the reason is said."""
     jane = empty.browser("jane")
     page = drafted(jane)
-    empty.parts.desk.closed = lambda: "Recording is paused for draw 1 by hal."
+    empty.parts.desk.closed = lambda: "Recording is paused for round 1 by hal."
     found = stores(jane, "", page, "Store 2 schools")
     assert found.status_code == 409
-    assert Page(found.text).said() == "Recording is paused for draw 1 by hal. Nothing was recorded."
+    assert Page(found.text).said() == "Recording is paused for round 1 by hal. Nothing was recorded."
     assert sent(empty) == [] and len(empty.parts.schools.rows()) == 2
 
 
@@ -659,7 +659,7 @@ def test_a_school_has_its_intake_its_list_and_its_last_offers(held: Site) -> Non
         ["4", "Dai O'Dare", "by a plan", "", "", ""]]
     assert table("last") == [
         ["round 1", "3 March 2025", "2", "2", alone, "200", "2"],
-        ["fill of A (draw 2)", "20 March 2025", "1", "3", alone, "300", "7"]]
+        ["offer of a place at A (draw 2)", "20 March 2025", "1", "3", alone, "300", "7"]]
     assert [it for it in table("classes") if it[1:3] != ["0", "0"]] == [
         ["by an EHC plan", "1", "0", ""], [alone, "2", "0", "300"]]
 

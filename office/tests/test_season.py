@@ -54,11 +54,11 @@ def test_the_supervisor_draws_only_lots_that_a_draw_waits_for(tmp_path: pathlib.
         assert due(None) == [
             "The offer day is Monday, 3 March 2025. The supervisor draws 8 lots."]
         for state in IN_ORDER:
-            draw = Draw(1, terms, state, 1, None, None, "", {}, {}, "", "", "", "", (), None, "")
+            draw = Draw(
+                1, "round 1", terms, state, 1, None, None, "", {}, {}, "", "", "", "", (), None, "")
             turn = {"lots": "The supervisor has the lots to draw and to seal.",
                     "rehearsed": "A second person has to confirm it."}
-            assert due(draw) == [
-                f"Draw 1: a round. {turn.get(state, 'A head of the office goes on with it.')}"]
+            assert due(draw) == [turn.get(state, "A head of the office goes on with it.")]
 
 
 def test_rows_that_a_round_would_leave_out_come_before_it(tmp_path: pathlib.Path) -> None:
@@ -70,7 +70,7 @@ def test_rows_that_a_round_would_leave_out_come_before_it(tmp_path: pathlib.Path
             assert [(it.title, it.state) for it in found[:2]] == [
                 ("Correct applications, and add them to the register", "2 rows"),
                 ("Put back what a family still wants", "3 rows")]
-            assert found[2].title == "Hold the first round"
+            assert found[2].title == "Run the first round"
 
 
 def test_a_season_goes_step_by_step(
@@ -85,7 +85,7 @@ def test_a_season_goes_step_by_step(
             return {group: [(title, state) for title, _, state in rows]
                     for group, rows in tasks(rita.get("/").text).items()}
 
-        round_1 = "Hold the first round"
+        round_1 = "Run the first round"
         assert found("2024-09-01") == {
             "Due now": [("Add the schools", "No school yet")],
             "When you are ready": [("Add the applications that have come in",
@@ -106,7 +106,7 @@ def test_a_season_goes_step_by_step(
         remind, lapse, end = ("Remind families who do not answer",
                               "Withdraw offers that stay unanswered", "End the season")
         last = (end, "From 1 January 2026")
-        done.append(("Hold round 1", "Done"))
+        done.append(("Run round 1", "Done"))
         # (on the last day of the answer nothing is due yet)
         for day in ("2025-03-16", "2025-03-17"):
             assert found(day) == {
@@ -173,9 +173,9 @@ def test_the_first_screen_says_how_the_season_stands(office: Site) -> None:
     assert office.parts.desk.send(HAL, command).is_done
     office.browser("bo")
     rita = office.browser("rita", "reader")
-    office.parts.desk.closed = lambda: "Recording is paused for draw 2 by hal since 10:02."
+    office.parts.desk.closed = lambda: "Recording is paused for round 2 by hal since 10:02."
     page = Page(rita.get("/").text)
-    assert page.text.count("Recording is paused for draw 2 by hal since 10:02.") == 1
+    assert page.text.count("Recording is paused for round 2 by hal since 10:02.") == 1
     assert "bo, rita" in page.text
     text = html.unescape(re.sub(r"<[^>]*>|\s+", " ", page.text))
     for words in ("Applications 4", "Offers not answered 1", "Vacant places 1",
@@ -197,10 +197,11 @@ def test_the_main_button_is_what_can_be_done_now(
         return re.findall(r'<a class="button primary"[^>]*>([^<]*)<', hal.get("/").text)
 
     assert main() == ["Record answers"]
-    office.parts.desk.closed = lambda: "Recording is paused for draw 2 by hal since 10:02."
+    office.parts.desk.closed = lambda: "Recording is paused for round 2 by hal since 10:02."
     assert main() == [] and ">Record answers</a>" in hal.get("/").text
     terms = Terms(2, None, 2, datetime.date(2025, 3, 10))
-    draw = Draw(2, terms, "lots", 1, None, None, "", {}, {}, "", "", "", "", (), None, "")
+    draw = Draw(
+            2, "round 2", terms, "lots", 1, None, None, "", {}, {}, "", "", "", "", (), None, "")
     monkeypatch.setattr(season, "known", lambda *_: home.Known(draw, button="Try it on a copy"))
     assert main() == ["Try it on a copy"]
 

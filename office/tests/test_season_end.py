@@ -143,7 +143,7 @@ def test_what_is_open_is_read_before_the_last_copy(
         found = season_end.still_open(office.parts, register, office.parts.end.today())
         assert found[0].is_stop and found[0].title == "A draw in progress"
         refused = head.press("copy", 409)
-        assert "A draw in progress: draw 2 (page 1): 1 fill at A" in refused.text
+        assert "A draw in progress: the offer of 1 place at Alpha: it must" in refused.text
         assert len(office.copied) == 1
         office.parts.history.add("hal", history.SENDS, {
             "command": {"cmd": "accept", "child": 1, "school": "A"}})
@@ -508,7 +508,7 @@ def test_nothing_begins_while_a_season_is_deleted(alone: Parts) -> None:
     with pytest.raises(Refused, match=said):
         alone.restores.begin(HAL, 1)
     with pytest.raises(Refused, match=said):
-        alone.draws.added(HAL, Terms(1, None, 1, DAY), "begun", None, "")
+        alone.draws.added(HAL, "round 1", Terms(1, None, 1, DAY), "begun", None, "")
     assert not alone.draws.listed()
 
 

@@ -171,11 +171,11 @@ def test_a_correction_during_a_draw_keeps_what_was_typed(
     page = Page(press(jane, path, Page(jane.get(path).text), "Compare with the register",
                       name="Child Numbers24").text)
     with monkeypatch.context() as patch:
-        said = "Recording is paused for draw 2 by hal since 10:02."
+        said = "Recording is paused for round 2 by hal since 10:02."
         patch.setattr(office.parts.desk, "closed", lambda: said)
         late = press(jane, path, page, "Correct the details of Child Number24")
         kept = Page(late.text)
-        assert late.status_code == 409 and "Recording is paused for draw 2 by hal" in kept.said()
+        assert late.status_code == 409 and "Recording is paused for round 2 by hal" in kept.said()
         assert not of(office, 24)
         assert ["Name", "Child Number24", "Child Numbers24"] in kept.tables["changes"]
     assert press(jane, path, kept, "Correct the details of Child Number24").status_code == 303

@@ -1004,13 +1004,13 @@ def test_a_closed_register_keeps_the_table(office: Site, screens: Screens) -> No
     """While a draw is held nothing is sent, and the rows are as they were."""
     screens.add(("a.csv", lines(GOOD[:2])))
     digest = screens.digest()
-    office.parts.desk.closed = lambda: "Recording is paused for draw 5 by hal since 10:02."
+    office.parts.desk.closed = lambda: "Recording is paused for round 5 by hal since 10:02."
     seen = screens.see("commit/")
-    assert "Recording is paused for draw 5" in seen.text
+    assert "Recording is paused for round 5" in seen.text
     assert not any(it.startswith("Add ") for it in seen.buttons)
     found = screens.store(digest)
     assert found.status_code == 409
-    assert "Recording is paused for draw 5" in Seen(found.text).texts["answer"]
+    assert "Recording is paused for round 5" in Seen(found.text).texts["answer"]
     assert states(office) == {OPEN: 2} and not imports(office)
 
 

@@ -136,7 +136,7 @@ def test_two_weeks_after_the_offers(tmp_path: pathlib.Path) -> None:
         for it in ("Ashdown Council", "Today is Tuesday, 16 March 2027", "8 schools",
                    " applications, of which 40 late", "for 1 March 2027: "):
             assert it in page
-        assert "held, and recording goes on" in head.get("/draws/")
+        assert "complete: recording goes on" in head.get("/draws/")
         activity = head.get("/activity/?since=12/3/2027&until=12/3/2027&who=owen")
         assert "12 March 2027, 10:15" in activity and "Accepted the place of" in activity
 

@@ -43,7 +43,7 @@ SCREENS = {
         "/letters/whom?whom=offers&value=1", "/letters/office/", "/letters/templates/",
         "/letters/templates/1", "/letters/addresses/", "/applications/points/",
         "/applications/gazetteer/", "/draws/", "/draws/1", "/lists/", "/people/", "/activity/",
-        "/password", "/help/", "/help/?q=decline", "/help/hold-a-round", "/help/refusals",
+        "/password", "/help/", "/help/?q=decline", "/help/run-a-round", "/help/refusals",
         "/nothing")),
     "sup": ("supervisor", ("/", "/lots/", "/lots/1")),
     "rita": ("reader", ("/", "/lists/", "/flags/", "/children/11")),

@@ -95,7 +95,7 @@ class Parts:
         if self.end.closed():
             return None
         if self.draws.closed() and (draw := self.draws.present()):
-            return draw.numbered, "draws.one", draw.number
+            return draw.name, "draws.one", draw.number
         restore = self.restores.present()
         if restore is None:
             return None

@@ -1,5 +1,5 @@
 """A round, or fills at one school in one closure: closed, copied, lots drawn and sealed, rehearsed,
-confirmed by a second person, held, audited and opened.
+confirmed by a second person, run, audited and opened.
 """
 import copy
 import dataclasses
@@ -34,31 +34,20 @@ class Draw:
     is_workbook: bool = False
     # the number of the round, if it is one
     round: int = 1
-    # the number of its page, if that is another one than that of the draw in the register
-    page: int = 0
-    # the day of the office when the draw is held, if its own is wrong
+    # the day of the office when the draw is run, if its own is wrong
     office_day: datetime.date | None = None
 
     @property
-    def numbers(self) -> str:
-        """How the screens name it."""
+    def sealed(self) -> str:
+        """How the text names it that is sealed."""
         last = self.first + self.fills - 1
-        return f"draws {self.first} to {last}" if self.fills > 1 else f"draw {self.first}"
-
-    @property
-    def words(self) -> str:
-        """What is drawn, in words."""
+        numbers = f"draws {self.first} to {last}" if self.fills > 1 else f"draw {self.first}"
         fills = f"{self.fills} fills" if self.fills > 1 else "1 fill"
-        return f"{self.numbers}: {f'{fills} at {self.school}' if self.school else 'a round'}"
-
-    @property
-    def numbered(self) -> str:
-        """How the screens name it where they lead to it."""
-        return f"{self.numbers} (page {self.page})" if self.page else self.numbers
+        return f"{numbers}: {f'{fills} at {self.school}' if self.school else 'a round'}"
 
     @property
     def name(self) -> str:
-        """How its own screen names it: by the number of the round, or by its places."""
+        """How the screens name it: by the number of the round, or by its places."""
         if not self.school:
             return f"round {self.round}"
         school = next(it.name for it in town.SCHOOLS if it.code == self.school)
@@ -71,12 +60,6 @@ class Draw:
         text = self.name.removeprefix("the ")
         return text[0].upper() + text[1:]
 
-    @property
-    def title(self) -> str:
-        """How the screen of lots names it."""
-        text = self.words.replace(self.numbers, self.numbered)
-        return text[0].upper() + text[1:]
-
 
 # the lots of each pair, one for each draw of the row
 Lots = dict[Pair, list[int]]
@@ -85,12 +68,12 @@ Lots = dict[Pair, list[int]]
 def held(office: Office, draw: Draw) -> Lots:
     """A draw from its begin to its end, compared with the rules; returns its lots."""
     office.today(draw.office_day or draw.day)
-    office.report.step(f"{draw.words}: begun, closed and copied")
+    office.report.step(f"{draw.name}: begun, closed and copied")
     pairs = office.season.waiting(draw.school) if draw.school else office.season.pairs()
     lots = lots_of(office, draw, pairs)
     begun(office, draw)
     closed(office, draw, len(pairs))
-    office.report.step(f"{draw.words}: lots")
+    office.report.step(f"{draw.name}: lots")
     drawn(office, draw, pairs, lots)
     ended(office, draw, lots)
     return lots
@@ -101,13 +84,13 @@ def held_again(office: Office, draw: Draw, lots: Lots) -> None:
     they were sealed, and the supervisor seals them for the right day.
     """
     jane, sup = office.jane, office.people[SUP]
-    office.report.step(f"{draw.words}: held again on {draw.day}")
-    jane.type_day("Day of the draw", draw.day)
+    office.report.step(f"{draw.name}: run again on {draw.day}")
+    jane.type_day("Day", draw.day)
     jane.enter()
-    office.report.same(jane.title, draw.heading, "the heading of the draw that is held again")
+    office.report.same(jane.title, draw.heading, "the heading of the draw that is run again")
     closed(office, draw, len(lots))
     at_lots(sup, draw)
-    sup.see(f"{len(lots)} lots were sealed in the draw that this one repeats, and stay as they"
+    sup.see(f"{len(lots)} lots were sealed for {draw.name} before it was undone, and stay as they"
             " are.")
     sealed(office, draw, lots)
     ended(office, draw, lots)
@@ -115,14 +98,14 @@ def held_again(office: Office, draw: Draw, lots: Lots) -> None:
 
 def ended(office: Office, draw: Draw, lots: Lots) -> None:
     """A draw whose lots are sealed, to its end."""
-    office.report.step(f"{draw.words}: rehearsed and confirmed")
+    office.report.step(f"{draw.name}: rehearsed and confirmed")
     if not draw.school:
         office.before[draw.first] = Before(
             copy.deepcopy(office.season), {pair: it[0] for pair, it in lots.items()}, draw.day)
     rehearsed(office, draw, lots)
-    office.report.step(f"{draw.words}: held, audited and opened")
+    office.report.step(f"{draw.name}: run, audited and opened")
     sent(office, draw)
-    office.compare(draw.words)
+    office.compare(draw.name)
     for at in range(draw.fills):
         document = office.read(f"/draw/{draw.first + at}")
         kept = {(it["school"], it["child"]): it["lot"] for it in document["lots"]}
@@ -146,10 +129,10 @@ def lots_of(office: Office, draw: Draw, pairs: Sequence[Pair]) -> Lots:
 def begun(office: Office, draw: Draw) -> None:
     """The head of the office begins it."""
     jane = office.jane
-    jane.go("Offers", "Draws")
+    jane.go("Offers", "Rounds")
     if draw.school:
-        jane.pick("What is drawn", "places", "places")
-    jane.type_day("Day of the draw", draw.day)
+        jane.pick("What begins", "places", "places")
+    jane.type_day("Day", draw.day)
     if draw.school:
         jane.pick("School, for places from its waiting list", f"{draw.school} ", f"{draw.school} ")
         jane.fill("How many places there", str(draw.fills))
@@ -168,11 +151,11 @@ def closed(office: Office, draw: Draw, pairs: int) -> None:
     jane.press("Pause recording for everyone")
     rested(jane)
     report.same(jane.facts().get("State"), "closed, and the supervisor draws the lots",
-                f"the state of {draw.numbers}")
+                f"the state of {draw.name}")
     jane.look("A draw that waits for lots")
     hal = office.people[HAL]
     hal.open("/")
-    said = f"Recording is paused for {draw.numbers} by {jane.who}"
+    said = f"Recording is paused for {draw.name} by {jane.who}"
     report.see(hal.text("#closed").startswith(said),
                f"the officer sees that it is closed: {hal.text('#closed')!r}")
 
@@ -182,7 +165,7 @@ def drawn(office: Office, draw: Draw, pairs: Sequence[Pair], lots: Lots) -> None
     report, sup = office.report, office.people[SUP]
     tied = [pair for group in office.season.ties(pairs) for pair in group]
     at_lots(sup, draw)
-    report.same(sup.title.lower(), f"lots of {draw.title}".lower(), "what the supervisor sees")
+    report.same(sup.title, f"Lots of {draw.name}", "what the supervisor sees")
     sup.see(f"{len(pairs)} lots, one for each child at each school of its list. {len(tied)} ")
     if draw.is_workbook:
         by_workbook(office, sup, draw, {pair: lots[pair][0] for pair in tied})
@@ -198,7 +181,7 @@ def drawn(office: Office, draw: Draw, pairs: Sequence[Pair], lots: Lots) -> None
 def at_lots(sup: Hands, draw: Draw) -> None:
     """The supervisor finds on the first screen whose lots are to be drawn."""
     sup.open("/")
-    sup.press(f"Draw the lots of {draw.numbers}")
+    sup.press(f"Draw the lots of {draw.name}")
 
 
 def sealed(office: Office, draw: Draw, lots: Lots) -> None:
@@ -207,7 +190,7 @@ def sealed(office: Office, draw: Draw, lots: Lots) -> None:
     sup.look("All lots, to be sealed")
     digest = hashlib.sha256(sealed_text(draw, lots).encode()).hexdigest()
     report.same(sup.text("#digest"), digest, "the digest of the lots")
-    sup.press(f"Seal the lots of {draw.numbers}")
+    sup.press(f"Seal the lots of {draw.name}")
     sup.see(f"Sealed by {sup.who}")
 
 
@@ -218,14 +201,14 @@ def by_workbook(office: Office, sup: Hands, draw: Draw, lots: dict[Pair, int]) -
     until(path.exists, "the sheet of lots")
     office.report.same(town.fill_lots(path, lots), len(lots), "pairs of the sheet with a lot")
     sup.choose("File (.xlsx or .csv)", path)
-    sup.see(f"The file has {len(lots)} lots of {draw.numbers}: {len(lots)} new or changed.")
+    sup.see(f"The file has {len(lots)} lots: {len(lots)} new or changed.")
 
 
 def by_keys(sup: Hands, draw: Draw, tied: Sequence[Pair], lots: Lots) -> None:
     """The lots are typed in the table, and saved by Enter. One that is wrong is marked once its
     field is left.
     """
-    first = f"Lot of draw {draw.first} {tied[0][0]} {tied[0][1]}"
+    first = label_of(draw, 0, tied[0])
     sup.tab_to(first)
     sup.type("x")
     sup.key(Keys.TAB)
@@ -239,16 +222,22 @@ def by_keys(sup: Hands, draw: Draw, tied: Sequence[Pair], lots: Lots) -> None:
     sup.key(Keys.SHIFT, Keys.TAB)
     for pair in tied:
         for at in range(draw.fills):
-            sup.tab_to(f"Lot of draw {draw.first + at} {pair[0]} {pair[1]}")
+            sup.tab_to(label_of(draw, at, pair))
             sup.type(str(lots[pair][at]))
     sup.enter()
     # (each was saved when its field was left)
     sup.see("What is on this page is saved.")
 
 
+def label_of(draw: Draw, at: int, pair: Pair) -> str:
+    """The label of the field of a lot: of several draws it names the one."""
+    of = f" of draw {draw.first + at}" if draw.fills > 1 else ""
+    return f"Lot{of} {pair[0]} {pair[1]}"
+
+
 def sealed_text(draw: Draw, lots: Lots) -> str:
     """The text whose digest is the seal, as the screen describes it."""
-    lines = [f"{draw.words}, {draw.day.isoformat()}"]
+    lines = [f"{draw.sealed}, {draw.day.isoformat()}"]
     lines += [" ".join(map(str, [*pair, *lots[pair]])) for pair in sorted(lots)]
     return "".join(f"{it}\n" for it in lines)
 
@@ -274,11 +263,15 @@ def rehearsed(office: Office, draw: Draw, lots: Lots) -> None:
     shown = sorted(it for row in all_children(jane) if (it := came(draw, row)))
     wanted = sorted((number, child, before.get(child, "none"), school or "none")
                     for number, child, school in got)
-    report.same(shown, wanted, f"the outcome of the rehearsal of {draw.numbers}")
+    report.same(shown, wanted, f"the outcome of the rehearsal of {draw.name}")
     hal.open("/")
     office.report.see("A second person has to confirm it." in hal.text(".closed"),
                       f"hal is not told whose turn it is: {hal.text('.closed')}")
-    hal.press(f"To {draw.numbered}")
+    hal.press(f"To {draw.name}")
+    decided = hal.text("#next")
+    for said in ("works out the same", "since the applications were stored", "Two people are",
+                 f"Confirming gives no place yet: {draw.name} is run next, by"):
+        report.see(said in decided, f"before the button to confirm: {said!r} in {decided}")
     hal.press(f"Confirm {draw.name}")
 
 
@@ -304,14 +297,14 @@ def rested(who: Hands) -> None:
 
 
 def sent(office: Office, draw: Draw) -> None:
-    """It is held, and the audit that agrees opens the register for all."""
+    """It is run, and the audit that agrees opens the register for all."""
     report, jane = office.report, office.jane
     jane.reload()
-    jane.press(f"Hold {draw.name}")
+    jane.press(f"Run {draw.name}")
     rested(jane)
     jane.see("The audit agrees, and everybody can record again.")
     jane.see("The outcome is that of the rehearsal, and the second program has worked out the"
              " same.")
     jane.look("A draw that was opened")
-    report.same(jane.facts().get("State"), "held, and recording goes on",
-                f"the state of {draw.numbers}")
+    report.same(jane.facts().get("State"), "complete: recording goes on",
+                f"the state of {draw.name}")

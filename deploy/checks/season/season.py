@@ -94,7 +94,7 @@ def withdrawals(office: Office) -> None:
 def second_round(office: Office) -> None:
     """The second round, in which late applications take part too, with a wrong day at first."""
     day = office.offer_day + datetime.timedelta(days=AFTER_SECOND)
-    wrong.held(office, Draw(2 + FILLS, day, "02 03 19 28 41 47", round=2, page=3))
+    wrong.held(office, Draw(2 + FILLS, day, "02 03 19 28 41 47", round=2))
 
 
 def other_screens(office: Office) -> None:
@@ -103,7 +103,7 @@ def other_screens(office: Office) -> None:
     hal, rita, season = office.people[HAL], office.people[RITA], office.season
     placed = next(it for it in season.places if it not in season.plans)
     hal.open("/", "Home, near the end of the season")
-    hal.open("/draws/", "Draws, all of them")
+    hal.open("/draws/", "Rounds, all of them")
     for path in ("/schools/", f"/schools/{SCHOOL}", f"/find?q={placed}",
                  f"/children/{placed}", f"/children/{placed}/correct", "/lists/", "/lists/list",
                  "/lists/children", "/lists/vacancies", "/activity/", "/applications/add/",
@@ -140,7 +140,7 @@ STEPS: tuple[tuple[Callable[[Office], None], int], ...] = (
     (applications.stored, 1),
     # the screen, the question, and its answer
     (applications.plans, 3),
-    # for the head of the office the screen, the close and the draw; for the officer the draw and
+    # for the head of the office the screen, the close and the run; for the officer the round and
     # the confirmation; for the supervisor the lots, the seal, and the sheet and its file
     (first_round, 9),
     # the screen

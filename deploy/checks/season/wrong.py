@@ -1,5 +1,5 @@
-"""A draw that was held with a wrong day, and how it is put right: the copy from before it is
-restored by two persons, what came since is sent again, and it is held again with its lots.
+"""A draw that was run with a wrong day, and how it is put right: the copy from before it is
+restored by two persons, what came since is sent again, and it is run again with its lots.
 """
 import copy
 import dataclasses
@@ -29,7 +29,7 @@ def held(office: Office, draw: Draw) -> None:
     stayed, fresh = answering(office, before)
     answered(office, stayed, fresh)
     restored(office, draw, before, (stayed, fresh))
-    draws.held_again(office, dataclasses.replace(draw, page=draw.page + 1), lots)
+    draws.held_again(office, draw, lots)
     sent_later(office, fresh)
     office.report.same(office.read(f"/draw/{draw.first}")["day"], draw.day.isoformat(),
                        f"the day of draw {draw.first}")
@@ -80,14 +80,14 @@ def restored(office: Office, draw: Draw, before: Season, answered_by: tuple[int,
     answer to an offer that is undone: that waits for the draw.
     """
     report, jane, hal = office.report, office.jane, office.people[HAL]
-    report.step(f"{draw.words}: the copy from before it is restored")
+    report.step(f"{draw.name}: the copy from before it is restored")
     number = jane.facts()["Copy"].removeprefix("Copy ").partition(",")[0]
-    jane.press("This round was wrong: undo it")
+    jane.press("Undo this round")
     jane.press(f"Pause recording for everyone, to restore copy {number}")
     report.same(jane.title, f"Restore of copy {number}", "the heading of the restore")
     came = [(row[2], row[3]) for row in jane.captioned("Came since the copy")]
     report.same(len(came), 3, "entries that came since the copy")
-    report.see(any("A draw is held again on the screen of draws." in it for _, it in came),
+    report.see(any("It is run again on the screen Rounds." in it for _, it in came),
                f"the draw is not sent again: {came}")
     stayed, fresh = answered_by
     see_ticked(jane, (stayed,))
@@ -116,7 +116,7 @@ def sent_later(office: Office, fresh: int) -> None:
     """The answer to an offer of the draw is sent once that is held again."""
     jane = office.jane
     office.report.step(f"the answer of child {fresh} is sent again")
-    jane.press("Send what came after the draw that was wrong")
+    jane.press("Send what came after the one that was wrong")
     see_ticked(jane, (fresh,))
     jane.press("Send what is ticked")
     office.season.answer(fresh)

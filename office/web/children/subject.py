@@ -243,7 +243,8 @@ def unsealed(store: Rows, number: int) -> list[str]:
     """What is said of the draws in which the child has lots that are not sealed."""
     rows = store.rows("SELECT * FROM draw WHERE digest IS NULL AND id IN"
                       " (SELECT draw FROM lot WHERE child=?) ORDER BY id", number)
-    return [UNSEALED[row["state"] in ENDED].format(f"Draw {row['first']}") for row in rows]
+    return [UNSEALED[row["state"] in ENDED].format(f"{row['name'][:1].upper()}{row['name'][1:]}")
+            for row in rows]
 
 
 def staged(store: Rows) -> Sequence[Any]:

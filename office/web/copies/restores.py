@@ -126,8 +126,8 @@ class Restores(StepStore[Restore]):
             if said := self.closed_by_another():
                 raise Refused(said.rstrip("."))
             if other_draw := self.draws.present():
-                raise Refused(f"{other_draw.terms.numbers} is in progress: it must end or be"
-                              " cancelled first")
+                raise Refused(f"{other_draw.name} is in progress: it must end or be cancelled"
+                              " first")
             self.copies.register(copy)
             self.desk.settle()
             self.desk.now()
@@ -204,7 +204,8 @@ class Restores(StepStore[Restore]):
                               " the copy")
             entries = [self.sending.entry(it) for it in rows if it.entry in wanted]
             if any(restores_since.why_not(it, found.is_brought) for it in entries):
-                raise Refused("a draw is not sent again: it is held again on the screen of draws")
+                raise Refused("a round or an offer is not sent again: it is run again on the screen"
+                              " Rounds")
             tried = rehearsal.tried(self.copies.path(found.copy), entries)
             self.record(who, "asked to restore", found, entries=sorted(wanted))
             said = f"{len(wanted)} of {texts.count(len(rows), 'entry', 'entries')} again."

@@ -11,7 +11,7 @@ from office.core.model import Register
 from office.web.register import lineage, records
 from office.web.register.history import SENDS, Entry, History, says_done
 
-BY_DRAW = "A draw is held again on the screen of draws."
+BY_DRAW = "It is run again on the screen Rounds."
 BY_HAND = "The application knows no command of it."
 
 

@@ -22,7 +22,7 @@ NO_COPY = "the copy of the register from before this round is not kept here"
 OF_NOW = ("The copy of the register from before this draw is not kept here, so this is by the data"
           " that the register has now. Where they were changed after the draw, it is not what the"
           " draw saw.")
-NOT_THERE = "The child was not in the register when the {} was held."
+NOT_THERE = "The child was not in the register when the {}."
 
 
 @dataclasses.dataclass(frozen=True)
@@ -119,7 +119,7 @@ def explained(parts: Parts, number: int, draw: model.Draw, reader: str,
     seen = before(parts, draw)
     if number not in seen.children:
         about = Section([READERS[reader], in_words(draw), named(after, number)])
-        what = NOT_THERE.format("round" if draw.round else "fill")
+        what = NOT_THERE.format("round was run" if draw.round else "place was offered")
         return Explanation(number, [about, Section([what])])
     held = parts.held_again.draw(seen, after, draw)
     found = why.explain_again(held, seen, after, number)

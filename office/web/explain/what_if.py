@@ -50,7 +50,7 @@ def setting(parts: Parts, draw: Draw, child: int) -> Setting:
     """A round as a child saw it, or a refusal where it cannot be told."""
     before = explanations.before(parts, draw)
     if child not in before.applications:
-        raise NotThere("the child had no application when the round was held")
+        raise NotThere("the child had no application when the round was run")
     return Setting(draw, before, parts.desk.register(), child)
 
 

@@ -60,7 +60,7 @@ GROUPS: dict[str, tuple[Screen, ...]] = {
         Screen("flags.show", "Verified reasons", READ, ("flags",)),
         Screen("new_schools.show", "Add schools", RECORD, ("new_schools",))),
     "Offers": (
-        Screen("draws.show", "Draws", READ, ("draws",)),
+        Screen("draws.show", "Rounds", READ, ("draws",)),
         Screen("lots.show", "Lots", OF_LOTS, ("lots",)),
         Screen("answers.show", "Answers", RECORD, ("answers", "answers_of")),
         Screen("notices.show", "Reminders and withdrawals", READ, ("notices",)),
@@ -124,7 +124,7 @@ def here(own: dict[str, list[Screen]]) -> Iterator[tuple[str, Screen, bool]]:
 
 
 # of a draw whose outcome is known, on each page
-BEFORE = " Until it is held, all pages but its own show the register from before it."
+BEFORE = " Until it is run, all pages but its own show the register from before it."
 
 
 def turn(draw: Draw) -> str:
@@ -157,7 +157,7 @@ def now(parts: Parts) -> Now | None:
     """What has closed the register for all others, or the draw that has begun."""
     closed, draw = parts.desk.closed(), parts.draws.present()
     where = parts.closed_for() if closed else (
-        (draw.numbered, "draws.one", draw.number) if draw else None)
+        (draw.name, "draws.one", draw.number) if draw else None)
     if where is None:
         return Now(closed, "", "", "") if closed else None
     words, view, number = where
@@ -165,7 +165,7 @@ def now(parts: Parts) -> Now | None:
     whose = turn(draw) if draw and is_draw else ""
     if whose and draw and draw.state in (REHEARSED, CONFIRMED):
         whose += BEFORE
-    return Now(closed or wording.sentence(f"{draw.in_words} is in progress" if draw else ""),
+    return Now(closed or wording.sentence(f"{draw.name} is in progress" if draw else ""),
                whose, f"To {words}", flask.url_for(view, number=number))
 
 

@@ -25,8 +25,8 @@ PERSON, PROGRAM = "person", "program"
 OFFICER, HEAD, SUPERVISOR = "officer", "head", "supervisor"
 READER, ADMINISTRATOR, SCHOOL = "reader", "administrator", "school-"
 ROLES = {
-    HEAD: "reads and records everything, holds draws, restores, and says who may sign in",
-    OFFICER: "reads and records everything, and confirms the draws of somebody else",
+    HEAD: "reads and records everything, runs rounds, restores, and says who may sign in",
+    OFFICER: "reads and records everything, and confirms the rounds of somebody else",
     SUPERVISOR: "draws the lots, and nothing else",
     READER: "reads the register, and nothing that it does not have: no applications before they are"
             " stored, notes, files and Activity; and records nothing",

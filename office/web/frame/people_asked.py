@@ -8,6 +8,7 @@ from collections.abc import Iterator
 from register_files import Refused
 
 from office.core import texts
+from office.core.wording import sentence
 from office.web.copies import restores
 from office.web.copies.terms import ASKED, CLOSED
 from office.web.parts import Parts
@@ -94,7 +95,7 @@ def two_persons(parts: Parts) -> Iterator[tuple[str, str, str, Case]]:
     who has a part in it already.
     """
     if draw := parts.draws.present():
-        title = f"{draw.in_words} is in progress"
+        title = f"{draw.name} is in progress"
         if draw.state in UNSEALED:
             yield title, "seal its lots", LOTS, draws.case_of(draw)
         if draw.state in IN_ORDER[:IN_ORDER.index(CONFIRMED)]:
@@ -123,17 +124,16 @@ def warnings(parts: Parts, who: Person, act: Act) -> list[str]:
                          f" {texts.listed(left) if left else 'Nobody else'} could.")
     draw = parts.draws.present()
     if draw and act.name in heads(parts) and not act.keeps(DRAW) and len(heads(parts)) == 1:
-        found.append(f"{draw.in_words[:1].upper()}{draw.in_words[1:]} is in progress: nobody could"
-                     " then hold it.")
+        found.append(sentence(f"{draw.name} is in progress: nobody could then run it"))
     if act.what in (ROLE, RESET) and not act.is_program and (act.keeps(CONFIRM) or act.keeps(LOTS)):
-        found.append(f"From then on {act.name} and {who.name} are not the two persons of any draw,"
-                     f" restore or deletion, until somebody else gives {act.name} a new"
+        found.append(f"From then on {act.name} and {who.name} are not the two persons of any round,"
+                     f" offer, restore or deletion, until somebody else gives {act.name} a new"
                      f" {'role' if act.what == ROLE else 'password'}.")
     return found
 
 
 def heads(parts: Parts) -> list[str]:
-    """Who may hold draws, and is not locked."""
+    """Who may run draws, and is not locked."""
     return [row["name"] for row in parts.store.rows(
         "SELECT * FROM person WHERE kind=? AND is_locked=0", people.PERSON)
         if Person(row["name"], row["role"]).may(DRAW)]

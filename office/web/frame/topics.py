@@ -32,7 +32,7 @@ OF_SCREENS = {
     "schools.do_raise": "raise-the-admission-number",
     "schools.offer": "offer-places-from-the-waiting-list",
     "new_schools": "add-schools", "flags": "verified-reasons",
-    "draws": "hold-a-round", "draws.cancel": "cancel-or-undo-a-draw", "lots": "lots",
+    "draws": "run-a-round", "draws.cancel": "cancel-or-undo-a-draw", "lots": "lots",
     "answers": "answers", "answers_of": "answers", "notices": "reminders-and-withdrawals",
     "letters": "letters",
     "lists": "lists", "lists.one/unplaced": "children-without-a-place",

@@ -31,24 +31,23 @@ def of_supervisor(
     """The lots that a draw waits for, those of the next one, and those that were sealed. `draws`
     are those that have lots, the last first.
     """
-    tasks = [Task(f"Draw the lots of {it.terms.numbers}",
-                  f"{sentence(it.terms.what)[:-1]} for {weekday(it.terms.day)}. Recording is"
-                  " paused until they are sealed and the draw is held.",
+    tasks = [Task(f"Draw the lots of {it.name}",
+                  f"For {weekday(it.terms.day)}. Type or upload them, and seal them. Recording is"
+                  f" paused until {it.name} is run.",
                   "Waits for you", DUE, "lots.one", {"number": str(it.number)})
              for it in draws if it.state == LOTS]
     if present and not present.who(LOTS):
-        tasks.append(Task(f"Draw the lots of {present.terms.numbers}",
-                          f"The office has begun it: {present.terms.what} for"
-                          f" {weekday(present.terms.day)}. First the register is closed and"
-                          " copied.", "Soon", LATER))
+        tasks.append(Task(f"Draw the lots of {present.name}",
+                          f"The office has begun it for {weekday(present.terms.day)}. First the"
+                          " register is closed and copied.", "Soon", LATER))
     elif present and not tasks:
-        tasks.append(Task(f"See {present.terms.numbers} held", "The lots are sealed. The office"
-                          " rehearses, confirms and holds it.", "Nothing for you", LATER))
+        tasks.append(Task(f"Wait for {present.name}", "The lots are sealed. The office rehearses,"
+                          " confirms and runs it.", "Nothing for you", LATER))
     elif not tasks and register is not None:
         tasks += lots_to_come(register, today)
-    done = [Task(f"Seal the lots of {it.terms.numbers}",
-                 f"{sentence(it.terms.what)[:-1]} for {days.in_words(it.terms.day)}: sealed by"
-                 f" {it.who(SEALED)}, {moment(it.came_to(SEALED).at)}", "Done", DONE,
+    done = [Task(f"Seal the lots of {it.in_words}",
+                 f"for {days.in_words(it.terms.day)}: sealed by {it.who(SEALED)},"
+                 f" {moment(it.came_to(SEALED).at)}", "Done", DONE,
                  "lots.one", {"number": str(it.number)}) for it in draws if it.digest]
     return First((), tuple(tasks), tuple(done))
 
@@ -63,7 +62,7 @@ def lots_to_come(register: Register, today: datetime.date) -> Iterator[Task]:
         yield Task("Draw the lots of the first round", f"The offer day is {weekday(offer)}."
                    f" {begins}", state, LATER)
     elif today <= last:
-        yield Task("Draw the lots of the next round or fill",
+        yield Task("Draw the lots of the next round or offer",
                    f"The waiting lists end on {weekday(last)}. {begins}", "Not begun", LATER)
 
 
@@ -86,7 +85,7 @@ def of_school(register: Register, code: str, why_hidden: str, today: datetime.da
     if not register.rounds:
         tasks.append(Task("See who is offered a place",
                           f"The offer day of the first round is {weekday(offer)}.",
-                          home.from_day(offer) if today < offer else "Once it is held", LATER))
+                          home.from_day(offer) if today < offer else "Once it is run", LATER))
     elif today <= last:
         tasks.append(Task("See the last list", f"The waiting lists end on {weekday(last)}.",
                           home.from_day(last), LATER))

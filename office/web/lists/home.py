@@ -10,7 +10,7 @@ from typing import Any
 from office.core import days, model, texts
 from office.core.kinds import KINDS
 from office.core.model import Register, School
-from office.core.wording import moment, sentence, weekday
+from office.core.wording import draw_in_words, moment, weekday
 from office.web.answers.notices import LAPSE, REMIND
 from office.web.copies.copies import Behind
 from office.web.letters.whom import OFFERS, PART
@@ -50,8 +50,8 @@ class Task:
 @dataclasses.dataclass(frozen=True)
 class Known:
     """What the application knows beside the register, as far as this person may do something about
-    it: the draw in progress, its next step, in a sentence, who does it, if only others can, its
-    name, and what this person presses then; how many letters of each draw are not recorded as sent;
+    it: the draw in progress, its next step, in a sentence, who does it, if only others can, and
+    what this person presses then; how many letters of each draw are not recorded as sent;
     how many answers wait in the person's batch, and rows of applications in the table; what only a
     head has to do.
     """
@@ -59,7 +59,6 @@ class Known:
     draw: Draw | None = None
     next_step: str = ""
     waits_for: str = ""
-    name: str = ""
     button: str = ""
     untold: Mapping[int, int] = dataclasses.field(default_factory=dict)
     answers: int = 0
@@ -113,14 +112,14 @@ def grouped(found: Sequence[Task]) -> list[tuple[str, list[Task]]]:
 def of_draw(known: Known) -> Iterator[Task]:
     """The draw in progress."""
     if known.draw:
-        said = f"{sentence(known.draw.in_words)} {known.next_step}"
+        said = known.next_step
         page = "draws.one", {"number": str(known.draw.number)}
         if known.waits_for:
-            name = f"{known.name} waits for {known.waits_for}"
+            name = f"{known.draw.title} waits for {known.waits_for}"
             yield Task(name, said, "Nothing for you", LATER, *page)
             return
         state = "Waits for you" if known.button else "In progress"
-        yield Task(known.button or f"See {known.draw.terms.numbers}", said, state, WAITING, *page)
+        yield Task(known.button or f"See {known.draw.name}", said, state, WAITING, *page)
 
 
 def of_set_up(register: Register, today: datetime.date) -> Iterator[Task]:
@@ -157,7 +156,7 @@ def of_round(register: Register, today: datetime.date, known: Known) -> Iterator
     closing, offer, _ = register.days
     if register.rounds or known.draw:
         return
-    title, said = "Hold the first round", f"The offer day is {weekday(offer)}."
+    title, said = "Run the first round", f"The offer day is {weekday(offer)}."
     if today < offer and today <= closing:
         yield Task(title, said, from_day(closing + datetime.timedelta(days=1)), LATER)
     elif register.pairs:
@@ -197,8 +196,11 @@ def of_work(known: Known, register: Register) -> Iterator[Task]:
         yield Task("Record the answers in your batch", "They are entered, and not recorded yet.",
                    f"{known.answers:,} waiting", WAITING, "answers.show")
     for number, many in known.untold.items():
-        whom = PART if register.draws[number - 1].round == 1 else OFFERS
-        yield Task(f"Send the letters of draw {number}", "They are not recorded as sent.",
+        draw = register.draws[number - 1]
+        whom = PART if draw.round == 1 else OFFERS
+        school = register.schools[draw.school].name if draw.school else ""
+        words = f"the offer of a place at {school}" if school else draw_in_words(draw)
+        yield Task(f"Send the letters of {words}", "They are not recorded as sent.",
                    f"{many:,} left", WAITING, "letters.whom", {"whom": whom, "draw": str(number)})
 
 
@@ -238,7 +240,7 @@ def done(register: Register, today: datetime.date) -> list[Task]:
                           "lists.one", {"name": "children"}))
     for it in register.rounds:
         fresh = sum(register.fresh[it.number].values())
-        found.append(Task(f"Hold round {it.round}", f"for {days.in_words(it.day)}:"
+        found.append(Task(f"Run round {it.round}", f"for {days.in_words(it.day)}:"
                           f" {texts.count(fresh, 'child was', 'children were')} offered a place",
                           "Done", DONE, "draws.show"))
     if register.rounds and not register_lists.offers(register):

@@ -228,8 +228,8 @@ class Desk:
         from is in the history beside it.
         """
         if command["cmd"] in DRAWS and not draw:
-            return Result(UNSENT, "Nothing was recorded: a round or a fill is held on the screen of"
-                                  " draws, where a second person confirms it.")
+            return Result(UNSENT, "Nothing was recorded: a round or an offer from a waiting list is"
+                                  " run on the screen Rounds, where a second person confirms it.")
         return self.request(
             who, {"command": command, **({"point": point} if point else {})}, seen, draw)
 

@@ -60,7 +60,7 @@ STEPS = {
     "sealed the lots": (ROUNDS, "Sealed the lots of {for}"),
     "rehearsed": (ROUNDS, "Rehearsed {for}"),
     "confirmed": (ROUNDS, "Confirmed {for}"),
-    "held": (ROUNDS, "Held {for}"),
+    "held": (ROUNDS, "Ran {for}"),
     "audited": (ROUNDS, "Audited {for}"),
     "opened the register": (ROUNDS, "Resumed recording after {for}"),
     "could not go on": (ROUNDS, "Could not go on with {for}"),

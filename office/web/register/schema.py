@@ -330,4 +330,13 @@ STEPS = (
     """
     ALTER TABLE staged_row ADD COLUMN remark TEXT NOT NULL DEFAULT '';
     """,
+    # how an office names a draw. That of an earlier release has the number of the round by those
+    # that were run before it, and the school by its code
+    """
+    ALTER TABLE draw ADD COLUMN name TEXT NOT NULL DEFAULT '';
+    UPDATE draw SET name=CASE WHEN school IS NULL
+        THEN 'round ' || (1 + (SELECT count(*) FROM draw AS other WHERE other.school IS NULL
+            AND other.first<draw.first AND other.state IN ('audited', 'opened')))
+        ELSE 'the offer of ' || fills || iif(fills=1, ' place', ' places') || ' at ' || school END;
+    """,
 )

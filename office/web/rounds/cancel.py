@@ -1,4 +1,4 @@
-"""How a round or an offer is cancelled, or undone once it is held: by one person or by two, as its
+"""How a round or an offer is cancelled, or undone once it is run: by one person or by two, as its
 state and the people who are there ask for it.
 """
 import dataclasses
@@ -9,7 +9,7 @@ from .terms import OPENED, SENT, UNSEALED, UNSENT_SEALED, Draw
 ALL = ("give-up", "ask-give-up", "keep-on", "confirm-give-up", "give-up-alone", "ask-restore",
        "keep", "restore", "restore-alone")
 NOTHING = "Nothing of it was recorded. Afterwards everybody can record again."
-LOTS = ("These lots are not taken over. If the draw begins again, the supervisor enters the lots"
+LOTS = ("These lots are not taken over. If it begins again, the supervisor enters the lots"
         " again, the same ones, with mistakes corrected.")
 BACK = ("The register becomes what it was before. As nobody else could record anything since,"
         " nothing else is lost.")
@@ -46,17 +46,17 @@ class Known:
     has_lots: bool
 
 
-def way_of(draw: Draw, name: str, known: Known) -> Way | None:
+def way_of(draw: Draw, known: Known) -> Way | None:
     """The way for a person, if there is one."""
     if draw.state in UNSEALED:
         said = (NOTHING, LOTS) if known.has_lots else (NOTHING,)
-        return Way(said, "give-up", f"Cancel {name}", known.has_lots)
+        return Way(said, "give-up", f"Cancel {draw.name}", known.has_lots)
     if draw.state in UNSENT_SEALED:
         return by_two((NOTHING, LOTS), draw.give_up_by, known, Way(
-            (), "give-up", f"Cancel {name}", True, "keep-on", f"Go on with {name}"))
+            (), "give-up", f"Cancel {draw.name}", True, "keep-on", f"Go on with {draw.name}"))
     if draw.state in SENT:
         return by_two((BACK,), draw.restore_by, known, Way(
-            (), "restore", f"Undo {name}", False, "keep", "Take that back"))
+            (), "restore", f"Undo {draw.name}", False, "keep", "Take that back"))
     return None
 
 

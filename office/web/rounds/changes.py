@@ -18,12 +18,15 @@ FIELDS = tuple(it for it in rules.COMMANDS["amend"] if it not in ("child", "name
 
 @dataclasses.dataclass(frozen=True)
 class Change:
-    """A change: of a child or, without one, of a school; in words; by whom, and the moment."""
+    """A change: of a child or, without one, of a school; in words; by whom, and the moment; and who
+    recorded it first, if it was sent again after a restore, or "".
+    """
 
     child: int | None
     said: str
     who: str
     at: str
+    first: str
 
 
 def changes(record: History, register: Register, terms: Terms) -> list[Change]:
@@ -59,7 +62,7 @@ def all_of(entries: Iterator[Entry]) -> Iterator[tuple[str, Change]]:
         elif name == "name_plan":
             said = records.in_words(command)
         if said and is_stored:
-            yield (code or "", Change(child, said, f"{it.who}{records.first_by(it)}", it.at))
+            yield (code or "", Change(child, said, it.who, it.at, records.first_by(it)))
         if name in WHOLE:
             data[child] = command
         elif name in ("add_school", "raise_pan"):

@@ -10,13 +10,14 @@ from .terms import (
 from .words import parties
 
 # the title where there is nothing to decide, and nothing runs
-ENDS = {OPENED: "Held", GIVEN_UP: "Cancelled", RESTORED: "Undone"}
+ENDS = {OPENED: "Complete", GIVEN_UP: "Cancelled", RESTORED: "Undone"}
 
 
 @dataclasses.dataclass(frozen=True)
 class Decision:
     """What is to be decided or done: the title, what is said, and the request with its button, if
-    this person has one; or that it is cancelled, or undone.
+    this person has one; or that it is cancelled, or undone; and what is said right before the
+    button, of what comes then.
     """
 
     title: str
@@ -25,16 +26,17 @@ class Decision:
     button: str = ""
     is_final: bool = False
     is_to_cancel: bool = False
+    then: str = ""
 
 
 @dataclasses.dataclass(frozen=True)
 class Known:
-    """What decides it: the name of the draw; whether the register does not answer; the state to
+    """What decides it: the person who looks; whether the register does not answer; the state to
     which the next step leads, or ""; the request with the button of that; why this person does not
     do it, or ""; who may confirm it; who may seal its lots; and the heads of the office.
     """
 
-    name: str
+    who: str
     is_away: bool
     state: str
     action: str
@@ -52,14 +54,16 @@ def decision(draw: Draw, known: Known) -> Decision:
     if known.is_away:
         return Decision("The register does not answer", (known.why_not,))
     if draw.give_up_by or draw.restore_by:
-        return asked(draw, known)
+        return asked(draw)
     if draw.wrong:
-        return wrong(draw, known)
+        return wrong(draw)
     if draw.state == REHEARSED and not known.why_not:
+        heads = ["you" if it == known.who else it for it in known.heads]
         return Decision("Your decision", (
-            f"You are the second person: {parties(draw)} cannot confirm it.",
-            f"After you confirm, {texts.one_of(known.heads) or 'a head of the office'} holds"
-            f" {known.name}. Until then nothing is recorded."), known.action, known.button)
+            "Two people are needed, so that nobody decides alone who gets a place:"
+            f" {parties(draw)} cannot confirm {draw.name}, and you can.",), known.action,
+            known.button, then=f"Confirming gives no place yet: {draw.name} is run next, by"
+            f" {texts.one_of(heads) or 'a head of the office'}, and then its letters are made.")
     step = STATES[known.state] if known.state else None
     button = known.button or (step.title if step else "")
     said = [step.does] if step and draw.state != REHEARSED else []
@@ -84,22 +88,22 @@ def waits(names: tuple[str, ...], what: str) -> list[str]:
         f"Nobody can be {what} now."]
 
 
-def asked(draw: Draw, known: Known) -> Decision:
+def asked(draw: Draw) -> Decision:
     """Somebody has asked to cancel it, or to undo it."""
     asker = draw.give_up_by or draw.restore_by
-    what = f"cancel {known.name}" if draw.give_up_by else f"undo {known.name}"
+    what = f"cancel {draw.name}" if draw.give_up_by else f"undo {draw.name}"
     title = f"{asker} has asked to {what}"
     said = (*([f"The reason: {draw.give_up_why}"] if draw.give_up_why else []),
             "A second person confirms that, or it goes on.")
     return Decision(title, said, is_to_cancel=True)
 
 
-def wrong(draw: Draw, known: Known) -> Decision:
+def wrong(draw: Draw) -> Decision:
     """An audit does not agree."""
     if draw.state == SEALED:
         return Decision("The rehearsal is not right", (
-            f"It cannot go on: cancel {known.name}, and tell IT support.",),
+            f"It cannot go on: cancel {draw.name}, and tell IT support.",),
             is_to_cancel=True)
     return Decision("The register is not right. Inform no family.", (
-        f"Undo {known.name}: the copy from before it is restored. And tell IT support.",),
+        f"Undo {draw.name}: the copy from before it is restored. And tell IT support.",),
         is_to_cancel=True)

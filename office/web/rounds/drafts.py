@@ -16,7 +16,7 @@ from .lots import MISSING, MOST_SEED, Cell, Sheet, by_seed, sheet_of, typed_lot
 from .store import SAVED
 from .terms import LOTS, SEALED, Draw
 
-CLOSED = "the lots of this draw cannot be changed: they are sealed, or the draw was cancelled"
+CLOSED = "these lots cannot be changed: they are sealed, or what they are for was cancelled"
 
 
 @dataclasses.dataclass(frozen=True)
@@ -77,8 +77,8 @@ class Drafts:
             return
         if stays := set(cells) & set(again.kept(self.draws, draw)):
             (code, child), _ = min(stays)
-            raise Refused(f"the lot of child {child} at {code} was sealed in the draw that this one"
-                          " repeats, and stays as it is")
+            raise Refused(f"the lot of child {child} at {code} was sealed before, and stays as it"
+                          f" is: {draw.name} was undone, and is run again")
         self.draws.record(who, SAVED, draw, **about)
         with self.store.writing() as db:
             if not db.execute("SELECT 1 FROM draw WHERE id=? AND state=?",
@@ -94,7 +94,7 @@ class Drafts:
         with self.lock:
             draw, sheet = self.to_change(who, number)
             if not 0 <= fill < draw.terms.fills:
-                raise Refused("there is no such draw in the row")
+                raise Refused("there are not so many places")
             stored = sheet.cells()
             changed: dict[Cell, str] = {
                 (pair, fill): str(lot) for pair, lot in lots.items()

@@ -18,7 +18,7 @@ from office.web.register.history import History
 from office.web.register.store import Store
 from office.work import lot_sheets
 
-from . import again, second
+from . import again, second, words
 from . import checks as draws_checks
 from .checks import Check
 from .lots import sheet_of, ties_in
@@ -30,8 +30,8 @@ from .terms import (
     RESTORED, SEALED, SENDING, SENT, STATES, UNSEALED, UNSENT, UNSENT_SEALED, Draw, Terms,
 )
 
-GIVE_UP = "The draw must be cancelled, and begun again."
-RESTORE = "The draw cannot go on: the copy from before it must be restored."
+GIVE_UP = "Cancel it, and begin again."
+RESTORE = "It cannot go on: the copy from before it must be restored."
 STEADY = "somebody does this who had their role and their password before"
 
 
@@ -58,7 +58,8 @@ class Draws(DrawStore):
         register = self.desk.now()
         terms = Terms(len(register.draws) + 1, school, fills, day)
         see_terms(register, terms)
-        return self.added(who, terms, BEGUN, again.repeated(self.listed(), terms), other_lots)
+        name, repeats = words.name_of(terms, register), again.repeated(self.listed(), terms)
+        return self.added(who, name, terms, BEGUN, repeats, other_lots)
 
     def checks(self, draw: Draw) -> list[Check]:
         """What is to be read before it closes the register."""
@@ -87,7 +88,7 @@ class Draws(DrawStore):
         """Makes the copy from before the draw."""
         with self.turn(number, seen, CLOSED) as draw:
             self.record(who, "copied the register", draw)
-            copy = self.copies.make(f"before {draw.terms.numbers}", who.name)
+            copy = self.copies.make(f"before {draw.name}", who.name)
             with self.moving(draw, who, COPIED, f"Copy {copy}.", copy_before=copy):
                 pass
 
@@ -97,7 +98,7 @@ class Draws(DrawStore):
             register = self.unchanged(draw)
             pairs = self.pairs(draw)
             if pairs != draw.terms.pairs_in(register):
-                raise Refused("the register draws lots for others than it shows. " + GIVE_UP)
+                raise Refused("the register asks for other lots than it shows. " + GIVE_UP)
             fills = draw.terms.fills
             see_accepted(self.copies.path(draw.before or 0), draw.terms,
                          {it: [at] * fills for at, it in enumerate(pairs, 1)})
@@ -201,7 +202,7 @@ class Draws(DrawStore):
                 count = self.held(draw, found)
                 if draw.state == CONFIRMED:
                     if count:
-                        raise Refused("the register has the draw already, and it was not held"
+                        raise Refused(f"the register has {draw.name} already, and it was not run"
                                       " from here: tell IT support")
                     self.record(who, "held", draw)
                     with self.moving(draw, who, SENDING):
@@ -219,9 +220,9 @@ class Draws(DrawStore):
             see_goes_on(draw)
             with self.rehearsed(draw) as found:
                 if self.held(draw, found) < draw.terms.fills:
-                    raise Refused("not all is held yet")
+                    raise Refused("not all of it is run yet")
                 self.record(who, "copied the register", draw)
-                copy = self.copies.make(f"after {draw.terms.numbers}", who.name)
+                copy = self.copies.make(f"after {draw.name}", who.name)
                 result = found.compared(self.copies.path(copy))
             self.record(who, "audited", draw, copy=copy, wrong=result.wrong)
             value = json.dumps({"audits": result.lines, "wrong": result.wrong})
@@ -289,8 +290,8 @@ class Draws(DrawStore):
         """Ends a draw whose lots are sealed and not sent, as a second person."""
         with self.turn(number, seen, *UNSENT_SEALED) as draw:
             if not draw.give_up_by:
-                raise Refused("nobody has asked to cancel the draw")
-            self.see_second(who, Case(others={draw.give_up_by: "has asked to cancel the draw"}),
+                raise Refused(f"nobody has asked to cancel {draw.name}")
+            self.see_second(who, Case(others={draw.give_up_by: f"has asked to cancel {draw.name}"}),
                             "somebody else confirms it")
             self.record(who, "gave up", draw, lots=draw.digest, reason=draw.give_up_why)
             said = f"In the state '{draw.state}'. Digest of the lots {draw.digest}."
@@ -346,7 +347,7 @@ class Draws(DrawStore):
         with self.turn(number, seen, *SENT) as draw:
             why = self.see_alone(who)
             if not draw.wrong and self.is_as_rehearsed(draw):
-                raise Refused("the register is as it was rehearsed: the draw goes on")
+                raise Refused(f"the register is as it was rehearsed: {draw.name} goes on")
             self.record(who, "restored the copy from before it alone", draw, copy=draw.before,
                         why=why)
             self.copies.restore(draw.before or 0, who.name)
@@ -366,13 +367,13 @@ class Draws(DrawStore):
 def case_of(draw: Draw) -> Case:
     """What a second person confirms, and who has done what of it so far."""
     found = {draw.who(SEALED): "sealed the lots", draw.who(CLOSED): "closed the register for it",
-             draw.who(BEGUN): "began this draw"}
+             draw.who(BEGUN): f"began {draw.name}"}
     return Case(others={name: it for name, it in found.items() if name})
 
 
 def reason_to_give_up(text: str) -> str:
     """Why a draw with lots is given up, or a refusal."""
-    return again.reason_in(text, "cancelling the draw", "who confirms the next draw")
+    return again.reason_in(text, "cancelling it", "who confirms the next one")
 
 
 def held_in(register: Register, draw: Draw) -> int:
@@ -383,11 +384,11 @@ def held_in(register: Register, draw: Draw) -> int:
 def see_goes_on(draw: Draw) -> None:
     """Refuses to go on with a draw that is to be given up or undone."""
     if draw.give_up_by:
-        raise Refused(f"{draw.give_up_by} has asked to cancel the draw: that is to be confirmed or"
-                      " undone first")
+        raise Refused(f"{draw.give_up_by} has asked to cancel {draw.name}: that is to be confirmed"
+                      " or undone first")
     if draw.restore_by:
-        raise Refused(f"{draw.restore_by} has asked to restore the copy from before the draw: that"
-                      " is to be confirmed or undone first")
+        raise Refused(f"{draw.restore_by} has asked to restore the copy from before {draw.name}:"
+                      " that is to be confirmed or undone first")
     if draw.state == SEALED and draw.wrong:
         raise Refused(f"the rehearsal has found a difference. {GIVE_UP}")
 
@@ -403,15 +404,14 @@ def next_state(draw: Draw) -> str:
 def see_terms(register: Register, terms: Terms) -> None:
     """Refuses a draw that cannot be the next one."""
     if terms.first != len(register.draws) + 1:
-        raise Refused(f"another draw was held meanwhile: the next one is"
-                      f" {len(register.draws) + 1}. Cancel this one, and begin again")
+        raise Refused(f"another round or offer was run meanwhile. {GIVE_UP.rstrip('.')}")
     if terms.school is None:
         if terms.fills != 1:
-            raise Refused("a round is one draw")
+            raise Refused("a round is run once")
     elif terms.school not in register.schools:
         raise Refused(f"there is no school {terms.school}")
     elif not 1 <= terms.fills <= MOST_FILLS:
-        raise Refused(f"the number of fills is from 1 to {MOST_FILLS}")
+        raise Refused(f"the number of places is from 1 to {MOST_FILLS}")
     if not terms.pairs_in(register):
         where = f"nobody waits at {terms.school}" if terms.school else "nobody takes part"
         raise Refused(f"there is nothing to draw: {where}")

@@ -71,7 +71,7 @@ class Sheet:
         """What is sealed: a line that says what is drawn and for which day; and for each pair, in
         the order of codes and numbers, a line of code, number and lots with blanks between them.
         """
-        head = f"{self.terms.in_words}, {self.terms.day.isoformat()}"
+        head = f"{self.terms.sealed}, {self.terms.day.isoformat()}"
         lines = (" ".join([code, str(child), *map(str, lots)])
                  for (code, child), lots in self.lots().items())
         return "".join(f"{it}\n" for it in (head, *lines))

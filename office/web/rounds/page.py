@@ -21,7 +21,6 @@ from office.web.schools import flags
 from . import again, cancel, shown, verdict
 from . import changes as draws_changes
 from . import second as draws_second
-from . import words as draws_words
 from .cancel import Way
 from .changes import Change
 from .decision import Decision, Known, decision
@@ -37,15 +36,15 @@ from .terms import LOTS as LOTS_DRAWN
 
 # the request by which what follows by itself is tried again
 AGAIN = "go-on"
-# those of who may confirm draws; the others are of who may hold them
+# those of who may confirm draws; the others are of who may run them
 OF_SECOND = ("confirm", AGAIN)
 # what only some people do, by the request
-DOES = {"close": "pauses recording for", "confirm": "confirms", "send": "holds", AGAIN: "continues"}
+DOES = {"close": "pauses recording for", "confirm": "confirms", "send": "runs", AGAIN: "continues"}
 # what a button says of the draws that it concerns
 NAMING = (CONFIRMED, SENDING, AUDITED)
 # in these a draw is still to be confirmed
 TO_CONFIRM = IN_ORDER[:IN_ORDER.index(CONFIRMED)]
-# from the rehearsal on the checks of a draw are shown; the register is compared until it is held
+# from the rehearsal on the checks of a draw are shown; the register is compared until it is run
 CHECKED, COMPARED = (REHEARSED, CONFIRMED, SENDING, AUDITED, OPENED), (REHEARSED, CONFIRMED)
 
 
@@ -62,11 +61,6 @@ class Seen:
     standing: int
     state: str
 
-    @property
-    def name(self) -> str:
-        """It within a sentence."""
-        return draws_words.name_of(self.draw.terms, self.register)
-
 
 def seen(draw: Draw, register: Register | None, work: Job | None) -> Seen:
     """A draw as it is now."""
@@ -80,8 +74,8 @@ def button_of(found: Seen) -> str:
     """The text of the next button."""
     text = STATES[found.state].button if found.state else ""
     if found.state == SENDING and found.standing:
-        return f"Go on, and hold the last {found.draw.terms.fills - found.standing}"
-    return f"{text} {found.name}" if text and found.state in NAMING else text
+        return f"Go on, and run the last {found.draw.terms.fills - found.standing}"
+    return f"{text} {found.draw.name}" if text and found.state in NAMING else text
 
 
 def action_of(draw: Draw, state: str) -> str:
@@ -105,14 +99,13 @@ def why_not(draw: Draw, state: str, register: Register | None) -> str:
     action = action_of(draw, state)
     if action and not who.may(CONFIRM if action in OF_SECOND else DRAW):
         officer = " or an officer" if action in OF_SECOND else ""
-        name = draws_words.name_of(draw.terms, register)
-        return f"Only a head of the office{officer} {DOES[action]} {name}."
+        return f"Only a head of the office{officer} {DOES[action]} {draw.name}."
     return ""
 
 
 def second_of(draw: Draw) -> Second | None:
-    """Who may confirm a draw that is to be held, as far as it is brought now; before it is closed,
-    if the person who looks and may hold draws closes it.
+    """Who may confirm a draw that is to be run, as far as it is brought now; before it is closed,
+    if the person who looks and may run draws closes it.
     """
     if draw.state not in TO_CONFIRM:
         return None
@@ -133,7 +126,7 @@ def decision_of(found: Seen) -> Decision:
     """Who has to do what now."""
     draw = found.draw
     return decision(draw, Known(
-        found.name, found.register is None, found.state, action_of(draw, found.state),
+        person().name, found.register is None, found.state, action_of(draw, found.state),
         button_of(found), why_not(draw, found.state, found.register), second_of(draw),
         sealers_of(draw), tuple(who_may(DRAW))))
 
@@ -171,7 +164,7 @@ def cancel_way(found: Seen) -> Way | None:
     draw = found.draw
     if not person().may(CONFIRM):
         return None
-    return cancel.way_of(draw, found.name, cancel.Known(
+    return cancel.way_of(draw, cancel.Known(
         person().name, alone(draw), not_second(draw), parts().draws.has_lots(draw)))
 
 
@@ -235,19 +228,16 @@ def changes_of(draw: Draw, register: Register | None) -> list[Change] | None:
 def verdicts_of(
     draw: Draw, register: Register | None, found: Whole | None, changes: list[Change] | None,
 ) -> tuple[list[verdict.Verdict], list[verdict.Verdict]]:
-    """What is to be looked at before it is confirmed, and the other checks; once it is confirmed,
-    all of them are among those that were made.
-    """
+    """What is to be looked at, and the other checks: before it is confirmed, and from then on."""
     if draw.state not in CHECKED or found is None or register is None:
         return [], []
     same = parts().draws.made.of(
         "same", (draw.number, draw.version), register, verdict.unchanged, parts().copies,
         draw) if draw.state in COMPARED else None
     known = verdict.Known(
-        found, again.given_up(parts().draws, draw), changes or [], same)
-    first = verdict.to_look_at(draw, known)
-    others = list(verdict.checked(draw, known, register))
-    return (first, others) if draw.state == REHEARSED else ([], [*first, *others])
+        found, again.given_up(parts().draws, draw), changes or [], same, person().name)
+    every = [*verdict.to_look_at(draw, known), *verdict.checked(draw, known, register)]
+    return (every, []) if draw.state == REHEARSED else ([], every)
 
 
 # ------------------------------------------------------------------------------ what is beside it
@@ -264,19 +254,19 @@ def steps_of(found: Seen) -> list[dict[str, str]]:
 def state_in_words(found: Seen) -> str:
     """The state of a draw as an office reads it."""
     if found.draw.state == SENDING and found.standing == found.draw.terms.fills:
-        return "closed, and held; not audited yet"
+        return "closed, and run; not audited yet"
     return STATES[found.draw.state].words
 
 
 def confirmed_of(found: Seen) -> str:
-    """Who has confirmed a draw that waits to be held, when, and who holds it next; or ""."""
+    """Who has confirmed a draw that waits to be run, when, and who runs it next; or ""."""
     draw = found.draw
     if draw.state != CONFIRMED or draw.give_up_by or found.work:
         return ""
     done = draw.came_to(CONFIRMED)
     who = "You" if done.who == person().name else done.who
     heads = texts.one_of(who_may(DRAW)) or "A head of the office"
-    return f"{who} confirmed {found.name} at {local(done.at)}. {heads} holds it next."
+    return f"{who} confirmed {draw.name} at {local(done.at)}. {heads} runs it next."
 
 
 def copied(draw: Draw) -> list[str]:
@@ -302,13 +292,13 @@ def again_of(draw: Draw) -> bool:
 
 
 def round_held(draw: Draw, register: Register | None) -> int:
-    """The number of a round that the register has, or 0."""
+    """The number of a round that was run, or 0."""
     return next((it.round or 0 for it in (register.draws if register else [])
                  if it.number == draw.terms.first and draw.state in (AUDITED, OPENED)), 0)
 
 
 def is_explained(draw: Draw, register: Register | None) -> bool:
-    """Whether each child of a draw can be explained: it was held."""
+    """Whether each child of a draw can be explained: it was run."""
     return draw.state in (AUDITED, OPENED) and any(
         it.number == draw.terms.first for it in (register.draws if register else []))
 
@@ -341,7 +331,7 @@ def taking_part(found: Seen) -> Mapping[str, str]:
     """Who did what of it, by what they did."""
     draw = found.draw
     did = (("Began it", BEGUN), ("Closed the register", CLOSED), ("Sealed the lots", SEALED),
-           ("Confirmed it", CONFIRMED), ("Held it", SENDING))
+           ("Confirmed it", CONFIRMED), ("Ran it", SENDING))
     return {words: draw.who(state) for words, state in did if draw.who(state)}
 
 

@@ -32,7 +32,7 @@ class Case:
     """
 
     began: str | int | None = BEGAN
-    what: str = "this draw was begun"
+    what: str = "it was begun"
     others: Mapping[str, str] = dataclasses.field(default_factory=dict)
 
 

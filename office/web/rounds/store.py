@@ -98,7 +98,7 @@ class DrawStore(StepStore[Draw]):
         if draw is None or draw.state not in CLOSING:
             return ""
         done = draw.came_to(CLOSED)
-        return f"Recording is paused for {draw.terms.numbers} by {done.who} since {local(done.at)}."
+        return f"Recording is paused for {draw.name} by {done.who} since {local(done.at)}."
 
     @contextlib.contextmanager
     def moving(
@@ -119,31 +119,32 @@ class DrawStore(StepStore[Draw]):
     def record(self, who: Person, what: str, draw: Draw, **about: object) -> None:
         """Adds a step to the history, with what there is to say of it."""
         found = {name: it for name, it in about.items() if it}
-        self.history.add(who.name, what, {"for": draw.terms.in_words, "id": draw.number, **found})
+        self.history.add(who.name, what, {"for": draw.name, "id": draw.number, **found})
 
     def added(
-        self, who: Person, terms: Terms, state: str, repeats: Draw | None, other_lots: str,
+        self, who: Person, name: str, terms: Terms, state: str, repeats: Draw | None,
+        other_lots: str,
     ) -> int:
         """Adds a draw, where none is in progress, and returns its number."""
         if other_lots and not repeats:
-            raise Refused("no draw of this kind was undone: its lots are drawn anyway")
+            raise Refused(f"{name} repeats none that was undone: its lots are drawn anyway")
         with self.lock:
             if other := self.present():
-                raise Refused(f"{other.terms.numbers} is in progress: it must end first")
+                raise Refused(f"{other.name} is in progress: it must end first")
             if said := self.closed_by_another():
                 raise Refused(said.rstrip("."))
             day = terms.day.isoformat()
-            about = {"for": terms.in_words, "day": day}
+            about = {"for": name, "draw": terms.first, "day": day}
             if repeats:
-                about["repeats"] = repeats.terms.in_words
+                about["repeats"] = repeats.in_words
             if other_lots:
                 about["other lots"] = other_lots
             self.history.add(who.name, BEGAN, about)
             with self.store.writing() as db:
                 number = db.execute(
-                    "INSERT INTO draw (first, school, fills, day, state, version, repeats,"
-                    " other_lots) VALUES (?, ?, ?, ?, ?, 1, ?, ?)",
-                    (terms.first, terms.school, terms.fills, day, state,
+                    "INSERT INTO draw (name, first, school, fills, day, state, version, repeats,"
+                    " other_lots) VALUES (?, ?, ?, ?, ?, ?, 1, ?, ?)",
+                    (name, terms.first, terms.school, terms.fills, day, state,
                      repeats.number if repeats else None, other_lots)).lastrowid or 0
                 db.execute("INSERT INTO draw_step VALUES (?, 1, ?, ?, ?, '')",
                            (number, now(), who.name, state))

@@ -1,6 +1,6 @@
 """What a draw of the office is: its terms, the states that it goes through, and who did each step.
 
-A draw is a round, or a row of fills at one school that are held in one closure.
+A draw is a round, or a row of fills at one school that are run in one closure.
 """
 import dataclasses
 import datetime
@@ -40,23 +40,23 @@ STATES = States(
     State(name=SEALED, words="closed, and the lots are sealed", tag="Lots sealed", look="info",
           title="Draw and seal the lots", by=SUPERVISOR,
           does="The supervisor draws and seals them on the screen of lots. Nobody changes them"
-               " after that, and the rehearsal follows by itself.", runs="the draw is rehearsed"),
+               " after that, and the rehearsal follows by itself.", runs="it is rehearsed"),
     State(name=REHEARSED, words="closed, and rehearsed: not confirmed yet",
           tag="Waits for a second person", look="warn", title="Rehearse on a copy, and audit",
           button="Rehearse",
           does="A second program audits the outcome. Nothing is recorded."),
-    State(name=CONFIRMED, words="closed, and confirmed: not held yet", tag="Confirmed",
+    State(name=CONFIRMED, words="closed, and confirmed: not run yet", tag="Confirmed",
           look="info", title="Confirm", by=SECOND, action="confirm", button="Confirm",
-          does="Nothing is recorded yet.", runs="the draw is held"),
-    State(name=SENDING, words="closed, and being held", tag="Being held", look="warn",
-          title="Hold", by=HEAD, action="send", button="Hold",
+          does="Nothing is recorded yet.", runs="the places are given"),
+    State(name=SENDING, words="closed, and running", tag="Running", look="warn",
+          title="Run", by=HEAD, action="send", button="Run",
           does="The register allots the places. Only a restore of the copy by two persons undoes"
-               " it. The audit follows by itself.", runs="the draw is held, and then audited"),
-    State(name=AUDITED, words="held, and the audit agrees", tag="Audited", look="info",
+               " it. The audit follows by itself.", runs="the places are given, and then audited"),
+    State(name=AUDITED, words="run, and the audit agrees", tag="Audited", look="info",
           title="Audit once more", button="Audit",
           does="The register is copied, and audited against the copy from before and the"
                " rehearsal. If they agree it is opened by itself.", runs="the register is opened"),
-    State(name=OPENED, words="held, and recording goes on", tag="Held", look="good",
+    State(name=OPENED, words="complete: recording goes on", tag="Complete", look="good",
           title="Resume recording", button="Resume recording",
           does="Everybody can record again."),
     State(name=GIVEN_UP, words="cancelled: nothing was recorded", tag="Cancelled", look="plain"),
@@ -93,20 +93,12 @@ class Terms:
         return "fill" if self.school else "round"
 
     @property
-    def numbers(self) -> str:
-        """The draws by their numbers."""
+    def sealed(self) -> str:
+        """The numbers of the draws and what is drawn, as the text says them that is sealed."""
         last = self.first + self.fills - 1
-        return f"draws {self.first} to {last}" if self.fills > 1 else f"draw {self.first}"
-
-    @property
-    def what(self) -> str:
-        """What is drawn."""
-        return f"{texts.count(self.fills, 'fill')} at {self.school}" if self.school else "a round"
-
-    @property
-    def in_words(self) -> str:
-        """The numbers of the draws, and what is drawn."""
-        return f"{self.numbers}: {self.what}"
+        numbers = f"draws {self.first} to {last}" if self.fills > 1 else f"draw {self.first}"
+        what = f"{texts.count(self.fills, 'fill')} at {self.school}" if self.school else "a round"
+        return f"{numbers}: {what}"
 
     @property
     def path(self) -> str:
@@ -132,6 +124,8 @@ class Draw:
     """
 
     number: int
+    # how an office names it within a sentence: round 1, or the offer of 2 places at a school
+    name: str
     terms: Terms
     state: str
     version: int
@@ -155,18 +149,15 @@ class Draw:
     other_lots: str
 
     @property
-    def numbered(self) -> str:
-        """The draws by their numbers in the register, and by that of their page if it is another
-        one; and whether a restore has undone them.
-        """
-        page = f" (page {self.number})" if self.number != self.terms.first else ""
-        undone = ", undone" if self.state == RESTORED else ""
-        return f"{self.terms.numbers}{page}{undone}"
+    def in_words(self) -> str:
+        """Its name, with how it has ended if not by being run."""
+        return self.name + {GIVEN_UP: ", cancelled", RESTORED: ", undone"}.get(self.state, "")
 
     @property
-    def in_words(self) -> str:
-        """The same with what is drawn."""
-        return f"{self.numbered}: {self.terms.what}"
+    def title(self) -> str:
+        """The same as a heading."""
+        text = self.in_words.removeprefix("the ")
+        return f"{text[:1].upper()}{text[1:]}"
 
     def came_to(self, state: str) -> Done:
         """Who brought it to a state, and when; nobody where it has not been there."""
@@ -206,7 +197,7 @@ def of_rows(row: sqlite3.Row, steps: list[sqlite3.Row]) -> Draw:
     terms = Terms(row["first"], row["school"], row["fills"],
                   datetime.date.fromisoformat(row["day"]))
     return Draw(
-        row["id"], terms, row["state"], row["version"], row["copy_before"],
+        row["id"], row["name"], terms, row["state"], row["version"], row["copy_before"],
         row["copy_after"], row["digest"] or "", kept_in(row["rehearsal"] or "{}"),
         kept_in(row["audit"] or "{}"), row["restore_by"] or "", row["give_up_by"] or "",
         row["give_up_why"], row["trouble"] or "", steps_in(steps), row["repeats"],

@@ -34,13 +34,14 @@ class Verdict:
 class Known:
     """What is looked at of a draw beside itself: its outcome, the draws that were given up before
     it, the changes since the applications were stored, and whether the register is still as it was
-    when it was copied, or why that cannot be said; None once it is held.
+    when it was copied, or why that cannot be said; None once it is run; and the person who looks.
     """
 
     outcome: Whole
     before: Sequence[Given]
     changes: Sequence[Change]
     same: str | None
+    who: str
 
 
 def unchanged(register: Register, copies: Copies, draw: Draw) -> str:
@@ -49,8 +50,8 @@ def unchanged(register: Register, copies: Copies, draw: Draw) -> str:
         is_so = is_same(register, copies.register(draw.before or 0))
     except Refused as error:
         return f"The copy cannot be read: {error}."
-    return "" if is_so else ("The register has changed since it was copied. It cannot be held:"
-                             " cancel it, and begin again.")
+    return "" if is_so else ("The register has changed since it was copied: cancel"
+                             f" {draw.name}, and begin again.")
 
 
 def to_look_at(draw: Draw, found: Known) -> list[Verdict]:
@@ -77,8 +78,11 @@ def doubtful(draw: Draw, found: Known) -> Iterator[Verdict]:
         yield Verdict("Is this right?", WARN, f"When {closed.who} closed the register, this looked"
                       f" wrong: {closed.said} {closed.who} said that it is right.")
     if found.before:
-        yield Verdict("Look at this", WARN, "A draw was cancelled before it, after lots were"
-                      " entered.", "Who cancelled it, and which lots are others now", "#before")
+        names = dict.fromkeys(it.draw.name for it in found.before)
+        was = "was" if len(names) == 1 else "were"
+        yield Verdict("Look at this", WARN, f"{sentence(texts.listed(names))[:-1]} {was} cancelled"
+                      " before, after lots were entered.",
+                      "Who cancelled it, and which lots are others now", "#before")
     if draw.other_lots:
         yield Verdict("Other lots", WARN, "It was undone before, and all lots are entered anew,"
                       f" because: {sentence(draw.other_lots)}")
@@ -112,8 +116,10 @@ def checked(draw: Draw, found: Known, register: Register) -> Iterator[Verdict]:
                       " the register is still the same. It can be restored.")
     if found.changes:
         said = texts.count(len(found.changes), "change")
+        own = sum(it.who == found.who for it in found.changes)
+        yours = f" {own:,} of them {'was' if own == 1 else 'were'} made by you." if own else ""
         yield Verdict(said, WARN, "since the applications were stored can move a criterion, a"
-                      " distance or a limit.", "Show them", "#changed")
+                      f" distance or a limit.{yours}", "Show them", "#changed")
     else:
         yield Verdict("No change", GOOD, "since the applications were stored can move a criterion,"
                       " a distance or a limit.")

@@ -66,7 +66,7 @@ def sources(typed: str) -> Sources:
     register = parts().desk.now()
     held = next((it for it in register.rounds if str(it.round) == typed), None)
     if held is None or held.round is None:
-        raise Refused("choose a round that was held")
+        raise Refused("choose a round that was run")
     if is_given("last_copy") and not is_given("last"):
         raise Refused(f"{figures.LAST_COPY} needs {figures.LAST} beside it")
     copy = given("copy", figures.COPY)

@@ -46,7 +46,7 @@ def rounds(register: Register) -> list[Tried]:
     first, or the first one, before it is held.
     """
     if not register.draws:
-        return [Tried(NEXT, "the first round, which is not held yet, with lots drawn for the trial",
+        return [Tried(NEXT, "the first round, which is not run yet, with lots drawn for the trial",
                       None)]
     return [Tried(str(it.number), explanations.in_words(it), it)
             for it in reversed(register.rounds) if explanations.kept_before(parts(), it)]

@@ -24,7 +24,6 @@ from office.web.machinery import pictures
 from office.web.register import doubts
 from office.web.register.entry_words import Names
 from office.web.rounds import page as draws_page
-from office.web.rounds import words as draws_words
 from office.web.rounds.terms import Draw
 from office.web.schools import flags
 from office.web.schools.rows import COLUMNS
@@ -67,13 +66,11 @@ def known(register: Register, draw: Draw | None) -> Known:
 
 def of_draw(register: Register, draw: Draw) -> Known:
     """The draw in progress, and whose turn it is."""
-    name = draws_words.title_of(draw, register)
     if parts().following.under_way():
-        return Known(draw, "A step of it runs now.", name=name)
+        return Known(draw, "A step of it runs now.")
     decision = draws_page.decision_of(draws_page.seen(draw, register, None))
     button = decision.button if decision.action else ""
-    return Known(draw, frame.turn(draw), "" if button else draws_page.waits_for(draw), name,
-                 button)
+    return Known(draw, frame.turn(draw), "" if button else draws_page.waits_for(draw), button)
 
 
 def of_head(register: Register) -> tuple[Task, ...]:

@@ -48,9 +48,8 @@ def list_page(reason: str = "", status: int = 200, field: str = "") -> Answer:
     given = flask.request.form or repeated(listed) or of_school()
     return flask.render_template(
         "draws.html", draws=listed, present=draws.present(), register=register,
-        titles={it.number: draws_words.title_of(it, register) for it in listed},
-        heads=page.who_may(DRAW), supervisors=page.who_may(LOTS), name_of=draws_words.name_of,
-        reason=reason or trouble, kind=given.get("kind", "round"), given=given,
+        heads=page.who_may(DRAW), supervisors=page.who_may(LOTS), reason=reason or trouble,
+        kind=given.get("kind", "round"), given=given,
         day=given.get("day", days.in_words(day)), most=MOST_FILLS, choices=schools_of(register),
         wrong={field: sentence(reason.partition(": ")[2])} if field else {}, states=STATES,
         undone=again.undone(listed), is_again=bool(repeated(listed)),
@@ -59,7 +58,7 @@ def list_page(reason: str = "", status: int = 200, field: str = "") -> Answer:
 
 
 def repeated(draws: Sequence[Draw]) -> dict[str, str]:
-    """The form for the draw of the address that is held again, but for its day."""
+    """The form for the draw of the address that is run again, but for its day."""
     text = flask.request.args.get("again", "")
     found = next((it.terms for it in draws if str(it.number) == text), None)
     if found is None:
@@ -97,7 +96,7 @@ def begin() -> Answer:
     school = form.get("school", "") if form.get("kind") == "fill" else None
     try:
         if day is None:
-            raise Refused("type the day of the draw as 3 March 2025 or 3/3/2025")
+            raise Refused("type the day as 3 March 2025 or 3/3/2025")
         field = "school"
         if school == "":
             raise Refused("choose the school of the places")
@@ -114,10 +113,10 @@ def begin() -> Answer:
 
 
 def reason_of(form: Mapping[str, str]) -> str:
-    """Why other lots are drawn for a draw that is held again, or ""."""
+    """Why other lots are drawn for a draw that is run again, or ""."""
     if form.get("lots", "kept") == "kept":
         return ""
-    return again.reason_in(form.get("reason", ""), "other lots", "who confirms the draw")
+    return again.reason_in(form.get("reason", ""), "other lots", "who confirms it")
 
 
 def found_draw(number: int) -> Draw:
@@ -147,8 +146,7 @@ def draw_page(number: int, reason: str = "", status: int = 200) -> Answer:
     to_look_at, checked = page.verdicts_of(draw, register, outcome, changes)
     agreed = draws_checks.agreed_to(checks)
     return flask.render_template(
-        "draw.html", draw=draw, register=register, name=found.name, work=work,
-        kind=draws_words.kind_of(draw.terms), title=draws_words.title_of(draw, register),
+        "draw.html", draw=draw, register=register, work=work, kind=draws_words.kind_of(draw.terms),
         about=draws_words.about(draw, register), tags=page.tags_of(found), standing=found.standing,
         reason=reason or trouble, halted="" if reason else draw.trouble,
         decision=page.decision_of(found), by_second=page.OF_SECOND, steps=page.steps_of(found),
@@ -161,7 +159,6 @@ def draw_page(number: int, reason: str = "", status: int = 200) -> Answer:
         who_did=page.taking_part(found), before=again.given_up(parts().draws, draw),
         is_explained=page.is_explained(draw, register), is_tried=page.is_tried(draw, register),
         repeats=found_draw(draw.repeats) if draw.repeats else None,
-        title_of=draws_words.title_of,
         unsent=page.unsent_of(draw), again=page.again_of(draw), copied=page.copied(draw),
         confirmed=page.confirmed_of(found),
     ), status
@@ -173,8 +170,7 @@ def cancel_page(number: int, reason: str = "", status: int = 200) -> Answer:
     found = page.seen(draw, register, parts().following.work_on(number))
     is_later = draws_cancel.is_undone_later(draw) and person().may(DRAW)
     return flask.render_template(
-        "draw_cancel.html", draw=draw, name=found.name, title=draws_words.title_of(draw, register),
-        kind=draws_words.kind_of(draw.terms), work=found.work, is_later=is_later,
+        "draw_cancel.html", draw=draw, work=found.work, is_later=is_later,
         way=None if found.work else page.cancel_way(found), reason=reason or trouble,
         typed=flask.request.form.get("reason", ""), most_reason=again.MOST_REASON,
     ), status
@@ -233,7 +229,7 @@ def audit(number: int) -> Answer:
     at = list(draws_audit.listed(audits, code))
     return flask.render_template(
         "draw_audit.html", draw=draw, title=f"Audit of the {of}", of=of, reason=reason,
-        about=draws_words.about(draw, register), name=draws_words.title_of(draw, register),
+        about=draws_words.about(draw, register),
         audits=audits, at=at, code=code if at else "")
 
 
@@ -263,7 +259,7 @@ class Asked:
         return self.who, self.number, self.seen
 
 
-# the steps of who may hold draws; and those of who may confirm one. The second are all that an
+# the steps of who may run draws; and those of who may confirm one. The second are all that an
 # office needs to end a draw when the person who began it can do nothing more
 Step = Callable[[Parts, Asked], None]
 OWN: dict[str, Step] = {
@@ -306,7 +302,7 @@ def done(number: int, steps: dict[str, Step], name: str) -> Answer:
 @screen.post("/<int:number>/<name>")
 @needs(DRAW)
 def step(number: int, name: str) -> Answer:
-    """A step of who may hold draws."""
+    """A step of who may run draws."""
     return done(number, OWN, name)
 
 

@@ -54,7 +54,7 @@ def typed_now() -> dict[Cell, Typed]:
 @screen.get("/")
 @needs(RIGHT)
 def show() -> Answer:
-    """The draws that have pairs."""
+    """The lots that are drawn, and those that were."""
     return flask.render_template("lots.html", draws=parts().lots.listed())
 
 
@@ -94,7 +94,7 @@ def not_own(draw: Draw) -> str:
     """
     if draw.state == LOTS:
         case, then = case_of(draw), ("Another supervisor draws and seals the lots, or the office"
-                                     " gives the draw up and begins again")
+                                     f" cancels {draw.name} and begins again")
     elif draw.state == GIVEN_UP and not draw.digest:
         case, then = case_first(draw), "These lots were never sealed, and are not shown to you"
     else:
@@ -107,8 +107,10 @@ def case_first(draw: Draw) -> Case:
     """Who has a part in a draw since one of its kind was begun first."""
     with parts().history.lock:
         entries = list(parts().history.entries)
+    # (an earlier release named a draw in its begin as in the text that is sealed)
+    same = (draw.name, draw.terms.first), (draw.terms.sealed, None)
     began = next((it.number for it in entries if it.what == BEGAN
-                  and it.about.get("for") == draw.terms.in_words), BEGAN)
+                  and (it.about.get("for"), it.about.get("draw")) in same), BEGAN)
     return dataclasses.replace(case_of(draw), began=began)
 
 
@@ -139,16 +141,15 @@ def sheet_page(
 
 def said_now() -> str:
     """What was done before this page, as its address counts it."""
-    lots, other, draw = (numbers.read(flask.request.args.get(it, ""))
-                         for it in ("lots", "changed", "draw"))
+    lots, other = (numbers.read(flask.request.args.get(it, "")) for it in ("lots", "changed"))
     done = flask.request.args.get("done", "") if lots >= 0 else ""
     if done == "saved":
         return f"{texts.count(lots, 'lot')} saved." if lots else (
             "What is on this page is saved.")
     if done == "drawn":
         return f"{texts.count(lots, 'lot is', 'lots are')} drawn by the seed."
-    if done == "taken" and other >= 0 and draw > 0:
-        return f"The file has {texts.count(lots, 'lot')} of draw {draw}: {other} new or changed."
+    if done == "taken" and other >= 0:
+        return f"The file has {texts.count(lots, 'lot')}: {other} new or changed."
     return ""
 
 
@@ -255,11 +256,11 @@ def upload(number: int) -> Answer:
             return sheet_page(number, reason=f"Nothing was taken: {count} in the file.",
                               errors=errors[:SHOWN], status=409)
         if not lots:
-            raise Refused("the file has no lot of this draw")
+            raise Refused(f"the file has no lot of {draw.name}")
         changed = parts().lots.take(person(), number, fill, lots)
     except Refused as error:
         return sheet_page(number, reason=f"Nothing was taken: {error}.", status=409)
-    return kept(number, "taken", len(lots), changed=changed, draw=of)
+    return kept(number, "taken", len(lots), changed=changed)
 
 
 @screen.get("/<int:number>/sheet.<any(xlsx, csv):kind>")
