@@ -117,7 +117,7 @@ def test_no_topic_names_a_command_a_path_or_a_user_of_the_machine() -> None:
 
 @pytest.mark.parametrize("words, name", [
     ("wrong decline", "a-wrong-accept-or-decline"), ("LOTS seed", "lots"), ("twins", ""),
-    ("uprn", "homes-to-locate"), ("somebody ill", ""), ("no such word", None)])
+    ("uprn", "homes-to-locate"), ("somebody ill", ""), ("zebra", None)])
 def test_topics_are_found_by_their_words(jane: Browser, words: str, name: str | None) -> None:
     """All of them, in any case; a topic with them in its title is the first."""
     text = jane.get(f"/help/?q={words.replace(' ', '+')}").text
