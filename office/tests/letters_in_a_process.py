@@ -18,7 +18,7 @@ def main() -> None:
     """Asks for letters, and waits to be killed."""
     letters_sets.BATCH = AT_A_TIME
     with site(pathlib.Path(sys.argv[1]), sys.argv[2]) as office:
-        found: Sets = office.app.extensions["letters"]
+        found: Sets = office.parts.letters
         template = found.templates.standard()
         asked = Asked("a try", list(range(1, MANY + 1)), template, 1, "2025-03-03", "pdf")
         print(found.ask(people.Person("jane", "officer"), "key", asked), flush=True)

@@ -264,7 +264,7 @@ def test_the_same_pile_is_not_recorded_twice(office: Site) -> None:
     assert press(jane, PAGE, question, "Record 2 answers").status_code == 409
     assert press(jane, PAGE, page, "Record 2 answers").status_code == 409
     assert len(sent(office)) == 2
-    found = screen_piles(office)
+    found = office.parts.piles
     page = enter(jane, "13")
     entries = [it for it in found.of("jane") if it.state == "waits"]
     held, kept = threading.Event(), office.parts.desk.request
@@ -287,18 +287,12 @@ def test_the_same_pile_is_not_recorded_twice(office: Site) -> None:
     assert [it["child"] for it in sent(office)] == [11, 12, 13]
 
 
-def screen_piles(office: Site) -> piles.Piles:
-    """The batches of the application."""
-    found: piles.Piles = office.app.extensions["piles"]
-    return found
-
-
 def test_a_pile_is_kept_by_person(office: Site) -> None:
     """Over a sign-out, and nobody else has it."""
     jane, bo = office.browser("jane"), office.browser("bo")
     enter(jane, "11", "12-")
     assert pile(shown(bo)) == []
-    number = screen_piles(office).of("jane")[0].number
+    number = office.parts.piles.of("jane")[0].number
     bo.post("/answers/remove", {"number": str(number)})
     bo.post("/answers/choose", {"number": str(number), "child": "13"})
     jane.post("/sign-out")
@@ -330,7 +324,7 @@ def test_an_application_that_ends_in_the_middle_goes_on(tmp_path: pathlib.Path) 
             setattr(sender, "send", ends)
             with pytest.raises(SystemExit):
                 record(jane, page, "Record 4 answers")
-            states = [it.state for it in screen_piles(office).of("jane")]
+            states = [it.state for it in office.parts.piles.of("jane")]
             assert states == ["done", "done", "sending", "waits"]
         with site(tmp_path, address) as office:
             office.passwords["jane"] = "jane of the office"
@@ -397,9 +391,8 @@ SHEETS = [
 def several(office: Site, text: str) -> dict[str, list[str]]:
     """The batch of a person after a paste: what each row is taken for."""
     jane = office.browser("jane")
-    pile_of = screen_piles(office) if "piles" in office.app.extensions else None
-    if pile_of:
-        pile_of.remove("jane", (it.number for it in pile_of.of("jane")))
+    pile_of = office.parts.piles
+    pile_of.remove("jane", (it.number for it in pile_of.of("jane")))
     jane.get(PAGE)
     found = jane.post("/answers/several", {"pasted": text}, content_type="multipart/form-data")
     assert found.status_code == 303, Page(found.text).said()
@@ -733,9 +726,9 @@ def test_who_may_take_over_a_pile(office: Site) -> None:
     office.parts.people.set_role("bo", "reader")
     assert "has the role reader" in jane.get("/answers/of/bo").text
     # (an entry that is handed over is recorded once, by whom it is now)
-    entry = office.app.extensions["piles"].of("bo")[0]
-    office.app.extensions["piles"].hand_over("bo", "hal", [entry])
-    assert not office.app.extensions["piles"].begin(Person("bo", "officer"), entry)
+    entry = office.parts.piles.of("bo")[0]
+    office.parts.piles.hand_over("bo", "hal", [entry])
+    assert not office.parts.piles.begin(Person("bo", "officer"), entry)
     assert [it[0] for it in pile(shown(hal))] == ["11"]
 
 
@@ -748,7 +741,7 @@ def test_without_a_history_no_pile_is_taken_over(office: Site) -> None:
     found = press(hal, "/answers/of/bo", page, "Take over 1 answer of bo")
     office.parts.history.fd = kept
     assert found.status_code == 409 and "Nothing was taken over" in Page(found.text).said()
-    assert [it.batch for it in office.app.extensions["piles"].of("bo")] == ["bo"]
+    assert [it.batch for it in office.parts.piles.of("bo")] == ["bo"]
 
 
 @pytest.mark.parametrize("who, when", [("jane", "before"), ("bo", "after")])
@@ -760,7 +753,7 @@ def test_an_equal_answer_of_before_or_of_a_colleague_is_not_this_one(
     """
     jane, desk = office.browser("jane"), office.parts.desk
     enter(jane, "12", "11")
-    found = screen_piles(office)
+    found = office.parts.piles
     entry = next(it for it in found.of("jane") if it.meant.child == 11)
     accept = {"cmd": "accept", "child": 11, "school": "A"}
     if when == "before":

@@ -13,7 +13,6 @@ from pages import Page
 
 from office.core import texts
 from office.web.frame.people import Person
-from office.web.letters.addresses import Addresses
 
 HAL = Person("hal", "head")
 ZOE = "Zoë Abel"
@@ -60,7 +59,7 @@ def test_namesakes_are_told_apart(office: Site) -> None:
     assert "/children/3" in alike.stops and "namesakes" not in rita.get("/children/1").text
     assert rita.get("/find?q=reed").location == "/children/5"
     assert rita.get("/find?q=3").location == "/children/3"
-    addresses = Addresses(office.parts.store, office.parts.history)
+    addresses = office.parts.letters.addresses
     assert addresses.save(HAL, {3: ["1 <High> Street", "AS1 1AA"]}, False, addresses.digest())
     page = Page(office.browser("olivia").get("/find?q=zoe+abel").text)
     assert [it[4] for it in page.tables["found"]] == [

@@ -235,7 +235,7 @@ def test_addresses_are_shown_before_they_are_stored(office: Site) -> None:
     """Two as they will be printed, and the columns in their order; one that is no line of an
     address is left out.
     """
-    jane, stored = office.browser("jane"), office.app.extensions["letters"].addresses
+    jane, stored = office.browser("jane"), office.parts.letters.addresses
     data = b"child,street,town,postcode,to\n4,1 High St,Ayton,AA1 1AA,parent\n2,2 Low St,Bee,B,x\n"
     found = jane.post("/letters/addresses/", {"way": "child", "file": (io.BytesIO(data), "a.csv")})
     page = Page(found.text)
@@ -314,17 +314,17 @@ def test_addresses_are_uploaded_once_and_stand_on_the_letters(office: Site) -> N
         assert found.status_code == 422 and said in found.text, (text, found.text)
     assert count(office, "letter_address") == 2
     assert uploaded(jane, io.BytesIO(b"child,a\n1,Low\n4,\n"), "a.csv", "child").status_code == 303
-    assert office.app.extensions["letters"].addresses.all() == {
+    assert office.parts.letters.addresses.all() == {
         1: ["Low"], 2: ["@Low", "Flat 3", "Village"]}
     assert uploaded(jane, io.BytesIO(b"child,a\n3,New\n"), "a.csv", "whole").status_code == 303
-    assert office.app.extensions["letters"].addresses.all() == {3: ["New"]}
+    assert office.parts.letters.addresses.all() == {3: ["New"]}
     assert office.parts.history.entries[-1].about == {"children": [3], "in place of all": True}
 
 
 def test_addresses_of_a_colleague_are_shown_before_they_are_replaced(office: Site) -> None:
     """With who stored them; and what was stored since the file was shown is not replaced unseen."""
     jane, bo = office.browser("jane"), office.browser("bo")
-    path, stored = "/letters/addresses/", office.app.extensions["letters"].addresses
+    path, stored = "/letters/addresses/", office.parts.letters.addresses
     first = b"child,a,b\n1,Low,Ayton\n2,High,Bee\n4,Same,Sea\n"
     assert uploaded(bo, io.BytesIO(first), "bo.csv", "child").status_code == 303
 
@@ -352,8 +352,8 @@ def test_addresses_of_a_colleague_are_shown_before_they_are_replaced(office: Sit
 def test_the_page_of_a_set_is_looked_at_again(office: Site) -> None:
     """While it is made, and not afterwards."""
     jane = office.browser("jane")
-    sets = office.app.extensions["letters"]
-    sets.wake = lambda: None
+    sets = office.parts.letters
+    setattr(sets, "wake", lambda: None)
     path = jane.post("/letters/make", asked(jane, "offers", "1", child=["1"])).location
     page = jane.get(path).text
     assert f'id="set" data-running="{path}">' in page

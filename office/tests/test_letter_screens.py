@@ -249,7 +249,7 @@ def test_nobody_is_sent_a_letter_twice_by_a_slip(office: Site) -> None:
 def test_a_letter_about_something_else_is_no_second_one(tmp_path: pathlib.Path) -> None:
     """Child 1 has the letter of its offer, and now one of its reminder; child 2 the same again."""
     with site(tmp_path, "http://127.0.0.1:1") as office:
-        sets = office.app.extensions["letters"]
+        sets = office.parts.letters
         with office.parts.store.writing() as db:
             db.executemany(
                 "INSERT INTO letter_set (id, key, who, at, asked, state, total, sent, sent_by)"
@@ -267,7 +267,7 @@ def test_neither_drafts_nor_fewer_letters_are_recorded_as_sent(tmp_path: pathlib
     """Nor those of another number than was shown, also where it is less."""
     jane, day = Person("jane", "officer"), datetime.date(2025, 3, 17)
     with site(tmp_path, "http://127.0.0.1:1") as office:
-        sets = office.app.extensions["letters"]
+        sets = office.parts.letters
         asked_for = Asked("two", [1, 2], sets.templates.standard(), 1, "2025-03-17", "merge")
         with office.parts.store.writing() as db:
             db.execute("INSERT INTO letter_set (id, key, who, at, asked, state, total, is_draft)"
@@ -385,7 +385,7 @@ def test_a_file_is_kept_for_a_day_and_an_hour_after_it_was_taken(office: Site) -
         db.execute("UPDATE letter_set SET ended=?, taken=NULL WHERE id=1", (ago[23],))
         db.execute("UPDATE letter_set SET taken=? WHERE id=2", (ago[1.1],))
     # (as an application that was begun since, which has stored none of these moments)
-    office.app.extensions["letters"].stamped.clear()
+    office.parts.letters.stamped.clear()
     jane.get("/letters/")
     assert letter_pages(jane, one)
     assert jane.get(f"{other}/file").status_code == 409
@@ -404,7 +404,7 @@ def test_a_set_can_be_ended_and_removed(
     """Nothing of it is left: no file, no letter."""
     jane = office.browser("jane")
     with monkeypatch.context() as patch:
-        patch.setattr(office.app.extensions["letters"], "wake", lambda: None)
+        patch.setattr(office.parts.letters, "wake", lambda: None)
         path = jane.post("/letters/make", asked(jane, "part", "1")).location
         ended = press(jane, path, Page(jane.get(path).text), "End these letters")
         assert ended.status_code == 303
@@ -425,7 +425,7 @@ def test_letters_that_were_taken_meanwhile_are_not_removed_by_an_older_page(
     """
     jane, hal = office.browser("jane"), office.browser("hal")
     with monkeypatch.context() as patch:
-        patch.setattr(office.app.extensions["letters"], "wake", lambda: None)
+        patch.setattr(office.parts.letters, "wake", lambda: None)
         path = jane.post("/letters/make", asked(jane, "offers", "1", child=["1", "2"])).location
         running = Page(jane.get(path).text)
     jane.get("/letters/")

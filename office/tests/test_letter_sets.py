@@ -27,7 +27,6 @@ from office.web.letters import sets as letters_sets
 from office.web.letters import whom as letters_whom
 from office.web.letters.audits import Audits
 from office.web.letters.sets import Asked, Sets
-from office.web.letters.versions import Templates
 from office.web.letters.whom import Lists, Whom
 from office.web.machinery.jobs import Jobs
 from office.web.register.history import History, now
@@ -52,10 +51,10 @@ class Office:
         self.history = History(str(folder / "history.jsonl"))
         self.desk = mock.MagicMock()
         self.desk.settle.side_effect = Refused("the register does not answer now")
-        self.templates = Templates(self.store, self.history)
+        self.sets = Sets(self.store, self.history, self.desk, mock.MagicMock(), mock.MagicMock(),
+                         folder / "letters", Jobs())
+        self.templates = self.sets.templates
         assert self.templates.standard() == 1
-        self.sets = Sets(self.store, self.history, self.desk, mock.MagicMock(), self.templates,
-                         mock.MagicMock(), folder / "letters", Jobs())
 
     def add(self, state: str, **columns: object) -> int:
         """A set in a state."""

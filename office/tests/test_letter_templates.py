@@ -155,7 +155,7 @@ def test_pictures_are_those_that_were_uploaded_with_the_template(office: Site) -
     assert found.status_code == 303, found.text
     assert saved(head, shows, path, 2, remove="crest.png").status_code == 422
     assert saved(head, GOOD, path, 2, remove="crest.png").status_code == 303
-    versions = office.app.extensions["letters"].templates.versions(number_of(path))
+    versions = office.parts.letters.templates.versions(number_of(path))
     assert [set(it.pictures) for it in versions] == [set(), {"crest.png"}, set()]
 
 

@@ -288,8 +288,7 @@ def test_a_row_stops_where_the_register_is_closed(office: Site) -> None:
     page, is_open = shown(jane, "remind", "18 March 2025", [1, 4]), desk.closed
     desk.closed = lambda: "Closed for a draw."
     path = confirmed(jane, page).location
-    with office.app.app_context():
-        row = screen.rows().get(1)
+    row = office.parts.notices.get(1)
     assert row.said == "Closed for a draw. Nothing was recorded." and not office.copied
     assert [(it.state, it.said) for it in row.notices] == [("waits", ""), ("waits", "")]
     with office.parts.store.writing() as db:
@@ -297,8 +296,7 @@ def test_a_row_stops_where_the_register_is_closed(office: Site) -> None:
         db.execute("UPDATE sending SET state='sending' WHERE place=1")
     desk.closed = is_open
     assert jane.post(path).status_code == 303
-    with office.app.app_context():
-        row = screen.rows().get(1)
+    row = office.parts.notices.get(1)
     assert row.said == "" and row.count("done") == 2
 
 
@@ -346,8 +344,7 @@ def test_an_offer_that_changed_since_it_was_shown_is_not_withdrawn(
 
     monkeypatch.setattr(office.parts.copies, "make", meanwhile)
     confirmed(jane, question)
-    with office.app.app_context():
-        row = screen.rows().get(1)
+    row = office.parts.notices.get(1)
     assert [it.state for it in row.notices] == ["done", "failed"]
     assert row.notices[1].said.startswith("Child 3: bo recorded accept at ")
 
@@ -424,14 +421,14 @@ def test_an_offer_is_not_withdrawn_while_its_answer_waits_in_a_pile(
     day = datetime.date(2025, 4, 2)
     due = [it for it in notices.due(office.parts.desk.now(), "lapse", day) if it.child == 4]
     # (and once more right before it is stored, as the answer may have come since)
-    with pytest.raises(Refused, match="child 4: bo has an answer"), office.app.app_context():
-        screen.rows().add(Person("jane", "officer"), "a key", "lapse", day, due)
+    with pytest.raises(Refused, match="child 4: bo has an answer"):
+        office.parts.notices.add(Person("jane", "officer"), "a key", "lapse", day, due)
     assert count(office, "notice_row") == 0
     question = shown(jane, "lapse", "2 April 2025", [3])
     make = office.parts.copies.make
 
     def meanwhile(purpose: str, *more: Any) -> int:
-        office.app.extensions["piles"].add(
+        office.parts.piles.add(
             "bo", office.parts.desk.now(), [Meant("3", "accept", 3, "ELM")])
         return make(purpose, *more)
 
@@ -451,7 +448,7 @@ def test_an_answer_that_may_be_of_a_child_is_said_beside_it(office: Site) -> Non
             " 'bo', 0, json_object('kind', ?, 'child', ?, 'name', ?), '', ?, '')",
             [("accept", None, NAMES[2], "waits"), ("leave_list", 3, "", "waits"),
              ("accept", None, NAMES[1], "done"), ("accept", 4, "", "done")])
-    marks = Marks(office.parts.store, office.parts.history, office.parts.desk.now())
+    marks = Marks(office.parts.letter_lists, office.parts.desk.now())
     assert marks.of(2) == ("bo has an answer in a batch that may be of this child",)
     assert marks.of(3) == ("bo has an answer for this child in a batch (leave the list)",)
     assert marks.of(1) == marks.of(4) == ()
@@ -480,9 +477,7 @@ DAY = datetime.date(2025, 3, 18)
 
 def row_of(office: Site, *children: int) -> tuple[notices.Notices, int]:
     """A row of reminders of these children, of which none is recorded."""
-    found = notices.Notices(
-        office.parts.store, office.parts.desk, office.parts.jobs, office.parts.copies,
-        lambda *_: None)
+    found = office.parts.notices
     chosen = [notices.Due(it, "ELM", NAMES[it], {}, "{}") for it in children]
     return found, found.add(JANE, "one", notices.REMIND, DAY, chosen)
 

@@ -29,7 +29,6 @@ from register_files import Refused
 from office.core.model import Register
 from office.core.senders import Ended
 from office.web.answers.entries import Meant
-from office.web.answers.piles import Piles
 from office.web.copies import copies, restores
 from office.web.copies.terms import Restore
 from office.web.frame import people
@@ -684,8 +683,7 @@ def test_a_pile_that_is_being_recorded_stops_and_keeps_its_rest(
     with small.office() as office:
         office.parts.copies.make("a try", "hal")
         office.add("jane", "officer")
-        desk, found = office.parts.desk, office.parts.restores
-        piles = Piles(office.parts.store, desk, office.parts.jobs, office.parts.copies)
+        desk, found, piles = office.parts.desk, office.parts.restores, office.parts.piles
         real = desk.request
         piles.add("jane", desk.now(), [Meant(str(it), "name_plan", it, "ELM") for it in (1, 2, 3)])
 

@@ -68,9 +68,8 @@ def kind(office: Site, child: int) -> str | None:
 def emptied(office: Site, name: str) -> Any:
     """A browser of somebody whose batch is empty."""
     found = office.browser(name)
-    piles = office.app.extensions.get("piles")
-    if piles:
-        piles.remove(name, [it.number for it in piles.of(name)])
+    piles = office.parts.piles
+    piles.remove(name, [it.number for it in piles.of(name)])
     return found
 
 

@@ -104,6 +104,8 @@ def create(config: Config) -> flask.Flask:
     app.url_map.converters["file"] = FileName
     app.add_url_rule("/<file:name>", "file", file)
     guard.guarded(app)
+    # (with the sets that an application before this one has left)
+    parts.letters.wake()
     return app
 
 

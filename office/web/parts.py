@@ -5,6 +5,8 @@ import pathlib
 
 from office.core import senders
 
+from .answers.notices import Notices
+from .answers.piles import Piles
 from .children.notes import Notes
 from .copies.copies import Copies
 from .copies.restores import Restores, Restoring
@@ -14,6 +16,8 @@ from .explain.trials import Trials
 from .frame import journal
 from .frame.failures import Failures
 from .frame.people import People
+from .letters.sets import FOLDER, Sets
+from .letters.whom import Lists
 from .machinery.asked import Asked
 from .machinery.jobs import Jobs
 from .register.desk import Desk
@@ -76,6 +80,12 @@ class Parts:
             self.store, self.history, self.desk, self.jobs, self.copies, self.draws)
         self.restoring = Restoring(self.restores, self.jobs)
         self.copy_tests = CopyTests(self.copies, self.draws)
+        self.letters = Sets(self.store, self.history, self.desk, self.copies, self.draws,
+                            config.folder / FOLDER, self.jobs)
+        self.letter_lists = Lists(self.store, self.history)
+        self.piles = Piles(self.store, self.desk, self.jobs, self.copies)
+        self.notices = Notices(self.store, self.desk, self.jobs, self.copies, self.letters,
+                               self.letter_lists)
         self.end = SeasonEnd(self)
         self.draws.closed_by_another = lambda: self.end.closed() or self.restores.closed()
         self.restores.closed_by_another = self.end.closed

@@ -8,7 +8,6 @@ from office.core.kinds import ANSWERS
 from office.core.model import Register
 from office.web.letters.whom import Lists, about_of
 from office.web.machinery.outbox import DONE
-from office.web.register.history import History
 from office.web.register.store import Store
 
 from . import entries
@@ -27,13 +26,13 @@ def waiting(store: Store) -> dict[int, str]:
 class Marks:
     """The marks of all children as they are now."""
 
-    def __init__(self, store: Store, record: History, register: Register) -> None:
-        self.register, self.waiting = register, waiting(store)
-        self.sent = Lists(store, record).earlier("sent IS NOT NULL")
+    def __init__(self, lists: Lists, register: Register) -> None:
+        self.register, self.waiting = register, waiting(lists.store)
+        self.sent = lists.earlier("sent IS NOT NULL")
         self.possible: dict[int, str] = {}
         names = entries.Names(register)
-        for it in store.rows("SELECT person, name FROM answer WHERE state<>? AND child IS NULL",
-                             DONE):
+        for it in lists.store.rows(
+                "SELECT person, name FROM answer WHERE state<>? AND child IS NULL", DONE):
             self.possible |= {child: f"{it['person']} has an answer in a batch that may be of this"
                               " child" for child in names.matches(it["name"])}
 

@@ -7,7 +7,7 @@ import hashlib
 import json
 import sqlite3
 import threading
-from collections.abc import Callable, Iterable
+from collections.abc import Iterable
 from typing import Any
 
 from register_files import Refused
@@ -17,6 +17,9 @@ from office.core.model import Register
 from office.web.copies.copies import Copies
 from office.web.copies.safeguard import copied
 from office.web.frame.people import Person
+from office.web.letters import rows as letters_rows
+from office.web.letters.sets import Sets
+from office.web.letters.whom import Lists
 from office.web.machinery.jobs import Jobs
 from office.web.machinery.outbox import DONE, Item, Outbox
 from office.web.register.desk import Desk, seen_of
@@ -99,13 +102,11 @@ class Notices(Outbox[Item]):
     kind, item = "notice", Item
 
     def __init__(
-        self, store: Store, desk: Desk, jobs: Jobs, copies: Copies,
-        letters: Callable[[Person, int], None],
+        self, store: Store, desk: Desk, jobs: Jobs, copies: Copies, letters: Sets, lists: Lists,
     ) -> None:
         super().__init__(store, desk, jobs)
         self.lock = threading.Lock()
-        # (and what has the letters of a row made)
-        self.copies, self.letters = copies, letters
+        self.copies, self.letters, self.lists = copies, letters, lists
 
     def get(self, number: int) -> Row:
         """A row."""
@@ -179,7 +180,7 @@ class Notices(Outbox[Item]):
     def write(self, who: Person, number: int) -> None:
         """Has the letters of a row made. What is recorded stays so where they cannot be."""
         try:
-            self.letters(who, number)
+            letters_rows.ask(self.letters, self.lists, who, number, datetime.date.today())
         except Refused as error:
             raise Refused(f"The letters were not made: {error}.") from error
 

@@ -1,4 +1,6 @@
 """Who asks, and whether they may: sessions, tokens, rights, requests of other sites, headers."""
+from __future__ import annotations
+
 import contextlib
 import datetime
 import json
@@ -9,7 +11,7 @@ import sys
 import threading
 import time
 from collections.abc import Callable
-from typing import IO, Any, TypeVar, cast
+from typing import IO, TYPE_CHECKING, Any, TypeVar, cast
 
 import flask
 from register_files import FULL, Refused
@@ -18,7 +20,6 @@ from werkzeug.wrappers import Response as AnyResponse
 from werkzeug.wsgi import wrap_file
 
 from office.core import days, plain, turns, wording
-from office.web.parts import Parts
 from office.web.register.desk import Away
 from office.web.register.history import now
 from office.web.rounds.terms import SENT
@@ -26,6 +27,9 @@ from office.web.rounds.terms import SENT
 from . import failures, uploads
 from .people import Person
 from .watch import Watch
+
+if TYPE_CHECKING:
+    from office.web.parts import Parts
 
 COOKIE = "__Host-admissions"
 # where a site is tried without TLS, a browser takes no such cookie
@@ -99,7 +103,7 @@ def needs(right: str) -> Callable[[View], View]:
 
 def parts() -> Parts:
     """The parts of the application."""
-    return cast(Parts, flask.current_app.extensions["office"])
+    return cast("Parts", flask.current_app.extensions["office"])
 
 
 def watch() -> Watch:

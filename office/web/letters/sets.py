@@ -29,6 +29,7 @@ from office.web.register.desk import Desk
 from office.web.register.history import History, now
 from office.web.register.rows import of_json
 from office.web.register.store import Store
+from office.web.rounds.draws import Draws
 from office.web.schools import flags
 from office.work import letter_fields, letters_apart, printed
 from office.work.letter_fields import Letter, Writer
@@ -141,12 +142,12 @@ class Sets:
     """The sets of one application."""
 
     def __init__(
-        self, store: Store, record: History, desk: Desk, copies: Copies, templates: Templates,
-        audits: Audits, folder: pathlib.Path, jobs: Jobs,
+        self, store: Store, record: History, desk: Desk, copies: Copies, draws: Draws,
+        folder: pathlib.Path, jobs: Jobs,
     ) -> None:
         self.store, self.history, self.desk, self.copies = store, record, desk, copies
-        self.jobs = jobs
-        self.templates, self.audits, self.folder = templates, audits, folder
+        self.jobs, self.folder = jobs, folder
+        self.templates, self.audits = Templates(store, record), Audits(store, draws, copies)
         self.sender, self.addresses = Sender(store, record), Addresses(store, record)
         folder.mkdir(mode=0o700, exist_ok=True)
         self.lock = threading.RLock()

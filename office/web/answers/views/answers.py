@@ -2,7 +2,6 @@
 column, and is recorded at once.
 """
 import dataclasses
-from typing import cast
 
 import flask
 from register_files import Refused
@@ -22,7 +21,7 @@ from office.web.machinery.outbox import DONE
 from .. import entries, handovers, piles
 from .. import rows as answer_rows
 from ..entries import Entry, Names
-from ..piles import Piles, Shown
+from ..piles import Shown
 from ..rows import Reader
 
 screen = flask.Blueprint("answers", __name__, url_prefix="/answers")
@@ -36,15 +35,9 @@ MOST_RECORDED = 50
 MANY = ("all", "marked")
 
 
-def all_piles() -> Piles:
-    """The batches of this application."""
-    made = Piles(parts().store, parts().desk, parts().jobs, parts().copies)
-    return cast(Piles, flask.current_app.extensions.setdefault("piles", made))
-
-
 def page(said: str = "", status: int = 200, pasted: str = "", typed: str = "") -> Answer:
     """The batch, with the field for the next answer."""
-    who, found = person().name, all_piles()
+    who, found = person().name, parts().piles
     register: Register | None = None
     try:
         register = parts().desk.register()
@@ -100,7 +93,7 @@ def add() -> Answer:
     try:
         register = parts().desk.register()
         meant = Reader(Names(register)).typed(typed)
-        all_piles().add(person().name, register, [meant])
+        parts().piles.add(person().name, register, [meant])
     except Refused as error:
         return page(f"{typed[:entries.MOST_TYPED]} was not added: {sentence(str(error))}", 409,
                     typed=typed)
@@ -122,7 +115,7 @@ def several() -> Answer:
         else:
             rows = uploads.rows_of(given)
         register = parts().desk.register()
-        all_piles().add(person().name, register, Reader(Names(register)).rows(rows))
+        parts().piles.add(person().name, register, Reader(Names(register)).rows(rows))
     except Refused as error:
         return page(f"Nothing was added: {sentence(str(error))}", 400, pasted)
     # (by which the page knows that it need not keep the text any more)
@@ -132,7 +125,7 @@ def several() -> Answer:
 def entry_of_form() -> Entry | None:
     """The entry that a button of the batch concerns."""
     number = flask.request.form.get("number", "")
-    return next((it for it in all_piles().of(person().name) if str(it.number) == number), None)
+    return next((it for it in parts().piles.of(person().name) if str(it.number) == number), None)
 
 
 @screen.post("/remove")
@@ -141,7 +134,7 @@ def remove() -> Answer:
     """Removes an entry, the list of those that were recorded, or after a question all that wait or
     all that have something against them.
     """
-    given, found = flask.request.form.get("number", ""), all_piles()
+    given, found = flask.request.form.get("number", ""), parts().piles
     if given in MANY:
         return remove_all(given, flask.request.form.get("digest", ""))
     chosen = [it for it in found.of(person().name)
@@ -160,7 +153,7 @@ def ask_remove() -> Answer:
 
 def remove_all(which: str, seen: str) -> Answer:
     """Shows all that would be removed, or removes what was shown."""
-    found, who = all_piles(), person().name
+    found, who = parts().piles, person().name
     shown = [it for it in found.shown(who, parts().desk.register())
              if which == "all" or it.conflicts]
     if not shown:
@@ -191,14 +184,14 @@ def choose() -> Answer:
         if kind:
             if kind in entries.answers_to(register, entry):
                 meant = dataclasses.replace(meant, kind=kind, trouble="")
-                all_piles().replace(entry, register, meant)
+                parts().piles.replace(entry, register, meant)
         elif (number := numbers.read(child)) in register.children:
             meant = dataclasses.replace(meant, child=number, name="")
             if not meant.school:
                 meant = entries.with_school(register, meant)
-            all_piles().replace(entry, register, meant)
+            parts().piles.replace(entry, register, meant)
         elif not child:
-            all_piles().replace(entry, register, dataclasses.replace(meant, name=""))
+            parts().piles.replace(entry, register, dataclasses.replace(meant, name=""))
     return back()
 
 
@@ -223,7 +216,7 @@ def ask() -> Answer:
 
 def ready_in(register: Register, digest: str) -> list[Shown] | str:
     """What can be recorded of the batch, which is what was shown; or why nothing is."""
-    found, who = all_piles(), person().name
+    found, who = parts().piles, person().name
     found.look(who)
     ready = [it for it in found.shown(who, register) if it.is_ready]
     if digest_of(ready) != digest:
@@ -241,7 +234,7 @@ def record() -> Answer:
         return page(ready, 409)
     guard.record("records a pile", answers=len(ready))
     try:
-        all_piles().record(person(), [it.entry for it in ready], WAIT_SECONDS)
+        parts().piles.record(person(), [it.entry for it in ready], WAIT_SECONDS)
     except Refused as error:
         return page(sentence(str(error)), 409)
     return flask.redirect(flask.url_for("answers.show", recorded="yes"), 303)

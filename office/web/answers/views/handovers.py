@@ -12,7 +12,7 @@ from office.web.frame.guard import needs, parts, person
 from office.web.frame.people import NAME, RECORD
 
 from .. import handovers
-from .answers import all_piles, digest_of
+from .answers import digest_of
 
 screen = flask.Blueprint("answers_of", __name__, url_prefix="/answers/of")
 Answer = str | Response | tuple[str, int]
@@ -20,7 +20,7 @@ Answer = str | Response | tuple[str, int]
 
 def page(owner: str, said: str = "") -> Answer:
     """The batch of somebody."""
-    found = all_piles()
+    found = parts().piles
     found.look(owner)
     register = parts().desk.register()
     shown = found.shown(owner, register)
@@ -51,7 +51,7 @@ def show(owner: str) -> Answer:
 def take(owner: str) -> Answer:
     """Takes over what was shown."""
     see_owner(owner)
-    found, who = all_piles(), person().name
+    found, who = parts().piles, person().name
     shown = found.shown(owner, parts().desk.now())
     entries = [it.entry for it in shown]
     if found.is_running(owner):

@@ -4,7 +4,6 @@ letters of the same children.
 import dataclasses
 import datetime
 import secrets
-from typing import cast
 
 import flask
 from register_files import Refused
@@ -16,7 +15,7 @@ from office.core.model import Register
 from office.core.wording import sentence
 from office.web.children import actions as children
 from office.web.frame.guard import needs, parts, person
-from office.web.frame.people import READ, RECORD, Person
+from office.web.frame.people import READ, RECORD
 from office.web.letters import rows as letters_rows
 from office.web.letters.views import letters
 from office.web.machinery import choices, numbers, tables
@@ -25,7 +24,7 @@ from office.web.machinery.outbox import DONE, Item
 
 from .. import notices
 from ..notice_marks import UNREAD, Marks
-from ..notices import LAPSE, REMIND, Due, Notices
+from ..notices import LAPSE, REMIND, Due
 
 screen = flask.Blueprint("notices", __name__, url_prefix="/notices")
 Answer = str | Response | tuple[str, int]
@@ -40,17 +39,6 @@ class Box:
 
     due: Due
     is_ticked: bool
-
-
-def rows() -> Notices:
-    """The rows of this application."""
-    found, sets, lists = parts(), letters.sets(), letters.lists()
-
-    def write(who: Person, number: int) -> None:
-        letters_rows.ask(sets, lists, who, number, today())
-
-    made = Notices(found.store, found.desk, found.jobs, found.copies, write)
-    return cast(Notices, flask.current_app.extensions.setdefault("notices", made))
 
 
 def today() -> datetime.date:
@@ -70,7 +58,7 @@ def show() -> Answer:
         except Refused:
             counts[kind] = 0
     return flask.render_template("notices.html", counts=counts, kinds=NOTICES,
-                                 found=rows().listed())
+                                 found=parts().notices.listed())
 
 
 @screen.get(f"/<{KINDS}:name>")
@@ -95,7 +83,7 @@ def choose_page(
     if day:
         register = parts().desk.register()
         try:
-            found, marks = notices.due(register, kind, day), marks_of(register)
+            found, marks = notices.due(register, kind, day), Marks(parts().letter_lists, register)
         except Refused as error:
             wrong = sentence(str(error))
     # (at first the reminders without an answer are ticked)
@@ -103,7 +91,7 @@ def choose_page(
     picked = choices.picked(given) if "ticked" in given else None
     if wrong and status == 200 and "day" in given:
         status = 400
-    kept = rows().kept(kind)
+    kept = parts().notices.kept(kind)
     due = [Box(it, it.child not in kept and (is_ticked(tick, it, marks) if picked is None
                                              else str(it.child) in picked)) for it in found]
     return flask.render_template(
@@ -119,11 +107,6 @@ def is_ticked(tick: str, it: Due, marks: Marks | None) -> bool:
     return tick == "all" or tick == "first" and not (marks and marks.answered(it.child))
 
 
-def marks_of(register: Register) -> Marks:
-    """What is said beside each child."""
-    return Marks(parts().store, parts().history, register)
-
-
 def ticked(register: Register, kind: str, day: datetime.date, given: Typed) -> list[Due]:
     """Those that are ticked, which must all be due still."""
     found = {it.child: it for it in notices.due(register, kind, day)}
@@ -132,7 +115,7 @@ def ticked(register: Register, kind: str, day: datetime.date, given: Typed) -> l
         raise Refused(not_due(register, kind, gone))
     if not wanted:
         raise Refused("tick at least one child")
-    rows().see_none_kept(kind, wanted)
+    parts().notices.see_none_kept(kind, wanted)
     chosen = set(wanted)
     return [it for number, it in found.items() if number in chosen]
 
@@ -202,7 +185,7 @@ def question(kind: str, key: str, form: Typed | None) -> Answer:
         chosen = ticked(register, kind, day, given)
     except Refused as error:
         return choose_page(kind, given, 1, sentence(str(error)), 409)
-    marks = marks_of(register)
+    marks = Marks(parts().letter_lists, register)
     digest = notices.digest(kind, day, chosen, marks)
     is_wrong = kind == LAPSE and any(marks.unsent(it.child) for it in chosen)
     said = ""
@@ -228,11 +211,11 @@ def recorded(
 ) -> Answer:
     """Records what was chosen and shown."""
     try:
-        number = rows().add(person(), key, kind, day, chosen)
+        number = parts().notices.add(person(), key, kind, day, chosen)
         parts().asked.forget(person(), flask.url_for("notices.choose", name=kind))
     except Refused as error:
         return choose_page(kind, given, 1, sentence(str(error)), 409)
-    rows().record(person(), number, WAIT_SECONDS)
+    parts().notices.record(person(), number, WAIT_SECONDS)
     return to_row(number)
 
 
@@ -252,11 +235,11 @@ def to_row(number: int) -> Response:
 def one(number: int) -> Answer:
     """A row: what came of each, and the letters of the same children."""
     # (asked for first: of one that ends meanwhile the page is loaded once more)
-    is_running = rows().is_running(number)
+    is_running = parts().notices.is_running(number)
     try:
         if not is_running:
-            rows().settle(number)
-        row = rows().get(number)
+            parts().notices.settle(number)
+        row = parts().notices.get(number)
     except Refused as error:
         if not parts().store.row("SELECT 1 FROM notice_row WHERE id=?", number):
             flask.abort(404)
@@ -274,7 +257,7 @@ def one(number: int) -> Answer:
         "school": tables.Column("School", "", lambda it: it.about["school"]),
         "said": tables.Column("Result", "", lambda it: it.said),
     }, row.notices)
-    made = letters_rows.of_row(letters.sets(), number)
+    made = letters_rows.of_row(parts().letters, number)
     return flask.render_template(
         "notices_row.html", row=row, kind=NOTICES[row.kind], names=names,
         table=table, pages=tables.pages("notices.one", number=number),
@@ -282,7 +265,7 @@ def one(number: int) -> Answer:
         done=row.count(DONE), is_running=is_running,
         it=made, recording=letters.recording(made) if made else {},
         template=letters.template_of(made) if made else "",
-        has_sender=bool(letters.sets().sender.number))
+        has_sender=bool(parts().letters.sender.number))
 
 
 @screen.post("/rows/<int:number>")
@@ -290,6 +273,6 @@ def one(number: int) -> Answer:
 def go_on(number: int) -> Answer:
     """Goes on with a row where it stopped."""
     if known := parts().store.row("SELECT id FROM notice_row WHERE id=?", number):
-        rows().record(person(), int(known["id"]), WAIT_SECONDS)
+        parts().notices.record(person(), int(known["id"]), WAIT_SECONDS)
         return to_row(number)
     return flask.abort(404)

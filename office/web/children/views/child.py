@@ -220,7 +220,7 @@ def ask(number: int, name: str) -> Answer:
 
 def marks_of(register: Register, name: str) -> Marks | None:
     """What is said beside children whose offer is reminded of or withdrawn, also in rows."""
-    return Marks(parts().store, parts().history, register) if name in (REMIND, LAPSE) else None
+    return Marks(parts().letter_lists, register) if name in (REMIND, LAPSE) else None
 
 
 def against(register: Register, number: int, name: str) -> str:

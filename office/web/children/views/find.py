@@ -12,7 +12,6 @@ from office.core.model import Child, Register, School
 from office.core.wording import KINDS
 from office.web.frame.guard import needs, parts, person
 from office.web.frame.people import READ, RECORD
-from office.web.letters.addresses import Addresses
 from office.web.machinery import tables
 from office.web.machinery.tables import Column
 from office.work import register_lists
@@ -125,8 +124,7 @@ def show() -> str | Response:
     if len(made.children) + len(made.schools) == 1:
         return flask.redirect(made.addresses(register)[0][1])
     # (the register has no address, and who only reads sees nothing that it does not have)
-    may_see = person().may(RECORD)
-    addresses = Addresses(parts().store, parts().history).all() if may_see else {}
+    addresses = parts().letters.addresses.all() if person().may(RECORD) else {}
     rows = rows_of(register, made.children, addresses, text)
     # (what nobody of them has is no column)
     columns = {name: it for name, it in COLUMNS.items()

@@ -12,7 +12,6 @@ from office.web.frame.people import READ, RECORD
 
 from .. import addresses as letters_addresses
 from ..addresses import Addresses
-from .letters import sets
 
 screen = flask.Blueprint("letter_addresses", __name__, url_prefix="/letters/addresses")
 Answer = str | Response | tuple[str, int]
@@ -26,7 +25,7 @@ MEANWHILE = ("Nothing was stored: somebody else has stored addresses since this 
 
 def addresses() -> Addresses:
     """The addresses of this application."""
-    return sets().addresses
+    return parts().letters.addresses
 
 
 @screen.get("/")

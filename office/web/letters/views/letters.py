@@ -5,10 +5,9 @@ import os
 import secrets
 import sqlite3
 import tempfile
-from typing import Any, cast
+from typing import Any
 
 import flask
-from flask.blueprints import BlueprintSetupState
 from register_files import Refused
 from werkzeug.wrappers import Response
 
@@ -19,16 +18,14 @@ from office.web.frame.guard import needs, of_file, parts, person
 from office.web.frame.people import READ, RECORD
 from office.web.machinery import choices, numbers, tables
 from office.web.machinery.asked import Typed
-from office.web.parts import Parts
 from office.work import letter_text
 
 from .. import back
 from .. import sets as letters_sets
 from .. import whom as letters_whom
-from ..audits import Audits
-from ..sets import Asked, Set, Sets, Twice
-from ..versions import Templates, Version
-from ..whom import CHILDREN, KINDS, LIST, ORDERS, Chosen, Lists
+from ..sets import Asked, Set, Twice
+from ..versions import Version
+from ..whom import CHILDREN, KINDS, LIST, ORDERS, Chosen
 
 screen = flask.Blueprint("letters", __name__, url_prefix="/letters")
 Answer = str | Response | tuple[str, int]
@@ -47,36 +44,10 @@ TEXT: tables.Column[sqlite3.Row] = tables.Column("Text", "screen-only")
 FAR_DAYS = 7
 
 
-@screen.record_once
-def begin(state: BlueprintSetupState) -> None:
-    """Goes on with the sets that an application before this one has left."""
-    made = sets_of(state.app.extensions["office"])
-    state.app.extensions["letters"] = made
-    made.wake()
-
-
-def sets_of(found: Parts) -> Sets:
-    """The sets of an application."""
-    templates = Templates(found.store, found.history)
-    audits = Audits(found.store, found.draws, found.copies)
-    return Sets(found.store, found.history, found.desk, found.copies, templates, audits,
-                found.config.folder / letters_sets.FOLDER, found.jobs)
-
-
-def sets() -> Sets:
-    """The sets of this application."""
-    return cast(Sets, flask.current_app.extensions["letters"])
-
-
-def lists() -> Lists:
-    """The whom-lists of this application."""
-    return Lists(parts().store, parts().history)
-
-
 @screen.app_context_processor
 def shared() -> dict[str, Any]:
     """What the screen of a child shows of its letters."""
-    return {"letters_of": lambda child: sets().of_child(child)}
+    return {"letters_of": lambda child: parts().letters.of_child(child)}
 
 
 def today() -> datetime.date:
@@ -100,12 +71,12 @@ def page(said: str = "", status: int = 200) -> Answer:
         said, status = sentence(str(error)), 503
     draws = [(str(it.number), f"{wording.draw_in_words(it)}, {days.in_words(it.day)}")
              for it in register.draws] if register else []
-    agreed = sets().audits.agreed(register) if register else set()
+    agreed = parts().letters.audits.agreed(register) if register else set()
     return flask.render_template(
         "letters.html", said=said, is_bad=status != 200, kinds=KINDS, draws=draws[::-1],
-        given=flask.request.args, found=sets().listed(), size=sets().bytes_kept(),
+        given=flask.request.args, found=parts().letters.listed(), size=parts().letters.bytes_kept(),
         day=flask.request.args.get("day", days.in_words(today())),
-        has_sender=bool(sets().sender.number),
+        has_sender=bool(parts().letters.sender.number),
         unaudited=[it for it in register.draws if it.number not in agreed] if register else [],
         may_audit=person().may("draw")), status
 
@@ -128,27 +99,28 @@ def path_of(given: Typed) -> str:
 
 def whom_page(given: Typed, number: int = 1, said: str = "", status: int = 200) -> Answer:
     """The same with what was chosen before."""
+    lists = parts().letter_lists
     try:
         found = letters_whom.read(given)
         register = parts().desk.register()
-        rows = lists().chosen(register, found, given.get("order", "number"))
-        words = lists().words(register, found)
+        rows = lists.chosen(register, found, given.get("order", "number"))
+        words = lists.words(register, found)
     except Refused as error:
         return page(sentence(str(error)), 400)
     picked = choices.picked(given) if "key" in given else None
     boxes = [(it, is_ticked(it, picked)) for it in rows]
     return flask.render_template(
         "letters_whom.html", said=said, is_bad=status != 200, whom=found, words=words,
-        has_sender=bool(sets().sender.number), given=given, many=len(rows),
+        has_sender=bool(parts().letters.sender.number), given=given, many=len(rows),
         have=sum(bool(it.sent) for it in rows),
         address=tables.pages("letters.whom", whom=found.kind, value=found.value),
         page=choices.page_of(boxes, number, lambda it: it[0].child if it[1] else None),
         orders=[(name, words) for name, (words, _) in ORDERS.items()],
-        templates=[(value_of(it), it.called) for it in sets().templates.listed()],
-        usual=value_of(sets().templates.usual()),
+        templates=[(value_of(it), it.called) for it in parts().letters.templates.listed()],
+        usual=value_of(parts().letters.templates.usual()),
         day=given.get("day_of_letters", days.in_words(today())),
         wrong_day="" if typed_day(given, "day_of_letters") else wording.NOT_A_DAY,
-        lacks_place=lists().withdrawal(found)[0] and not lists().withdrawal(found)[1],
+        lacks_place=lists.withdrawal(found)[0] and not lists.withdrawal(found)[1],
         key=given.get("key") or secrets.token_urlsafe(12)), status
 
 
@@ -178,7 +150,7 @@ def make() -> Answer:
             "letters.whom", whom=form.get("whom"), value=form.get("value"), page=form["page"]), 303)
     try:
         asked = asked_in(form)
-        number = sets().ask(person(), f"form {form.get('key', '')[:40]}", asked)
+        number = parts().letters.ask(person(), f"form {form.get('key', '')[:40]}", asked)
         parts().asked.forget(person(), path_of(form))
     except Refused as error:
         return whom_page(form, 1, sentence(str(error)), 400)
@@ -188,7 +160,8 @@ def make() -> Answer:
 def asked_in(form: Typed) -> Asked:
     """What a form asks for."""
     found, register = letters_whom.read(form), parts().desk.register()
-    there = [it.child for it in lists().chosen(register, found, form.get("order", "number"))]
+    lists = parts().letter_lists
+    there = [it.child for it in lists.chosen(register, found, form.get("order", "number"))]
     picked = {it for it in map(numbers.read, choices.picked(form)) if it >= 0}
     if missing := picked - set(there):
         raise Refused(f"child {min(missing)} is not on the list any more: look at it again")
@@ -202,24 +175,24 @@ def asked_in(form: Typed) -> Asked:
     number, _, version = form.get("template", "").partition(".")
     if numbers.read(number) < 0 or numbers.read(version) < 0:
         raise Refused("choose a template")
-    template = sets().templates.get(numbers.read(number), numbers.read(version))
-    withdrawn, copy = lists().withdrawal(found)
+    template = parts().letters.templates.get(numbers.read(number), numbers.read(version))
+    withdrawn, copy = lists.withdrawal(found)
     if withdrawn and day < withdrawn:
         raise Refused(f"the letters tell of withdrawals of {days.in_words(withdrawn)}, and cannot"
                       " have an earlier date")
-    copy = copy or lists().draw(register, found, parts().draws)
-    words = lists().words(register, found)
+    copy = copy or lists.draw(register, found, parts().draws)
+    words = lists.words(register, found)
     if len(picked) < len(there):
         words = f"{words}, {len(picked)} of {len(there)}"
     return Asked(words, [it for it in there if it in picked], template.template, template.version,
                  day.isoformat(), kind, "double" in form,
-                 withdrawn.isoformat() if withdrawn else "", copy, sets().sender.number)
+                 withdrawn.isoformat() if withdrawn else "", copy, parts().letters.sender.number)
 
 
 def set_of(number: int) -> Set:
     """A set that is there."""
     try:
-        return sets().get(number)
+        return parts().letters.get(number)
     except Refused:
         flask.abort(404)
 
@@ -242,9 +215,10 @@ def set_page(
     return flask.render_template(
         "letters_set.html", it=found, said=said, is_bad=status != 200, template=template_of(found),
         recording=recording(found, day, wrong, sure_of), reason=reason,
-        rests=back.rests(sets(), found) if found.sent else "",
-        has_example=sets().has_example(found), many=len(letters.rows), is_far=is_far(found),
-        may_show=may_show, table=letters, pages=tables.pages("letters.one", number=number),
+        rests=back.rests(parts().letters, found) if found.sent else "",
+        has_example=parts().letters.has_example(found), many=len(letters.rows),
+        is_far=is_far(found), may_show=may_show, table=letters,
+        pages=tables.pages("letters.one", number=number),
         page=tables.paged(letters.rows, flask.request.args.get("page", ""))), status
 
 
@@ -258,7 +232,7 @@ def template_of(found: Set) -> str:
     """By what the letters of a set are made."""
     if found.asked.kind != letters_sets.PDF:
         return "mail merge"
-    return sets().templates.get(found.asked.template, found.asked.version).called
+    return parts().letters.templates.get(found.asked.template, found.asked.version).called
 
 
 def letters_of(number: int) -> list[sqlite3.Row]:
@@ -270,7 +244,8 @@ def letters_of(number: int) -> list[sqlite3.Row]:
 def may_record(found: Set) -> bool:
     """Whether the letters of a set can be recorded as sent."""
     is_there = found.state in (letters_sets.MADE, letters_sets.GONE) and found.made > 0
-    return is_there and not found.sent and not found.is_draft and not sets().has_example(found)
+    is_open = is_there and not found.sent and not found.is_draft
+    return is_open and not parts().letters.has_example(found)
 
 
 def recording(
@@ -282,7 +257,7 @@ def recording(
     if not may_record(found):
         return {}
     about = collections.Counter(it["words"].partition(":")[0] for it in letters_of(found.number))
-    doubled = sets().again(found.number)
+    doubled = parts().letters.again(found.number)
     return {"day": day or days.in_words(min(found.asked.date, today())), "wrong": wrong,
             "sure_of": sure_of, "about": sorted(about.items()),
             "doubled": doubled, "agreed": letters_sets.digest(doubled)}
@@ -295,7 +270,7 @@ def file(number: int) -> Response:
     found = set_of(number)
     # (nobody has the letters by a request for the head alone)
     is_taken = flask.request.method == "GET"
-    path = sets().take(person(), number) if is_taken else sets().file(found)
+    path = parts().letters.take(person(), number) if is_taken else parts().letters.file(found)
     draft = "-draft" if found.is_draft else ""
     stem, _, end = letters_sets.FILES[found.asked.kind].partition(".")
     headers = {"Content-Disposition": f'attachment; filename="{stem}-{number}{draft}.{end}"'}
@@ -308,7 +283,7 @@ def end(number: int) -> Answer:
     """Ends a set, or removes its file."""
     set_of(number)
     try:
-        sets().end(person(), number, flask.request.form.get("standing", ""))
+        parts().letters.end(person(), number, flask.request.form.get("standing", ""))
     except Refused as error:
         return set_page(number, sentence(str(error)), 409)
     return flask.redirect(flask.url_for("letters.show"), 303)
@@ -343,7 +318,7 @@ def record(number: int) -> Answer:
         return set_page(number, f"Nothing was recorded yet: {wording.weekday(day)}, is more than a"
                         " week before today.", 409, "", typed, sure_of=day.isoformat())
     try:
-        sets().record(person(), number, day, numbers.read(count), form.get("agreed", ""))
+        parts().letters.record(person(), number, day, numbers.read(count), form.get("agreed", ""))
     except Twice as error:
         return set_page(number, sentence(str(error)), 409, "", typed,
                         sure_of=form.get("sure_of", ""))
@@ -359,7 +334,7 @@ def take_back(number: int) -> Answer:
     reason = flask.request.form.get("reason", "").strip()
     set_of(number)
     try:
-        back.take_back(sets(), person(), number, reason)
+        back.take_back(parts().letters, person(), number, reason)
     except Refused as error:
         return set_page(number, sentence(str(error)), 400, reason)
     return flask.redirect(flask.url_for("letters.one", number=number), 303)
@@ -373,7 +348,7 @@ def audit(number: int) -> Answer:
     if number not in register.outcomes:
         flask.abort(404)
     try:
-        is_right, said = sets().audits.audit(person(), register, number)
+        is_right, said = parts().letters.audits.audit(person(), register, number)
     except Refused as error:
         return page(sentence(str(error)), 409)
     if not is_right:
@@ -394,7 +369,7 @@ def of_child(number: int) -> Response:
 def text(number: int) -> Answer:
     """The text of a letter, as it was or will be sent."""
     try:
-        found = sets().letter(number)
+        found = parts().letters.letter(number)
     except Refused:
         flask.abort(404)
     return flask.render_template(
@@ -407,7 +382,7 @@ def again(number: int) -> Response:
     """A letter that was sent, as it was."""
     with tempfile.TemporaryDirectory(prefix="admissions-") as room:
         path = os.path.join(room, "letter.pdf")
-        child = sets().as_it_was(number, path)
+        child = parts().letters.as_it_was(number, path)
         with open(path, "rb") as found:
             data = found.read()
     headers = {"Content-Disposition": f'attachment; filename="letter-{child}.pdf"'}

@@ -4,7 +4,7 @@ from register_files import Refused
 from werkzeug.wrappers import Response
 
 from office.core.wording import sentence
-from office.web.frame.guard import needs, person
+from office.web.frame.guard import needs, parts, person
 from office.web.frame.people import READ, TEMPLATES
 from office.web.machinery import numbers
 from office.work import letters_apart
@@ -13,7 +13,6 @@ from office.work.letters_apart import Form, Source
 from .. import sender as letters_sender
 from ..examples import ADDRESS, DAY, EXAMPLES
 from ..sender import FIELDS, Sender, WrongFields
-from .letters import sets
 from .templates import preview_file, templates
 
 screen = flask.Blueprint("letter_sender", __name__, url_prefix="/letters/office")
@@ -22,7 +21,7 @@ Answer = str | Response | tuple[str, int]
 
 def sender() -> Sender:
     """What letters of this application say of the office."""
-    return sets().sender
+    return parts().letters.sender
 
 
 @screen.get("/")

@@ -21,7 +21,6 @@ from .. import versions
 from ..examples import ADDRESS, DAY, EXAMPLES
 from ..sets import PREVIEWS
 from ..versions import Templates, Version
-from .letters import sets
 
 screen = flask.Blueprint("letter_templates", __name__, url_prefix="/letters/templates")
 Answer = str | Response | tuple[str, int]
@@ -31,7 +30,7 @@ MOST_COMPARED, MOST_DIFFERENCES = 2_000, 200
 
 def templates() -> Templates:
     """The templates of this application."""
-    return sets().templates
+    return parts().letters.templates
 
 
 def version_of(number: int) -> Version:
@@ -136,7 +135,8 @@ def preview(source: Source) -> list[int]:
     path = preview_file()
     path.unlink(missing_ok=True)
     # (what is shown before it is saved is never to be sent)
-    source = dataclasses.replace(source, values=sets().sender.values(sets().sender.number))
+    sender = parts().letters.sender
+    source = dataclasses.replace(source, values=sender.values(sender.number))
     return letters_apart.letters(source, [(letter, ADDRESS)], day, Form(True), str(path)).pages
 
 

@@ -17,7 +17,6 @@ from office.core.wording import sentence
 from office.files import book
 from office.files.book import Page
 from office.web.answers import entries as answers
-from office.web.answers.views.answers import all_piles
 from office.web.frame import guard
 from office.web.frame.guard import needs, parts, person
 from office.web.frame.people import READ, RECORD
@@ -232,7 +231,7 @@ def ticked(name: str) -> Answer:
         flask.abort(403)
     meant = [it for child, _, school in chosen
              for it in answers.unanswered(found.register, int(child), school)]
-    piles, who = all_piles(), person().name
+    piles, who = parts().piles, person().name
     there_now = {(it.meant.child, it.meant.school) for it in piles.left(who)}
     try:
         if not meant:

@@ -9,7 +9,6 @@ from register_files import Refused
 
 from office.core.model import Register
 from office.core.wording import sentence, weekday
-from office.web.answers.views import answers
 from office.web.applications.rows import OPEN, WITHDRAWN
 from office.web.applications.tools import tools
 from office.web.frame import guard
@@ -18,8 +17,6 @@ from office.web.frame.guard import SIGNED_IN, needs, parts, person
 from office.web.frame.people import DRAW, NOTES, PEOPLE, READ, RECORD, Person
 from office.web.frame.people import LOTS as OF_LOTS
 from office.web.frame.views import people
-from office.web.letters.sender import Sender
-from office.web.letters.views import letters
 from office.web.machinery import pictures
 from office.web.register import doubts
 from office.web.register.entry_words import Names
@@ -59,8 +56,8 @@ def known(register: Register, draw: Draw | None) -> Known:
     if not person().may(RECORD):
         return found
     return dataclasses.replace(
-        found, untold=letters.lists().untold(register),
-        answers=answers.all_piles().left_of(person().name), rows=tools().staging.count(OPEN),
+        found, untold=parts().letter_lists.untold(register),
+        answers=parts().piles.left_of(person().name), rows=tools().staging.count(OPEN),
         withdrawn=tools().staging.count(WITHDRAWN), of_head=of_head(register))
 
 
@@ -79,7 +76,7 @@ def of_head(register: Register) -> tuple[Task, ...]:
         return ()
     found = list(home.of_people(parts().store.rows(
         "SELECT name, signed_in, is_locked FROM person WHERE kind='person' ORDER BY name")))
-    if register.draws and not Sender(parts().store, parts().history).number:
+    if register.draws and not parts().letters.sender.number:
         found.append(Task("Type the office’s name and address", "Letters have no sender yet.",
                           "Missing", home.WAITING, "letter_sender.show"))
     found += home.of_copies(parts().copies.behind())
