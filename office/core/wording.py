@@ -2,9 +2,7 @@
 import dataclasses
 import datetime
 import re
-from collections.abc import Mapping
-
-import flask
+from collections.abc import Callable, Mapping
 
 from . import criteria, days, model, rules
 from .model import Draw, Place, Preference, Register
@@ -19,6 +17,8 @@ WRONG_DECLINE = ("A decline of the wrong child is put right only by a restore of
 REFUSAL = re.compile(rf"(?<=\()({'|'.join(rules.RULES['refusals'])})(?=\))")
 # the name of an account at the begin of a text
 ACCOUNT = re.compile(r"[a-z0-9][a-z0-9._@+-]*(?=[ ,;:'’]|$)")
+# whether a name is that of an account, which the application says that runs
+is_account: Callable[[str], bool] = frozenset[str]().__contains__
 # what came of a school of a child's list
 STATES = {
     model.LEFT: "declined, offer withdrawn, or left", model.BEFORE: "before the first round",
@@ -27,19 +27,12 @@ STATES = {
 KINDS = {model.OFFERED: "offered", model.ACCEPTED: "accepted", model.PLAN: "by a plan"}
 
 
-def is_account(text: str) -> bool:
-    """Whether a text begins with the name of an account of this application."""
-    found, parts = ACCOUNT.match(text), None
-    if found and flask.has_app_context():
-        parts = flask.current_app.extensions.get("office")
-    return found is not None and parts is not None and parts.people.has(found[0])
-
-
 def sentence(text: str) -> str:
     """A text that begins with a capital and ends with a stop. The name of an account stays as it is
     written.
     """
-    text = text if is_account(text) else text[:1].upper() + text[1:]
+    found = ACCOUNT.match(text)
+    text = text if found and is_account(found[0]) else text[:1].upper() + text[1:]
     return text if text.endswith((".", "?", "!")) or not text else f"{text}."
 
 

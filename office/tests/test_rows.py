@@ -5,6 +5,8 @@ from typing import Any
 import pytest
 
 from office.web.answers.entries import Meant
+from office.web.applications.files import Note
+from office.web.applications.gazetteer_file import Given
 from office.web.letters.sets import Asked
 from office.web.register.rows import of_fields, of_json
 from office.web.season_end.end import End
@@ -19,6 +21,9 @@ def test_a_field_that_is_no_more_is_left_out() -> None:
     found = of_json(Asked, json.dumps({**ASKED, "envelope": "window", "sender": 4}))
     assert found == Asked(**ASKED, sender=4)
     assert of_json(End, '{"version": 2, "seal": "x"}') == End(version=2)
+    assert of_fields(Note, {"text": "odd", "column": "day", "at": 3}) == Note("day", "odd")
+    assert of_json(Given, '{"name": "a.csv", "size": 3, "seal": "x"}') == Given(
+        "a.csv", "", 3, "", "")
 
 
 @pytest.mark.parametrize("name, empty", [

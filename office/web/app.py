@@ -68,6 +68,7 @@ def create(config: Config) -> flask.Flask:
     parts = Parts(config)
     gc.set_threshold(OBJECTS, *gc.get_threshold()[1:])
     app.extensions["office"] = parts
+    wording.is_account = is_account
     is_secure = config.origin.startswith("https:")
     app.url_map.converters["int"] = numbers.Number
     app.secret_key = authority.cookie_key(parts.store)
@@ -113,6 +114,11 @@ def at_origin(inner: Callable[..., Any], origin: str) -> Callable[..., Any]:
     """An application that is found at an address: the site before it ends TLS."""
     scheme = origin.partition(":")[0]
     return lambda environ, start: inner({**environ, "wsgi.url_scheme": scheme}, start)
+
+
+def is_account(name: str) -> bool:
+    """Whether a name is that of an account of the application that answers now."""
+    return flask.has_app_context() and guard.parts().people.has(name)
 
 
 class FileName(werkzeug.routing.BaseConverter):

@@ -18,6 +18,7 @@ from register_files import OWNER_ALONE, Refused
 from office.core import texts
 from office.core.turns import Turn
 from office.web.register.history import History, now
+from office.web.register.rows import of_json
 from office.web.register.store import Store
 
 from . import gazetteer_rows, points
@@ -161,7 +162,7 @@ class Gazetteer:
         """The file whose columns are not chosen yet, if there is one."""
         if not (self.folder / GIVEN).exists():
             return None
-        return Given(**json.loads((self.folder / ABOUT).read_text("utf-8")))
+        return of_json(Given, (self.folder / ABOUT).read_text("utf-8"))
 
     def first_rows(self, given: Given) -> list[Cells]:
         """The first rows of that file."""

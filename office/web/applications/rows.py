@@ -10,6 +10,7 @@ from register_files import Refused
 
 from office.core import fields, texts
 from office.files import inputs
+from office.web.register.rows import of_fields
 
 from . import points
 from .files import Note
@@ -90,7 +91,7 @@ class File:
 
 def staged_of(row: sqlite3.Row) -> Staged:
     """A row of the store."""
-    notes = tuple(Note(**it) for it in json.loads(row["notes"]))
+    notes = tuple(of_fields(Note, it) for it in json.loads(row["notes"]))
     return Staged(
         row["id"], row["file"], row["name"], bool(row["is_form"]), bool(row["is_uk"]),
         row["number"], whole(json.loads(row["cells"])), json.loads(row["others"]), notes,

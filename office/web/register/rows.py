@@ -12,13 +12,13 @@ def of_fields(kind: type[T], found: Mapping[str, Any]) -> T:
     """A value of a dataclass: without the fields that it no longer has; one that it did not have
     yet, and for which it has no default, is empty.
     """
-    hints = typing.get_type_hints(kind)
     values: dict[str, Any] = {}
     for it in dataclasses.fields(typing.cast(Any, kind)):
         if it.name in found:
             values[it.name] = found[it.name]
         elif it.default is it.default_factory is dataclasses.MISSING:
-            values[it.name] = (typing.get_origin(hints[it.name]) or hints[it.name])()
+            hint = typing.get_type_hints(kind)[it.name]
+            values[it.name] = (typing.get_origin(hint) or hint)()
     return kind(**values)
 
 
