@@ -59,6 +59,7 @@ class Machine(try_machine.Machine):
         # (a test wants what came of a step)
         found.extensions["office"].following.wait = 600.0
         found.extensions["office"].restoring.wait = 600.0
+        found.extensions["office"].copying.wait = 600.0
         found.extensions["office"].end.steps.wait = 600.0
         try:
             yield Site(found)

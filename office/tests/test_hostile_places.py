@@ -117,7 +117,7 @@ TEXTS: dict[str, set[str]] = {
     "restores.step": STEP,
     "season_end.retention": END,
     "season_end.copy": END | {"read"},
-    "season_end.make_archive": END,
+    "season_end.archive": END,
     "season_end.take": END | {"kept"},
     "season_end.day": {"day", "months", "reason", "seen"},
     "season_end.ask": END | {"name"},

@@ -966,7 +966,7 @@ def away_fixture(tmp_path: pathlib.Path) -> Iterator[Site]:
 
 def in_state(office: Site, state: str, *entries: Entry) -> int:
     """A restore of the copy that hal has begun, brought to a state."""
-    number: int = office.parts.restores.added(HAL, 1, None, entries, {})
+    number: int = office.parts.restores.added(HAL, 1, None, entries)
     with office.parts.store.writing() as db:
         db.execute("UPDATE restore SET state=? WHERE id=?", (state, number))
     return number
@@ -1037,6 +1037,34 @@ def test_an_import_whose_rows_are_in_the_table_again_is_not_sent_later(away: Sit
     may = away.parts.restores.later(away.parts.restores.get(number))
     assert may == {entries[1].number: "", entries[0].number: (
         "its applications are in the table of Applications again: store them there")}
+
+
+def test_a_copy_that_takes_long_is_seen_to_be_made(
+    away: Site, monkeypatch: pytest.MonkeyPatch
+) -> None:
+    """By all who look, and then that it was not; nobody begins another one meanwhile."""
+    held = threading.Event()
+
+    def slow(*_: object) -> int:
+        held.wait(60)
+        raise Refused("there is no copy: the machine has not answered")
+
+    monkeypatch.setattr(away.parts.copies, "make", slow)
+    away.parts.copying.wait = 0.05
+    hal, rita = away.browser("hal", "head"), away.browser("rita", "reader")
+    assert hal.post("/copies/", {"purpose": "a try"}).location.endswith("/copies/")
+    for it in (hal, rita):
+        page = it.get("/copies/").text
+        assert "begun by hal: a copy is made or tested" in page and "Copy now" not in page
+        assert 'data-running="/copies/"' in page
+    found = hal.post("/copies/1/test")
+    assert found.status_code == 409 and "a step is under way, which hal began" in found.text
+    held.set()
+    job = away.parts.copying.last
+    assert job and job.is_over.wait(60)
+    page = hal.get("/copies/").text
+    assert "The last copy was not made or tested: There is no copy" in page
+    assert "Copy now" in page and "data-running" not in page
 
 
 def test_no_copy_is_made_of_a_season_that_is_deleted(away: Site) -> None:

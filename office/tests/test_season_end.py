@@ -257,7 +257,7 @@ def see_days(office: Site, head: Person) -> None:
     """The day is typed, with a reason; the lists are over then, and the notice is kept."""
     soonest = "IT support must have time to object: choose 24 January 2026"
     for day, reason, said in (
-        ("x", WHY, "a day as 31 January 2027"), ("31/12/2025", WHY, "The lists end on 31 December"),
+        ("x", WHY, "A day as 31 January 2027"), ("31/12/2025", WHY, "The lists end on 31 December"),
         ("23/1/2026", WHY, soonest), ("24/1/2026", "", "Say why, in 1 to 300 characters"),
         ("24/1/2026", "a\u202eb", "Say why"),
     ):
@@ -491,7 +491,7 @@ def test_a_season_does_not_end_within_a_restore(alone: Parts) -> None:
     with alone.store.writing() as db:
         db.execute("INSERT INTO copy (number, purpose, asked) VALUES (1, 'a try', '')")
     assert season_end.in_progress(alone) == []
-    alone.restores.added(HAL, 1, None, (), {})
+    alone.restores.added(HAL, 1, None, ())
     stops = season_end.in_progress(alone)
     assert [(it.title, it.is_stop) for it in stops] == [("A restore in progress", True)]
     steps: list[Callable[[], None]] = [
@@ -700,6 +700,38 @@ def test_a_deletion_that_was_killed_goes_on(
         assert [it.what for it in office.parts.history.entries] == ["deleted the season",
                                                                     "signed in"]
         assert "was deleted" in jane.page()
+
+
+def test_a_deletion_that_takes_long_is_seen_to_run(
+    tmp_path: pathlib.Path, served_town: str, monkeypatch: pytest.MonkeyPatch
+) -> None:
+    """By all who look; and no other step is begun meanwhile."""
+    begun, held, forget = threading.Event(), threading.Event(), SeasonEnd.forget
+
+    def slow(it: SeasonEnd) -> list[str]:
+        begun.set()
+        held.wait(60)
+        return forget(it)
+
+    monkeypatch.setattr(SeasonEnd, "forget", slow)
+    with ended_season(tmp_path, served_town, TODAY, monkeypatch) as office:
+        head, jane = Person(office, "hal", "head"), Person(office, "jane", "officer")
+        head.press("copy")
+        head.press("archive/file", 200, kept=WHERE)
+        head.press("day", day="24/1/2026", reason=WHY)
+        office.parts.end.today = lambda: DAY
+        head.press("ask", name=NAME)
+        office.parts.end.steps.wait = 0.05
+        jane.press("confirm", name=NAME)
+        assert begun.wait(60)
+        page = head.page()
+        assert "begun by jane: the season is deleted" in page and "Go on with" not in page
+        assert 'id="end" class="parts" data-running="/season-end/"' in page
+        assert "A step is under way, which jane began" in head.press("go-on", 409).text
+        held.set()
+        job = office.parts.end.steps.last
+        assert job and job.is_over.wait(60)
+        assert "was deleted" in jane.page() and "data-running" not in jane.page()
 
 
 def test_letters_previews_and_trials_end_with_the_season(

@@ -20,6 +20,7 @@ from .letters.sets import FOLDER, Sets
 from .letters.whom import Lists
 from .machinery.asked import Asked
 from .machinery.jobs import Jobs
+from .machinery.step_jobs import StepJobs
 from .register.desk import Desk
 from .register.history import History
 from .register.store import Store
@@ -80,6 +81,7 @@ class Parts:
             self.store, self.history, self.desk, self.jobs, self.copies, self.draws)
         self.restoring = Restoring(self.restores, self.jobs)
         self.copy_tests = CopyTests(self.copies, self.draws)
+        self.copying = StepJobs("copy", self.jobs)
         self.letters = Sets(self.store, self.history, self.desk, self.copies, self.draws,
                             config.folder / FOLDER, self.jobs)
         self.letter_lists = Lists(self.store, self.history)

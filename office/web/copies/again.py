@@ -10,6 +10,7 @@ from office.web.machinery.outbox import WAITS, Outbox, Request
 from office.web.register.desk import again_of
 from office.web.register.history import Entry
 
+from .rehearsal import WOULD
 from .terms import LATER, REFUSED, Again, Restore
 
 
@@ -30,6 +31,13 @@ class Sending(Outbox[Again]):
         """What the history has of it when it is sent again."""
         return again_of(self.entry(it))
 
+    def choose_first(self, restore: Restore, came: Mapping[int, str]) -> None:
+        """Chooses those that would be stored; what would not is for later."""
+        with self.store.writing():
+            for it in self.rows(restore):
+                if said := came.get(it.entry, ""):
+                    self.mark(it, said == WOULD, said, WAITS if said == WOULD else LATER)
+
     def choose(self, restore: Restore, chosen: Mapping[int, str]) -> None:
         """Keeps which of them are to be sent, and what would become of each. What is for later
         stays so unless it is chosen.
@@ -44,11 +52,11 @@ class Sending(Outbox[Again]):
             if it.entry in chosen or it.state == WAITS:
                 self.mark(it, it.entry in chosen, "" if it.entry in chosen else it.said)
 
-    def mark(self, it: Again, is_chosen: bool, said: str) -> None:
+    def mark(self, it: Again, is_chosen: bool, said: str, state: str = WAITS) -> None:
         """Keeps whether one is to be sent."""
         with self.store.writing() as db:
             db.execute("UPDATE sending SET about=json_set(about, '$.is_chosen', ?), state=?, said=?"
-                       " WHERE number=?", (int(is_chosen), WAITS, said, it.number))
+                       " WHERE number=?", (int(is_chosen), state, said, it.number))
 
     def send_chosen(self, who: Person, restore: Restore, is_closed: bool) -> bool:
         """Sends those that are chosen and wait, and returns whether that is all, as it is unless

@@ -5,7 +5,7 @@ leaves a restore in the state before the step or after it.
 import contextlib
 import datetime
 import sqlite3
-from collections.abc import Callable, Iterable, Iterator, Mapping, Sequence
+from collections.abc import Callable, Iterable, Iterator
 
 from register_files import Refused
 
@@ -31,7 +31,6 @@ from . import draws as restores_draws
 from . import since as restores_since
 from .again import Sending
 from .copies import RESTORE, Copies, is_same
-from .rehearsal import WOULD
 from .since import Difference
 from .terms import (
     ASKED, BROUGHT, CLOSED, CONFIRMED, COPIED, GIVEN_UP, LATER, OPENED, REFUSED, RESTORED,
@@ -116,9 +115,8 @@ class Restores(StepStore[Restore]):
     # the steps before the register is touched
 
     def begin(self, who: Person, copy: int, draw: int | None = None) -> int:
-        """Closes the register for all others to restore a copy, which must be whole. What is in
-        flight is ended first. Where a draw was wrong all that came since is chosen but for draws,
-        and for what the copy refuses: that rests on the draw, and is for later.
+        """Closes the register for all others to restore a copy, which must be whole, and returns
+        the number of the restore. What is in flight is ended first.
         """
         with self.lock, self.desk.lock:
             if other := self.present():
@@ -132,31 +130,30 @@ class Restores(StepStore[Restore]):
             self.desk.settle()
             self.desk.now()
             found = self.since(copy)
-            came = self.tried(copy, found) if draw else {}
             self.history.add(who.name, BEGAN, {"copy": copy, **({"draw": draw} if draw else {})})
-            return self.added(who, copy, draw, found, came)
+            return self.added(who, copy, draw, found)
 
-    def tried(self, copy: int, found: Sequence[Entry]) -> dict[int, str]:
-        """What would become of each entry that can be sent again, in words."""
-        return rehearsal.tried(
-            self.copies.path(copy), [it for it in found if not restores_since.why_not(it)])
-
-    def added(self, who: Person, copy: int, draw: int | None, found: Iterable[Entry],
-              came: Mapping[int, str]) -> int:
-        """Adds a restore, and returns its number. `came` is what would become of entries."""
+    def added(self, who: Person, copy: int, draw: int | None, found: Iterable[Entry]) -> int:
+        """Adds a restore with what came since its copy, and returns its number."""
         with self.store.writing() as db:
             number = db.execute(
                 "INSERT INTO restore (copy, state, version, draw) VALUES (?, ?, 0, ?)",
                 (copy, CLOSED, draw)).lastrowid or 0
             for it in found:
-                said = came.get(it.number, "")
-                is_chosen = said == WOULD
-                state = LATER if said and not is_chosen else WAITS
-                about = {"is_chosen": int(is_chosen)}
-                self.sending.put(number, it.number, about, None, state, said)
+                self.sending.put(number, it.number, {"is_chosen": 0})
             with self.moving(self.get(number), who, CLOSED):
                 pass
         return number
+
+    def choose_first(self, number: int) -> None:
+        """Where a draw was wrong, chooses all that came since but for draws, and for what the copy
+        refuses: that rests on the draw, and is for later.
+        """
+        with self.step(number, self.get(number).version, CLOSED) as found:
+            entries = map(self.sending.entry, self.sending.rows(found))
+            self.sending.choose_first(found, rehearsal.tried(
+                self.copies.path(found.copy),
+                [it for it in entries if not restores_since.why_not(it)]))
 
     def bring(
         self, who: Person, copy: int, name: str, since: datetime.datetime, said: str = ""

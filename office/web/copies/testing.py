@@ -31,8 +31,8 @@ class CopyTests:
     def __init__(self, copies: Copies, draws: Draws) -> None:
         self.copies, self.draws, self.store = copies, draws, copies.store
 
-    def test(self, who: Person, number: int) -> bool:
-        """Tests a copy, keeps what that found, and returns whether all is right."""
+    def test(self, who: Person, number: int) -> None:
+        """Tests a copy, and keeps what that found."""
         self.copies.get(number)
         found = self.found(number)
         self.draws.history.add(who.name, "tested a copy", {
@@ -40,7 +40,6 @@ class CopyTests:
         with self.store.writing() as db:
             db.execute("UPDATE copy SET tested=?, test=? WHERE number=?",
                        (now(), json.dumps(found), number))
-        return not found["wrong"]
 
     def found(self, number: int) -> dict[str, Any]:
         """What a test finds: in words, what is wrong, and the lines of the audit."""

@@ -276,8 +276,8 @@ class SeasonEnd:
         text = self.parts.store.setting(RETENTION)
         return int(text) if text else None
 
-    def set_months(self, who: Person, text: str) -> None:
-        """Says for how many months the office keeps a season."""
+    def set_months(self, who: Person, _seen: int, text: str) -> None:
+        """Says for how many months the office keeps a season, whatever was done meanwhile."""
         months = numbers.read(text.strip())
         if not 0 <= months <= MOST_MONTHS:
             raise WrongField("months", f"a whole number from 0 to {MOST_MONTHS}")
@@ -382,9 +382,9 @@ class SeasonEnd:
             self.record(who, "confirmed the deletion of the season", digest=found.digest,
                         asked_by=found.asked_by, counts=counts)
             self.store(found, confirmed_by=who.name, phase=DELETING, counts=counts)
-        self.go_on(found.version + 1)
+        self.go_on(who, found.version + 1)
 
-    def go_on(self, seen: int) -> None:
+    def go_on(self, _who: Person, seen: int) -> None:
         """Does what a confirmed deletion has left to do: each part may have been done before."""
         with self.turn(seen, DELETING) as found, self.parts.desk.lock:
             assert found.date

@@ -12,13 +12,13 @@ from office.core import days
 from office.core.model import Register
 from office.core.wording import day_of, moment, sentence
 from office.web.frame.guard import needs, parts, person
-from office.web.frame.people import CONFIRM, END
+from office.web.frame.people import CONFIRM, END, Person
 from office.web.machinery import numbers
 from office.web.rounds import second as draws_second
 from office.web.rounds.second import Second
 
 from . import end as season_end
-from .end import DELETED, DELETING, End, WrongField
+from .end import DELETED, DELETING, End, SeasonEnd, WrongField
 
 screen = flask.Blueprint("season_end", __name__, url_prefix="/season-end")
 Answer = str | Response | tuple[str, int]
@@ -121,34 +121,43 @@ def refused(error: Refused) -> Answer:
     return page(said, 409)
 
 
-def done(step: Callable[[], object]) -> Answer:
-    """Does a step, and shows how far it is then, or what is wrong."""
-    try:
-        step()
-    except Refused as error:
-        return refused(error)
-    return flask.redirect(flask.url_for("season_end.show"), 303)
+def set_day(end: SeasonEnd, who: Person, version: int, text: str, reason: str) -> None:
+    """Sets the day of deletion as it is typed."""
+    date = day_of(text)
+    if date is None:
+        raise WrongField("day", WRONG_DAY)
+    end.set_day(who, version, date, reason)
 
 
-def lasting(step: Callable[[], None]) -> Answer:
-    """Does a step that may last, and shows how far it is, or that it runs."""
-    return done(lambda: parts().end.steps.begin(person(), 0, step))
+# the steps by their requests: who may do each, what it does, and the fields that it is asked with.
+# The second person's are all that an office needs to end what the first one cannot go on with
+STEPS: dict[str, tuple[str, Callable[..., None], tuple[str, ...]]] = {
+    "copy": (END, SeasonEnd.copy_and_archive, ("read",)),
+    "archive": (END, SeasonEnd.make_archive, ()),
+    "retention": (END, SeasonEnd.set_months, ("months",)),
+    "day": (END, set_day, ("day", "reason")),
+    "ask": (END, SeasonEnd.ask, ("name",)),
+    "take-back": (CONFIRM, SeasonEnd.take_back, ()),
+    "confirm": (CONFIRM, SeasonEnd.confirm, ("name", "shown")),
+    "go-on": (CONFIRM, SeasonEnd.go_on, ()),
+}
 
 
-@screen.post("/copy")
-@needs(END)
-def copy() -> Answer:
-    """Makes the last copy, and the archive with it."""
-    end, who, version, read = parts().end, person(), seen(), typed("read")
-    return lasting(lambda: end.copy_and_archive(who, version, read))
+def view_of(step: Callable[..., None], fields: tuple[str, ...]) -> Callable[[], Answer]:
+    """The view that does a step, and shows how far it is, that it runs, or what is wrong."""
+    def view() -> Answer:
+        end, who, given = parts().end, person(), (seen(), *map(typed, fields))
+        try:
+            end.steps.begin(who, 0, lambda: step(end, who, *given))
+        except Refused as error:
+            return refused(error)
+        return flask.redirect(flask.url_for("season_end.show"), 303)
+    return view
 
 
-@screen.post("/archive")
-@needs(END)
-def make_archive() -> Answer:
-    """Makes the archive."""
-    end, who, version = parts().end, person(), seen()
-    return lasting(lambda: end.make_archive(who, version))
+for name, (right, does, asked) in STEPS.items():
+    screen.add_url_rule(f"/{name}", name.replace("-", "_"), needs(right)(view_of(does, asked)),
+                        methods=["POST"])
 
 
 @screen.post("/archive/file")
@@ -161,50 +170,3 @@ def take() -> Answer:
         return refused(error)
     return flask.send_file(path, mimetype="application/zip", as_attachment=True,
                            download_name=path.name)
-
-
-@screen.post("/retention")
-@needs(END)
-def retention() -> Answer:
-    """For how long the office keeps a season."""
-    return done(lambda: parts().end.set_months(person(), typed("months")))
-
-
-@screen.post("/day")
-@needs(END)
-def day() -> Answer:
-    """Sets the day of deletion."""
-    found = day_of(typed("day"))
-    if found is None:
-        return page("", 422, {"day": WRONG_DAY})
-    date = found
-    return done(lambda: parts().end.set_day(person(), seen(), date, typed("reason")))
-
-
-@screen.post("/ask")
-@needs(END)
-def ask() -> Answer:
-    """Asks for the deletion."""
-    return done(lambda: parts().end.ask(person(), seen(), typed("name")))
-
-
-@screen.post("/take-back")
-@needs(CONFIRM)
-def take_back() -> Answer:
-    """Takes it back."""
-    return done(lambda: parts().end.take_back(person(), seen()))
-
-
-@screen.post("/confirm")
-@needs(CONFIRM)
-def confirm() -> Answer:
-    """Confirms the deletion, as a second person."""
-    return done(lambda: parts().end.confirm(
-        person(), seen(), typed("name"), flask.request.form.get("shown", "")))
-
-
-@screen.post("/go-on")
-@needs(CONFIRM)
-def go_on() -> Answer:
-    """Goes on with a deletion that was confirmed and not ended."""
-    return done(lambda: parts().end.go_on(seen()))

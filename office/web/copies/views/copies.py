@@ -13,6 +13,7 @@ from office.web.machinery import numbers
 from office.web.rounds.terms import RESTORED
 
 from ..copies import Copy, words_of
+from .restores import page as restore_page
 
 screen = flask.Blueprint("copies", __name__, url_prefix="/copies")
 Answer = str | Response | tuple[str, int]
@@ -21,14 +22,17 @@ BY_HAND = "by hand"
 
 
 def list_page(reason: str = "", status: int = 200, said: str = "", purpose: str = "") -> Answer:
-    """All copies, and the restores."""
-    found = parts()
+    """All copies, and the restores; and that a copy is made or tested, or was not."""
+    # (before the copies are read: what ends meanwhile is among them)
+    work, found = parts().copying.under_way(), parts()
+    if not work and (failed := found.copying.refused(0)):
+        reason = reason or f"The last copy was not made or tested: {sentence(failed)}"
     undone = {it: draw for draw in found.draws.listed() if draw.state == RESTORED
               for it in (draw.before, draw.after) if it}
     return flask.render_template(
         "copies.html", copies=found.copies.listed(), restores=found.restores.listed(),
         present=found.restores.present(), draw=found.draws.present(), reason=reason, said=said,
-        most_purpose=MOST_PURPOSE, purpose=purpose, undone=undone), status
+        most_purpose=MOST_PURPOSE, purpose=purpose, undone=undone, work=work), status
 
 
 def found_copy(number: int) -> Copy:
@@ -45,6 +49,8 @@ def show() -> Answer:
     """All copies, with what was done before."""
     made, tested = (numbers.read(flask.request.args.get(it, "")) for it in ("made", "tested"))
     copy = next((it for it in parts().copies.listed() if it.number == max(made, tested)), None)
+    if parts().copying.under_way():
+        return list_page()
     if copy is not None and made > 0:
         return list_page(said=f"Copy {made} is made, and compared with the register.")
     if copy is not None and copy.tested:
@@ -58,16 +64,18 @@ def show() -> Answer:
 def make() -> Answer:
     """Makes a copy now."""
     purpose = flask.request.form.get("purpose", "").strip()
+    who, copies, made = person(), parts().copies, list[int]()
     try:
         if len(purpose) > MOST_PURPOSE or not purpose.isprintable():
             raise Refused(f"the purpose is one line of up to {MOST_PURPOSE} characters")
         if said := parts().end.closed():
             raise Refused(said)
         guard.record("made a copy", purpose=purpose or BY_HAND)
-        number = parts().copies.make(purpose or BY_HAND, person().name)
+        parts().copying.begin(
+            who, 0, lambda: made.append(copies.make(purpose or BY_HAND, who.name)))
     except (Refused, sqlite3.Error) as error:
         return list_page(sentence(words_of(error)), 409, purpose=purpose)
-    return flask.redirect(flask.url_for("copies.show", made=number), 303)
+    return flask.redirect(flask.url_for("copies.show", made=next(iter(made), None)), 303)
 
 
 @screen.post("/<int:number>/test")
@@ -75,8 +83,9 @@ def make() -> Answer:
 def test(number: int) -> Answer:
     """Tests a copy."""
     found_copy(number)
+    who, tests = person(), parts().copy_tests
     try:
-        parts().copy_tests.test(person(), number)
+        parts().copying.begin(who, 0, lambda: tests.test(who, number))
     except (Refused, sqlite3.Error, OSError) as error:
         return list_page(sentence(f"copy {number} was not tested: {words_of(error)}"), 409)
     return flask.redirect(flask.url_for("copies.show", tested=number), 303)
@@ -110,9 +119,15 @@ def draw_of(text: str, copy: int) -> int | None:
 def begin(number: int) -> Answer:
     """Closes the register to restore a copy."""
     found_copy(number)
+    who, restores = person(), parts().restores
     try:
         draw = draw_of(flask.request.form.get("draw", ""), number)
-        made = parts().restores.begin(person(), number, draw)
+        made = restores.begin(who, number, draw)
     except (Refused, sqlite3.Error) as error:
         return begin_page(number, sentence(f"nothing was closed: {words_of(error)}"), 409)
+    try:
+        if draw:
+            parts().restoring.begin(who, made, lambda: restores.choose_first(made))
+    except Refused as error:
+        return restore_page(made, sentence(f"nothing is ticked yet: {error}"), 409)
     return flask.redirect(flask.url_for("restores.one", number=made), 303)

@@ -12,7 +12,7 @@ from werkzeug.wrappers import Response
 from office.core.model import Register
 from office.core.wording import sentence
 from office.web.frame.guard import needs, parts, person
-from office.web.frame.people import CONFIRM, DRAW, READ, Person
+from office.web.frame.people import CONFIRM, DRAW, READ
 from office.web.machinery import numbers
 from office.web.machinery import steps as step_store
 from office.web.rounds import again as draws_again
@@ -232,26 +232,16 @@ def is_bare(number: int) -> bool:
         since.why_not(it, restore.is_brought) for it in entries)
 
 
-# what a step is asked with: who does it, the number of the restore, the version that was seen, and
-# the entries that are ticked
-Asked = tuple[Person, int, int, set[int]]
 # the steps of who may restore; and those of who may confirm it. The second are all that an office
 # needs to end a restore when the person who began it can do nothing more
-Step = Callable[[Restores, Asked], None]
+Step = Callable[..., None]
 OWN: dict[str, Step] = {
-    "ask": lambda it, asked: it.ask(*asked),
-    "choose": lambda it, asked: it.choose_again(*asked[:3]),
-    "later": lambda it, asked: it.send_later(*asked),
-}
+    "ask": Restores.ask, "choose": Restores.choose_again, "later": Restores.send_later}
 SECOND: dict[str, Step] = {
-    "confirm": lambda it, asked: it.confirm(*asked[:3]),
-    "copy": lambda it, asked: it.copy(*asked[:3]),
-    "restore": lambda it, asked: it.restore(*asked[:3]),
-    "send": lambda it, asked: it.send_again(*asked[:3]),
-    "open": lambda it, asked: it.open(*asked[:3]),
-    "give-up": lambda it, asked: it.give_up(*asked[:3]),
-}
-KEEPS_TICKS = ("ask", "later")
+    "confirm": Restores.confirm, "copy": Restores.copy, "restore": Restores.restore,
+    "send": Restores.send_again, "open": Restores.open, "give-up": Restores.give_up}
+# those that are asked with the entries that are ticked
+WITH_TICKS = ("ask", "later")
 
 
 def done(number: int, steps: dict[str, Step], name: str) -> Answer:
@@ -263,12 +253,13 @@ def done(number: int, steps: dict[str, Step], name: str) -> Answer:
         flask.abort(404 if name not in steps else 400)
     if name == "ask" and is_bare(number):
         return page(number, "", 409, set(), True)
-    restores, step, asked = parts().restores, steps[name], (person(), number, seen, chosen_now())
+    restores, who, chosen = parts().restores, person(), chosen_now()
+    ticks = (chosen,) if name in WITH_TICKS else ()
     try:
-        parts().restoring.begin(person(), number, lambda: step(restores, asked))
+        parts().restoring.begin(who, number, lambda: steps[name](
+            restores, who, number, seen, *ticks))
     except (Refused, sqlite3.Error) as error:
-        chosen = chosen_now() if name in KEEPS_TICKS else None
-        return page(number, sentence(words_of(error)), 409, chosen)
+        return page(number, sentence(words_of(error)), 409, chosen if ticks else None)
     return flask.redirect(flask.url_for("restores.one", number=number), 303)
 
 
