@@ -33,6 +33,11 @@ MONTHS = (
 NAMED_MONTH = r"([0-9]{1,2})(?:st|nd|rd|th)?[-/. ]+([A-Za-z]{3,9})\.?,?[-/. ]+([0-9]{4})"
 
 
+def today() -> datetime.date:
+    """The day of today, by the clock of this machine."""
+    return datetime.date.today()
+
+
 def answer_by(since: datetime.date) -> datetime.date:
     """The last day on which a family may answer an offer, or a reminder, of a day."""
     return since + NOTICE

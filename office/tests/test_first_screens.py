@@ -4,14 +4,13 @@ for them, what comes later, and what was done. That of the supervisor in a draw 
 import datetime
 import pathlib
 import re
-import types
 from collections.abc import Iterator
 
 import pytest
 from applications import ROUND, Site, office_over, town
 from pages import Page, press, tasks
 
-from office.web.frame import guard
+from office.core import days
 from office.web.frame.people import Person
 from office.web.lists.views import season
 
@@ -27,18 +26,8 @@ def office_fixture(tmp_path: pathlib.Path) -> Iterator[Site]:
 
 def on(patch: pytest.MonkeyPatch, day: str) -> None:
     """Makes a day today."""
-    found = datetime.date.fromisoformat(day)
-
-    class Day(datetime.date):
-        """A calendar of the test."""
-
-        @classmethod
-        def today(cls) -> "Day":
-            """The day of the test."""
-            return cls.fromisoformat(day)
-
-    patch.setattr(season, "today", lambda: found)
-    patch.setattr(guard, "datetime", types.SimpleNamespace(date=Day))
+    for it in (season, days):
+        patch.setattr(it, "today", lambda: datetime.date.fromisoformat(day))
 
 
 def numbers(text: str) -> dict[str, str]:

@@ -15,6 +15,7 @@ import pytest
 from applications import ORIGIN, ROUND, Answer, Browser, Program, Site, office_over, town
 from draw_site import HAL, MISTYPED, SUP, Machine, begun, brought, typed
 
+from office.core import days
 from office.web.frame import guard
 
 HEAD, OFFICER, SUPERVISOR, READER = "head", "officer", "supervisor", "reader"
@@ -222,15 +223,6 @@ def test_heads_of_schools_see_a_round_from_its_day_on_and_audited(
     """Families hear of a draw first, and only of an audited one."""
     alpha, jane = office.browser("alpha", SCHOOL), office.browser("jane", OFFICER)
     today = ["2025-03-02"]
-
-    class Day(datetime.date):
-        """A calendar of the test."""
-
-        @classmethod
-        def today(cls) -> "Day":
-            """The day of the test."""
-            return cls.fromisoformat(today[0])
-
     programs = {alpha: office.program("of.alpha", SCHOOL), jane: office.program("of.jane")}
 
     def statuses(browser: Browser) -> set[int]:
@@ -238,7 +230,7 @@ def test_heads_of_schools_see_a_round_from_its_day_on_and_audited(
                 programs[browser].get("/school/A/waiting").status_code}
 
     with monkeypatch.context() as patch:
-        patch.setattr(guard, "datetime", types.SimpleNamespace(date=Day))
+        patch.setattr(days, "today", lambda: datetime.date.fromisoformat(today[0]))
         assert (statuses(alpha), statuses(jane)) == ({403}, {200})
         assert "3 March 2025" in alpha.get("/schools/A").text
         today[0] = "2025-03-03"

@@ -12,6 +12,7 @@ from typing import Any
 
 from register_files import Refused
 
+from office.core.days import today
 from office.core.kinds import NOTICES
 from office.core.model import Register
 from office.web.copies.copies import Copies
@@ -180,7 +181,7 @@ class Notices(Outbox[Item]):
     def write(self, who: Person, number: int) -> None:
         """Has the letters of a row made. What is recorded stays so where they cannot be."""
         try:
-            letters_rows.ask(self.letters, self.lists, who, number, datetime.date.today())
+            letters_rows.ask(self.letters, self.lists, who, number, today())
         except Refused as error:
             raise Refused(f"The letters were not made: {error}.") from error
 

@@ -2,7 +2,6 @@
 from __future__ import annotations
 
 import contextlib
-import datetime
 import json
 import os
 import re
@@ -383,7 +382,7 @@ def hidden() -> str:
     draw = parts().draws.present()
     if draw is not None and draw.state in SENT:
         return "the lists are shown again once the draw is audited"
-    today = datetime.date.today()
+    today = days.today()
     if to_come := [it.day for it in parts().desk.register().draws if it.day > today]:
         return f"the lists are shown again on {days.in_words(max(to_come))}, the day of the offers"
     return ""

@@ -277,7 +277,7 @@ def of_list(register: Register, whom: Whom, words: Mapping[int, str]) -> list[in
     if name not in worklists.NAMES:
         raise Refused("there is no such list")
     given = MultiDict(urllib.parse.parse_qsl(options))
-    found, values = worklists.options(register, name, given, datetime.date.today())
+    found, values = worklists.options(register, name, given, days.today())
     if not worklists.is_whole(name, found, values):
         raise Refused("choose what the list is of first")
     listed = worklists.rows_of(register, name, values, words)

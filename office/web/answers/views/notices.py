@@ -10,6 +10,7 @@ from register_files import Refused
 from werkzeug.wrappers import Response
 
 from office.core import days, texts, wording
+from office.core.days import today
 from office.core.kinds import NOTICES
 from office.core.model import Register
 from office.core.wording import sentence
@@ -39,11 +40,6 @@ class Box:
 
     due: Due
     is_ticked: bool
-
-
-def today() -> datetime.date:
-    """The day of today."""
-    return datetime.date.today()
 
 
 @screen.get("/")

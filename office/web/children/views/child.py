@@ -9,6 +9,7 @@ from register_files import Refused
 from werkzeug.wrappers import Response
 
 from office.core import criteria, days, texts, wording
+from office.core.days import today
 from office.core.kinds import ACTIONS
 from office.core.model import OFFERED, WAITS, Register
 from office.core.wording import sentence
@@ -40,11 +41,6 @@ screen = flask.Blueprint("child", __name__, url_prefix="/children")
 Answer = str | Response | tuple[str, int]
 NAMES = f"any({', '.join(ACTIONS)})"
 TYPE_AGAIN = "What you typed is not kept any more. Nothing was recorded: type it again."
-
-
-def today() -> datetime.date:
-    """The day of today."""
-    return datetime.date.today()
 
 
 @dataclasses.dataclass(frozen=True)

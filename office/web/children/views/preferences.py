@@ -1,12 +1,11 @@
 """The application of a child: it is recorded where there is none; where there is one, what can
 still be done when the family wants another list.
 """
-import datetime
-
 import flask
 from werkzeug.wrappers import Response
 
 from office.core import days, wording
+from office.core.days import today
 from office.core.model import Register
 from office.core.wording import sentence
 from office.web.frame.guard import needs, parts, person
@@ -20,11 +19,6 @@ from .child import TYPE_AGAIN, child_in, shown
 
 screen = flask.Blueprint("preferences", __name__, url_prefix="/children")
 Answer = str | Response | tuple[str, int]
-
-
-def today() -> datetime.date:
-    """The day of today."""
-    return datetime.date.today()
 
 
 def seen_now(register: Register, number: int) -> str:

@@ -175,6 +175,6 @@ def workbook() -> Response:
     cells: list[list[Any]] = [list(HEADER)]
     cells += [[moment(it.entry.at), it.entry.who, it.kind, it.what, it.more, it.result]
               for it in rows_of(made.rows[:MOST_IN_FILE], register)]
-    title = f"Activity, as of {days.in_words(datetime.date.today())}"
+    title = f"Activity, as of {days.in_words(days.today())}"
     page = Page("Activity", "what was done, by whom and when", cells, is_text=True)
     return attachment(book.data([page], title), "activity")

@@ -12,6 +12,7 @@ from register_files import Refused
 from werkzeug.wrappers import Response
 
 from office.core import days, wording
+from office.core.days import today
 from office.core.model import Register
 from office.core.wording import sentence
 from office.web.frame.guard import needs, of_file, parts, person
@@ -48,11 +49,6 @@ FAR_DAYS = 7
 def shared() -> dict[str, Any]:
     """What the screen of a child shows of its letters."""
     return {"letters_of": lambda child: parts().letters.of_child(child)}
-
-
-def today() -> datetime.date:
-    """The day of today."""
-    return datetime.date.today()
 
 
 @screen.get("/")

@@ -12,6 +12,7 @@ from register_files import Refused
 from werkzeug.datastructures import MultiDict
 from werkzeug.wrappers import Response
 
+from office.core.days import today
 from office.core.model import Register
 from office.core.wording import sentence
 from office.files import book
@@ -38,11 +39,6 @@ Address = dict[str, str | list[str]]
 # the lists whose children are ticked, to be put into a batch or written to; of so many at once
 TICKED, MOST_TICKED, SCHOOL = ("no-answer", "unplaced", "list"), 500, "school"
 SAID = {"saved": "The view is saved.", "removed": "The view is removed."}
-
-
-def today() -> datetime.date:
-    """The day of today."""
-    return datetime.date.today()
 
 
 def views() -> Views:

@@ -7,6 +7,7 @@ from typing import Any
 import flask
 from register_files import Refused
 
+from office.core.days import today
 from office.core.model import Register
 from office.core.wording import sentence, weekday
 from office.web.applications.rows import OPEN, WITHDRAWN
@@ -35,11 +36,6 @@ screen = flask.Blueprint("season", __name__)
 LOOKED_AT = 5000
 PLACES = [{"name": it, "title": it, "kind": "number" if at else "", "href": ""}
           for at, it in enumerate(("School", "Places", "Taken", "Vacant", "Waiting"))]
-
-
-def today() -> datetime.date:
-    """The day of today."""
-    return datetime.date.today()
 
 
 def address_of(view: str, values: Mapping[str, str]) -> str:
