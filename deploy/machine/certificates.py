@@ -126,11 +126,6 @@ def looked_at(certificate: pathlib.Path | str, *arguments: str) -> str:
     return call(*command, may_fail=True).stdout
 
 
-def host_of(certificate: pathlib.Path) -> str | None:
-    """The first name of a certificate, if it is there and has one."""
-    return next(iter(names_of(certificate)), None)
-
-
 def see(register: Register, host: str) -> str | None:
     """Refuses a certificate that nginx cannot serve, whatever put it there. Returns a warning of
     one that browsers will not trust."""

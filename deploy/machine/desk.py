@@ -53,7 +53,7 @@ def answered(it: socket.socket, path: pathlib.Path, request: bytes, end: bytes =
     return answer
 
 
-def site_status_of(host: str, seconds: float = 10) -> tuple[int, bytes]:
+def site_status_of(host: str) -> tuple[int, bytes]:
     """The status of the site's answer over TLS to a request of nobody, and the certificate that it
     shows. The certificate is not judged here: one for a trial is as good. OSError or HTTPException
     where there is no answer.
@@ -61,7 +61,7 @@ def site_status_of(host: str, seconds: float = 10) -> tuple[int, bytes]:
     context = ssl.create_default_context()
     context.check_hostname = False
     context.verify_mode = ssl.CERT_NONE
-    with socket.create_connection(("127.0.0.1", PORT), seconds) as bare, context.wrap_socket(
+    with socket.create_connection(("127.0.0.1", PORT), 10) as bare, context.wrap_socket(
         bare, server_hostname=host
     ) as secure:
         secure.sendall(f"GET / HTTP/1.1\r\nHost: {host}\r\nConnection: close\r\n\r\n".encode())

@@ -34,11 +34,6 @@ def unit_line(register: Register, unit: str, has_failed: bool = True) -> str:
     return f"{f'systemctl reset-failed {unit}; ' if has_failed else ''}systemctl start {unit}"
 
 
-def desk_line(register: Register) -> str:
-    """What brings back a server that does not answer."""
-    return unit_line(register, f"admissions@{register.name}.service")
-
-
 def office_line(register: Register) -> str:
     """What brings back an application that does not run."""
     return cause(register) or f"admissions-admin open {register.name}"

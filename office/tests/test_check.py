@@ -235,7 +235,7 @@ def write_kind(path: Path, kind: str, rows: Iterable[Fields]) -> None:
 def written(table: staging_check.Table) -> bytes:
     """The rows of a table as they are imported."""
     return sheet.csv_bytes(
-        [COLUMNS, *(check.values_of(it.row, COLUMNS) for it in table.rows.values())])
+        [COLUMNS, *(check.values_of(it.row) for it in table.rows.values())])
 
 
 def test_what_has_one_reading_is_imported(town: Path, tmp_path: Path) -> None:

@@ -85,9 +85,9 @@ class Context:
     words: Mapping[int, str] = dataclasses.field(default_factory=dict)
 
 
-def values_of(row: Row, columns: Iterable[str] = fields.COLUMNS) -> list[str]:
+def values_of(row: Row) -> list[str]:
     """A row as import takes it."""
-    return [row.fields.get(it, fields.OMITTED.get(it, "")) for it in columns]
+    return [row.fields.get(it, fields.OMITTED.get(it, "")) for it in fields.COLUMNS]
 
 
 def read_field(row: Row, column: str, given: str, context: Context, add: Add,

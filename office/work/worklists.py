@@ -30,11 +30,6 @@ class Worklist:
     rows: Callable[..., Rows]
     required: tuple[str, ...] = ()
 
-    @property
-    def is_single(self) -> bool:
-        """Whether it is of one child or one draw."""
-        return bool(SINGLE & set(self.taken))
-
 
 WORKLISTS = {
     "child": Worklist(
@@ -124,7 +119,7 @@ def csv_text(rows: Rows) -> str:
 
 def pages(register: Register, day: datetime.date) -> list[book.Page]:
     """The worklists of a register on a day as sheets, the season first, each with what it says."""
-    names = [name for name, it in WORKLISTS.items() if not it.is_single]
+    names = [name for name, it in WORKLISTS.items() if not SINGLE & set(it.taken)]
     names.sort(key=lambda it: it != "season")
     return [book.Page(name, WORKLISTS[name].purpose, rows_of(register, name, {"day": day}))
             for name in names]

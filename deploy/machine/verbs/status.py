@@ -241,7 +241,8 @@ def desk_of(register: Register) -> State:
         raise Failed("answers 503: it refuses everything, mostly since a disk is full. Once there"
                      f" is room: admissions-admin open {register.name}")
     if status is None:
-        raise Failed(f"does not answer: {repairs.desk_line(register)}")
+        server = f"admissions@{register.name}.service"
+        raise Failed(f"does not answer: {repairs.unit_line(register, server)}")
     raise Failed(f"answers {status}: journalctl -n 20 -u admissions@{register.name}")
 
 
@@ -281,8 +282,8 @@ def had_site(register: Register) -> bool:
 
 def site_command(register: Register) -> str:
     """What sets the site up again, with its name as far as its certificate has it."""
-    host = certificates.host_of(certificates.paths(register)[1])
-    return f"admissions-admin setup {register.name} --site {host or 'HOST'}"
+    host = next(iter(certificates.names_of(certificates.paths(register)[1])), "HOST")
+    return f"admissions-admin setup {register.name} --site {host}"
 
 
 def first_certificate(register: Register) -> bytes:

@@ -3,7 +3,7 @@ than the copy.
 """
 import collections
 import dataclasses
-from collections.abc import Iterator, Mapping, Sequence
+from collections.abc import Iterator, Mapping
 
 from office.core import effects, persons, texts, wording
 from office.core.kinds import DRAWS
@@ -141,9 +141,3 @@ def compared(whose: str, now: dict[str, str], then: dict[str, str]) -> Iterator[
         one, other = now.get(what, ""), then.get(what, "")
         if one != other:
             yield Difference(whose, what, one or "none", other or "none")
-
-
-def count_lost(found: Sequence[Difference]) -> str:
-    """How much differs."""
-    return texts.count(len({it.whose for it in found}), "child, school or draw",
-                       "children, schools and draws")

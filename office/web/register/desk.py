@@ -9,7 +9,7 @@ import json
 import math
 import threading
 import time
-from collections.abc import Callable, Iterator, Mapping
+from collections.abc import Callable, Iterator
 from typing import Any
 
 from register_files import Refused
@@ -263,14 +263,9 @@ class Desk:
             about = {"line": line.decode("utf-8", "replace")[:MOST_LINE]}
             return self.exchange(who, about, lambda: self.sender.send(line))
 
-    def send_import(
-        self, who: Person, rows: bytes, points: Mapping[str, str] | None = None
-    ) -> Result:
-        """Sends the rows of an import, which are stored all or not at all. Where the points of
-        their homes came from, by the children's numbers, is in the history beside them.
-        """
-        return self.request(
-            who, {"import": rows.decode(), **({"points": dict(points)} if points else {})})
+    def send_import(self, who: Person, rows: bytes) -> Result:
+        """Sends the rows of an import, which are stored all or not at all."""
+        return self.request(who, {"import": rows.decode()})
 
     @contextlib.contextmanager
     def sending(self, draw: bool = False) -> Iterator[str]:

@@ -210,10 +210,10 @@ def title_of(it: Entry, names: Names, of_child: bool = False) -> str:
     return filled(form_of(it)[1], about, names, of_child)
 
 
-def command_title(command: Command, names: Names = Names(), of_child: bool = True) -> str:
-    """The title of a command."""
+def command_title(command: Command, names: Names) -> str:
+    """The title of a command, without the child."""
     found = KINDS.get(command["cmd"])
-    return filled(found.told if found else STEPS[SENDS][1], command, names, of_child)
+    return filled(found.told if found else STEPS[SENDS][1], command, names, True)
 
 
 def child_of(about: Mapping[str, Any]) -> int | None:

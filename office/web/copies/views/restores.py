@@ -9,6 +9,7 @@ import flask
 from register_files import Refused
 from werkzeug.wrappers import Response
 
+from office.core import texts
 from office.core.model import Register
 from office.core.wording import sentence
 from office.web.frame.guard import needs, parts, person
@@ -130,7 +131,8 @@ def page(
     draws = {it.number: it for it in parts().draws.listed()}
     return flask.render_template(
         "restore.html", restore=restore, copy=parts().copies.get(restore.copy), rows=rows,
-        lost=lost, lost_count=since.count_lost(lost),
+        lost=lost, lost_count=texts.count(len({it.whose for it in lost}),
+                                          "child, school or draw", "children, schools and draws"),
         steps=steps_of(restore),
         history=step_store.history(restore.done),
         reason=reason or trouble, work=work, runs=restore.states[restore.state].runs,

@@ -103,19 +103,15 @@ def status_of(error: Refused) -> int:
     return 503 if isinstance(error, Busy) else 403
 
 
-def own_address() -> str:
-    """Where a provider leads back to."""
-    return parts().config.origin + flask.url_for("signing.come_back")
-
-
 @screen.get("/sign-in/authority")
 @needs(PUBLIC)
 def go_out() -> Answer:
     """The way to the provider."""
     to = own_path(flask.request.args.get("to", "/"))
     flask.session["to"] = to
+    back = parts().config.origin + flask.url_for("signing.come_back")
     try:
-        return accounts().go_out(provider(), own_address())
+        return accounts().go_out(provider(), back)
     except Refused as error:
         guard.sign_in_failed(failures.PROVIDER)
         return sign_in_page(to, str(error), ""), status_of(error)
