@@ -105,7 +105,7 @@ def taken_and_sent(office: Office, day: datetime.date, wanted: Mapping[int, Iter
     count = f"{len(wanted)} letter{'s' * (len(wanted) != 1)}"
     field = hal.driver.find_element(By.ID, "day").get_attribute("value") or ""
     # (where no day can be today the letters are of another one, which the field proposes)
-    on = day if office.clock else datetime.date.fromisoformat(field)
+    on = day if office.clock else datetime.datetime.strptime(field, "%d %B %Y").date()
     address = hal.driver.find_element(By.ID, "take").get_attribute("href") or ""
     hal.press(f"Download {count}", is_new=False)
     number = address.split("/")[-2]
