@@ -6,6 +6,7 @@ use Rattle.sqlite.specs.declared.types.Value.TheVariants.{Null}
 use Rattle.sqlite.specs.Collation.TheVariants.{Binary}
 use Rattle.sqlite.specs.Kind.{Kind}
 use Rattle.sqlite.specs.Kind.TheVariants.{Integer, Text}
+use Rattle.sqlite.specs.Table.{Table}
 use Rattle.sqlite.specs.Term.{Term, col, lit}
 use Rattle.sqlite_schema.specs.declared.schema.Column.{Column}
 use Rattle.adm_fields.specs.Lists.{Format, application_fields}
@@ -50,6 +51,7 @@ listed [] = []
 listed (item ∷ []) = item
 listed (item ∷ next ∷ items) = item ++ codes ", " ++ listed (next ∷ items)
 
+-- the names of columns, with a comma and a space between each two
 abbrev pub names : List Column → List ℕ
 names columns = listed (map (λ c. c.name) columns)
 
@@ -85,11 +87,24 @@ abbrev pub row_text : List Column → ℕ → List ℕ
 row_text columns at = codes "(" ++ listed (map (λ n. codes "?" ++ number_text n) (places_from (suc (at * length columns)) columns)) ++ codes ")"
 
 -- what writes the rows at these places, whose columns are the parameters, one row after another, after the words that say how
-abbrev pub values_text : List ℕ → List ℕ → List Column → List ℕ → List ℕ
-values_text how table columns rows = how ++ table ++ codes " (" ++ names columns ++ codes ") VALUES " ++ listed (map (row_text columns) rows)
+abbrev pub values_text : List ℕ → Table → List ℕ → List ℕ
+values_text how table rows = how ++ table.name ++ codes " (" ++ names table.columns ++ codes ") VALUES " ++ listed (map (row_text table.columns) rows)
 
-abbrev pub select_text : List ℕ → List Column → List ℕ
-select_text table columns = codes "SELECT " ++ names columns ++ codes " FROM " ++ table
+-- rows that are new
+abbrev pub insert_text : Table → List ℕ → List ℕ
+insert_text = values_text (codes "INSERT INTO ")
+
+-- rows in place of those of their keys
+abbrev pub put_text : Table → List ℕ → List ℕ
+put_text = values_text (codes "INSERT OR REPLACE INTO ")
+
+-- the rows whose column of this name is the parameter
+abbrev pub delete_text : Table → List ℕ → List ℕ
+delete_text table name = codes "DELETE FROM " ++ table.name ++ codes " WHERE " ++ name ++ codes " = ?1"
+
+-- all rows, column by column
+abbrev pub select_text : Table → List ℕ
+select_text table = codes "SELECT " ++ names table.columns ++ codes " FROM " ++ table.name
 
 -- ---- what they mean
 
@@ -109,6 +124,10 @@ added_at columns at = lit Null ∷ map (λ n. col 0 n) (places_from (at * length
 -- the rows at these places as they are given to it
 abbrev pub added_terms : List Column → List ℕ → List Term
 added_terms columns rows = flat_map (added_at columns) rows
+
+-- each column of a table whose rowid is no column
+abbrev pub column_terms : List Column → List Term
+column_terms columns = map (λ n. col 1 n) (places_from 1 columns)
 
 -- the rowid, which is the key, and then each column
 abbrev pub shown_terms : List Column → List Term

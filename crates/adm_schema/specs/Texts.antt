@@ -4,7 +4,8 @@ use Rattle.sqlite.specs.declared.types.Value.TheVariants.{Null, Int}
 use Rattle.sqlite.specs.Collation.TheVariants.{Binary}
 use Rattle.sqlite.specs.Term.{Term, lit, col}
 use Rattle.sqlite_value.specs.declared.keys.Key.{Key}
-use Rattle.adm_schema.specs.Columns.{child_columns, application_columns, imported_columns, select_text, values_text, one_row, eight_rows}
+use Rattle.adm_schema.specs.Columns.{insert_text, select_text, added_terms, given_terms, column_terms, shown_terms, one_row, eight_rows}
+use Rattle.adm_schema.specs.Schema.{meta, school, child, application, place, left_list, draw, offer, lot, imported, present}
 
 abbrev pub insert_meta : List ℕ
 insert_meta = codes "INSERT INTO meta (one, version, phase, year, holidays, draws) VALUES (1, 2, ?1, ?2, ?3, 0)"
@@ -21,38 +22,38 @@ abbrev pub meta_turned : List Term
 meta_turned = col 1 0 ∷ col 1 0 ∷ lit Null ∷ col 1 2 ∷ col 1 3 ∷ col 1 4 ∷ col 1 5 ∷ col 0 0 ∷ []
 
 abbrev pub insert_school : List ℕ
-insert_school = codes "INSERT INTO school (code, name, pan, east, north, criteria) VALUES (?1, ?2, ?3, ?4, ?5, ?6)"
+insert_school = insert_text school one_row
 
 abbrev pub school_terms : List Term
-school_terms = lit Null ∷ col 0 0 ∷ col 0 1 ∷ col 0 2 ∷ col 0 3 ∷ col 0 4 ∷ col 0 5 ∷ []
+school_terms = added_terms school.columns one_row
 
--- the query of the row of `meta`, by the names of its columns
+-- the query of the row of `meta`
 abbrev pub select_meta : List ℕ
-select_meta = codes "SELECT one, version, phase, year, holidays, draws FROM meta"
+select_meta = select_text meta
 
 abbrev pub meta_columns : List Term
-meta_columns = col 1 0 ∷ col 1 2 ∷ col 1 3 ∷ col 1 4 ∷ col 1 5 ∷ col 1 6 ∷ []
+meta_columns = shown_terms meta.columns
 
 abbrev pub select_schools : List ℕ
-select_schools = codes "SELECT code, name, pan, east, north, criteria FROM school ORDER BY code"
+select_schools = select_text school ++ codes " ORDER BY code"
 
 abbrev pub school_columns : List Term
-school_columns = col 1 1 ∷ col 1 2 ∷ col 1 3 ∷ col 1 4 ∷ col 1 5 ∷ col 1 6 ∷ []
+school_columns = column_terms school.columns
 
 abbrev pub by_code : List (Term × Key)
 by_code = (col 1 1, record { collation = Binary; descending = false }) ∷ []
 
 abbrev pub select_children : List ℕ
-select_children = select_text (codes "child") child_columns ++ codes " ORDER BY child"
+select_children = select_text child ++ codes " ORDER BY child"
 
 abbrev pub select_applications : List ℕ
-select_applications = select_text (codes "application") application_columns ++ codes " ORDER BY child"
+select_applications = select_text application ++ codes " ORDER BY child"
 
 abbrev pub select_places : List ℕ
-select_places = codes "SELECT child, school, kind, day, reminded FROM place ORDER BY child"
+select_places = select_text place ++ codes " ORDER BY child"
 
 abbrev pub place_columns : List Term
-place_columns = col 1 0 ∷ col 1 2 ∷ col 1 3 ∷ col 1 4 ∷ col 1 5 ∷ []
+place_columns = shown_terms place.columns
 
 -- in the order of the children's numbers
 abbrev pub by_child : List (Term × Key)
@@ -61,57 +62,56 @@ by_child = (col 1 0, record { collation = Binary; descending = false }) ∷ []
 -- ---- the tables whose rows are only added
 
 abbrev pub insert_left_list : List ℕ
-insert_left_list = codes "INSERT INTO left_list (child, school) VALUES (?1, ?2)"
+insert_left_list = insert_text left_list one_row
 
 abbrev pub left_list_terms : List Term
-left_list_terms = lit Null ∷ col 0 0 ∷ col 0 1 ∷ []
+left_list_terms = added_terms left_list.columns one_row
 
 abbrev pub select_left_list : List ℕ
-select_left_list = codes "SELECT child, school FROM left_list"
+select_left_list = select_text left_list
 
 abbrev pub left_list_columns : List Term
-left_list_columns = col 1 1 ∷ col 1 2 ∷ []
+left_list_columns = column_terms left_list.columns
 
 abbrev pub insert_draw : List ℕ
-insert_draw = codes "INSERT INTO draw (draw, round, school, day) VALUES (?1, ?2, ?3, ?4)"
+insert_draw = insert_text draw one_row
 
--- the key goes to the rowid's place, and its own column is NULL
 abbrev pub draw_terms : List Term
-draw_terms = col 0 0 ∷ lit Null ∷ col 0 1 ∷ col 0 2 ∷ col 0 3 ∷ []
+draw_terms = given_terms draw.columns one_row
 
 abbrev pub select_draws : List ℕ
-select_draws = codes "SELECT draw, round, school, day FROM draw"
+select_draws = select_text draw
 
 abbrev pub draw_columns : List Term
-draw_columns = col 1 0 ∷ col 1 2 ∷ col 1 3 ∷ col 1 4 ∷ []
+draw_columns = shown_terms draw.columns
 
 abbrev pub select_offers : List ℕ
-select_offers = codes "SELECT draw, child, school, fresh FROM offer"
+select_offers = select_text offer
 
 abbrev pub offer_columns : List Term
-offer_columns = col 1 1 ∷ col 1 2 ∷ col 1 3 ∷ col 1 4 ∷ []
+offer_columns = column_terms offer.columns
 
 abbrev pub select_lots : List ℕ
-select_lots = codes "SELECT draw, school, child, lot FROM lot"
+select_lots = select_text lot
 
 abbrev pub lot_columns : List Term
-lot_columns = col 1 1 ∷ col 1 2 ∷ col 1 3 ∷ col 1 4 ∷ []
+lot_columns = column_terms lot.columns
 
 abbrev pub insert_imported : List ℕ
-insert_imported = values_text (codes "INSERT INTO ") (codes "imported") imported_columns one_row
+insert_imported = insert_text imported one_row
 
 -- eight imported rows
 abbrev pub insert_imported_rows : List ℕ
-insert_imported_rows = values_text (codes "INSERT INTO ") (codes "imported") imported_columns eight_rows
+insert_imported_rows = insert_text imported eight_rows
 
 abbrev pub select_imported : List ℕ
-select_imported = select_text (codes "imported") imported_columns
+select_imported = select_text imported
 
 abbrev pub select_present : List ℕ
-select_present = codes "SELECT child, imported, school FROM present"
+select_present = select_text present
 
 abbrev pub present_column_terms : List Term
-present_column_terms = col 1 1 ∷ col 1 2 ∷ col 1 3 ∷ []
+present_column_terms = column_terms present.columns
 
 -- the file is of the second version
 abbrev pub mark_version : List ℕ
