@@ -15,9 +15,8 @@ use Rattle.sqlite_resolve.specs.declared.error.CompileError.{CompileError}
 use Rattle.sqlite.specs.State.{State, HasCleanDisk, Survives, Fails, HasCause, FailsToQuery, FailsToShow, IsNotRun, IsTooLate, store_error}
 use Rattle.adm_register.specs.declared.rows_fault.RowsFault.{RowsFault}
 use Rattle.adm_register.specs.declared.rows_fault.RowsFault.TheVariants as rows
-use Rattle.adm_rows.specs.declared.fault.OpenFault.{OpenFault}
-use Rattle.adm_rows.specs.declared.fault.OpenFault.TheVariants.{BadRow, Disk, Memory}
-use Rattle.adm_rows.specs.Faults.{IsNoRegister}
+use Rattle.adm_rows.specs.declared.fault.OpenFault.TheVariants.{BadRow, Disk}
+use Rattle.adm_rows.specs.Faults.{IsNoRegister, of_rows}
 use Rattle.adm_rows.specs.Causes.{DiskFailedIn, DiskFailed, DiskFailedOr, HasDiskCause, IsUnanswered}
 use Rattle.adm_rows.specs.Reads.{SeesTheSameIn, SeesTheSame}
 use Rattle.adm_schema.specs.declared.version.Version.{Version}
@@ -83,13 +82,13 @@ module _ (old mid new : State) where
 
 -- ---- the error of rows
 
-abbrev Told : RowsFault → OpenFault → Type 0
-Told fault e = ((fault ≡ rows.BadRow) × (e ≡ BadRow)) ⊎ ((fault ≡ rows.Memory) × (e ≡ Memory))
+pub bad_rows : (fault : RowsFault) → IsNoRegister (of_rows fault) → fault ≡ rows.BadRow
+bad_rows rows.BadRow structural = refl
+bad_rows rows.Memory structural = absurd structural
 
-pub bad_rows : (fault : RowsFault) (e : OpenFault) → IsNoRegister e → Told fault e → (fault ≡ rows.BadRow) × (e ≡ BadRow)
-bad_rows fault e structural (inl bad) = bad
-bad_rows fault e structural (inr memory) = absurd (subst IsNoRegister memory.1 structural)
+pub rows_never_disk : (fault : RowsFault) → of_rows fault ≡ Disk → ⊥
+rows_never_disk rows.BadRow is = cc
+rows_never_disk rows.Memory is = cc
 
-pub rows_never_disk : (fault : RowsFault) (e : OpenFault) → Told fault e → e ≡ Disk → ⊥
-rows_never_disk fault e (inl bad) is = let wrong = sym is ∙ bad.1 in cc
-rows_never_disk fault e (inr memory) is = let wrong = sym is ∙ memory.1 in cc
+pub only_bad : (fault : RowsFault) → IsNoRegister (of_rows fault) → of_rows fault ≡ BadRow
+only_bad fault structural = ap of_rows (bad_rows fault structural)

@@ -11,9 +11,9 @@ use Rattle.sqlite.specs.declared.types.Value.TheVariants.{Int, Text}
 use Rattle.sqlite.specs.Order.{Row}
 use Rattle.adm_lists.proofs.Each.{each_weaker}
 use Rattle.adm_schema.proofs.Lists.{has_source}
-use Rattle.adm_rows.specs.declared.fault.OpenFault.{OpenFault}
-use Rattle.adm_rows.specs.declared.fault.OpenFault.TheVariants.{BadRow, Memory}
-use Rattle.adm_rows.specs.Faults.{HasFrom, IsNoRegister}
+use Rattle.adm_register.specs.declared.rows_fault.RowsFault.{RowsFault}
+use Rattle.adm_register.specs.declared.rows_fault.RowsFault.TheVariants.{BadRow, Memory}
+use Rattle.adm_rows.specs.Faults.{HasFrom}
 
 -- ---- one row
 
@@ -38,12 +38,12 @@ own_columns (x ∷ row) = (refl, one_more x row 0 row (own_columns row))
 
 -- what was read of a row from its first column, or why nothing was
 module _ {X : Type 0} (row_of : X → Row) (row : Row) where
-  pub whole_read : (r : Result X OpenFault) → ((xs : X) → length row ≡ length (row_of xs)) → IfOk r (λ xs. HasFrom row 0 (row_of xs)) → IfOk r (λ xs. row ≡ row_of xs)
+  pub whole_read : (r : Result X RowsFault) → ((xs : X) → length row ≡ length (row_of xs)) → IfOk r (λ xs. HasFrom row 0 (row_of xs)) → IfOk r (λ xs. row ≡ row_of xs)
   whole_read (Ok xs) long has = columns_are row (row_of xs) (long xs) has
   whole_read (Err e) long has = tt
 
-  pub whole_refused : (Fit : X → Type 0) (r : Result X OpenFault) → IfErr r (λ e. IsNoRegister e → (xs : X) → Fit xs → HasFrom row 0 (row_of xs) → ⊥)
-      → IfErr r (λ e. IsNoRegister e → (xs : X) → Fit xs → row ≡ row_of xs → ⊥)
+  pub whole_refused : (Fit : X → Type 0) (r : Result X RowsFault) → IfErr r (λ e. e ≡ BadRow → (xs : X) → Fit xs → HasFrom row 0 (row_of xs) → ⊥)
+      → IfErr r (λ e. e ≡ BadRow → (xs : X) → Fit xs → row ≡ row_of xs → ⊥)
   whole_refused Fit (Ok xs) bad = tt
   whole_refused Fit (Err e) bad = λ structural xs fit is. bad structural xs fit (subst (HasFrom row 0) is (own_columns row))
 
@@ -57,8 +57,8 @@ text_in (Text text) = text
 text_in other = []
 
 -- a value that is none of a register's is not readable
-pub unread : (P : Type 0) (e : OpenFault) → IsNoRegister e → (e ≡ Memory) ⊎ ((e ≡ BadRow) × (P → ⊥)) → P → ⊥
-unread P e structural (inl is) p = subst IsNoRegister is structural
+pub unread : (P : Type 0) (e : RowsFault) → e ≡ BadRow → (e ≡ Memory) ⊎ ((e ≡ BadRow) × (P → ⊥)) → P → ⊥
+unread P e structural (inl is) p = let wrong = sym structural ∙ is in cc
 unread P e structural (inr is) p = is.1 p
 
 -- ---- a predicate of each

@@ -23,6 +23,8 @@ use Rattle.sqlite.specs.declared.types.Value.TheVariants.{Int, Text}
 use Rattle.sqlite.specs.Order.{Row, column}
 use Rattle.adm_rows.specs.declared.fault.OpenFault.{OpenFault}
 use Rattle.adm_rows.specs.declared.fault.OpenFault.TheVariants.{NotOurs, Version, BadRow, Disk, Memory}
+use Rattle.adm_register.specs.declared.rows_fault.RowsFault.{RowsFault}
+use Rattle.adm_register.specs.declared.rows_fault.RowsFault.TheVariants as rows
 use Rattle.adm_rows.specs.Forms.{phase_code, version_code, criteria_text, criteria_of, codes_text, day_value}
 
 -- the errors that say that the tables hold no register
@@ -32,6 +34,11 @@ IsNoRegister Version = Unit {0}
 IsNoRegister BadRow = Unit {0}
 IsNoRegister Disk = ⊥
 IsNoRegister Memory = ⊥
+
+-- the error of an open, where the rows are those of no register
+abbrev pub of_rows : RowsFault → OpenFault
+of_rows rows.BadRow = BadRow
+of_rows rows.Memory = Memory
 
 -- from this column on the row has these values
 abbrev pub HasFrom : Row → ℕ → List Value → Type 0

@@ -1,4 +1,6 @@
 // Why a register was not opened.
+use adm_register::RowsFault;
+
 /// Why a register was not opened.
 #[derive(Clone, Copy, Debug, PartialEq, Eq)]
 pub enum OpenFault {
@@ -11,4 +13,18 @@ pub enum OpenFault {
     /// The store failed.
     Disk = 4,
     Memory = 5,
+}
+
+impl From<RowsFault> for OpenFault {
+    ghost use Rattle.std.specs.Prelude.{◌≡◌};
+    ghost use Rattle.adm_rows.specs.Faults.{of_rows};
+
+    ghost from_gives = { λ fault outer. outer ≡ of_rows fault };
+
+    fn from(fault: RowsFault) -> OpenFault {
+        match fault {
+            RowsFault::BadRow => OpenFault::BadRow,
+            RowsFault::Memory => OpenFault::Memory,
+        }
+    }
 }

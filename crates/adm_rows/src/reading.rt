@@ -45,7 +45,7 @@ use crate::reading::present::presents_in;
 use crate::reading::reader::Readers;
 use crate::reading::schools::SchoolReader;
 use crate::reading::season::{MetaRow, read_season};
-use adm_register::{Register, Rows, RowsFault};
+use adm_register::{Register, Rows};
 use adm_schema::Version;
 use adm_types::{DrawRow, School, Seq, came_later};
 use sqlite::{Alter, Transaction};
@@ -199,16 +199,6 @@ fn rows_in<S: Alter>(
     Ok(all)
 }
 
-/// Rows that are no register's are BadRow, and out of memory stays Memory.
-fn rows_fault(fault: RowsFault) -> OpenFault
-    ensures { ((fault ≡ RowsFault.BadRow) × (result ≡ OpenFault.BadRow)) ⊎ ((fault ≡ RowsFault.Memory) × (result ≡ OpenFault.Memory)) }
-{
-    match fault {
-        RowsFault::BadRow => OpenFault::BadRow,
-        RowsFault::Memory => OpenFault::Memory,
-    }
-}
-
 /// The register that the tables hold, where they are a register's, and the version of the tables.
 pub fn register_in<S: Alter>(
     alloc: Global,
@@ -235,6 +225,6 @@ pub fn register_in<S: Alter>(
     let rows = rows_in(alloc, tx, first)?;
     match Register::from_rows(alloc, rows) {
         Ok(register) => Ok((version, register)),
-        Err(fault) => Err(rows_fault(fault)),
+        Err(fault) => Err(OpenFault::from(fault)),
     }
 }

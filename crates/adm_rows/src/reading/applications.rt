@@ -3,10 +3,10 @@ ghost use Rattle.adm_schema.specs.Schema.{application};
 ghost use Rattle.adm_rows.specs.Forms.{application_row};
 ghost use Rattle.adm_rows.specs.Faults.{IsApplication, AreReadAgain};
 
-use crate::OpenFault;
 use crate::reading::fields::values_in;
 use crate::reading::reader::Reader;
 use adm_fields::{ApplicationFields, application_of};
+use adm_register::RowsFault;
 use adm_schema::tables::applications::select_applications;
 use adm_types::{Application, Day};
 use sqlite::Row;
@@ -33,7 +33,7 @@ impl Reader for ApplicationReader {
         select_applications()
     }
 
-    fn read(&self, alloc: Global, row: &Row) -> Result<Application, OpenFault> {
+    fn read(&self, alloc: Global, row: &Row) -> Result<Application, RowsFault> {
         let values = values_in::<ApplicationFields>(alloc, row, self.last)?;
         Ok(application_of(values))
     }

@@ -3,10 +3,10 @@ ghost use Rattle.adm_schema.specs.Schema.{child};
 ghost use Rattle.adm_rows.specs.Forms.{child_row};
 ghost use Rattle.adm_rows.specs.Faults.{IsChild, AreReadAgain};
 
-use crate::OpenFault;
 use crate::reading::fields::values_in;
 use crate::reading::reader::Reader;
 use adm_fields::{ChildColumns, home_of};
+use adm_register::RowsFault;
 use adm_schema::tables::children::select_children;
 use adm_types::{Child, Day};
 use sqlite::Row;
@@ -33,7 +33,7 @@ impl Reader for ChildReader {
         select_children()
     }
 
-    fn read(&self, alloc: Global, row: &Row) -> Result<Child, OpenFault> {
+    fn read(&self, alloc: Global, row: &Row) -> Result<Child, RowsFault> {
         let values = values_in::<ChildColumns>(alloc, row, self.last)?;
         Ok(home_of(values))
     }

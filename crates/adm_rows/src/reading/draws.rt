@@ -2,10 +2,10 @@
 ghost use Rattle.adm_schema.specs.Schema.{draw};
 ghost use Rattle.adm_rows.specs.DrawForms.{draw_row, IsDrawRow};
 
-use crate::OpenFault;
 use crate::reading::codes::code_or_null_at;
 use crate::reading::columns::{day_at, number_at};
 use crate::reading::reader::Reader;
+use adm_register::RowsFault;
 use adm_schema::tables::draws::select_draws;
 use adm_types::{Day, DrawRow};
 use sqlite::Row;
@@ -32,9 +32,9 @@ impl Reader for DrawReader {
         select_draws()
     }
 
-    fn read(&self, _alloc: Global, row: &Row) -> Result<DrawRow, OpenFault> {
+    fn read(&self, _alloc: Global, row: &Row) -> Result<DrawRow, RowsFault> {
         if row.column_count() != 4 {
-            return Err(OpenFault::BadRow);
+            return Err(RowsFault::BadRow);
         }
         let draw = number_at(row, 0)?;
         let round = number_at(row, 1)?;

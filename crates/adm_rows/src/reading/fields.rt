@@ -8,12 +8,12 @@ ghost use Rattle.sqlite.specs.Order.{Row as RowOf, column};
 ghost use Rattle.adm_types.specs.Code.{is_code};
 ghost use Rattle.adm_types.specs.Limits.{is_from, is_child_number, first_day};
 ghost use Rattle.adm_rows.specs.Forms.{truth_code, codes_text};
-ghost use Rattle.adm_rows.specs.Faults.{HasFrom, IsNoRegister, AreReadAgain};
+ghost use Rattle.adm_rows.specs.Faults.{HasFrom, AreReadAgain};
 
-use crate::OpenFault;
 use crate::reading::codes::codes_at;
 use crate::reading::columns::{child_at, day_at, flags_at, number_at, text_at, truth_at};
 use adm_fields::{Field, Fields};
+use adm_register::RowsFault;
 use adm_types::{ChildNo, Day, SchoolCode, Seq, Text};
 use sqlite::Row;
 use std::alloc::Global;
@@ -29,13 +29,11 @@ pub(super) trait Column: Drop {
     // What is known of a value that was read, beside its column.
     ghost IsRead: { Self → Type 0 };
 
-    fn read_at(alloc: Global, row: &Row, at: usize, last: Day) -> Result<Self, OpenFault>
+    fn read_at(alloc: Global, row: &Row, at: usize, last: Day) -> Result<Self, RowsFault>
         requires { at < length row.now }
         ensures ok { IfOk result (λ x. column row.now at ≡ value x) }
         ensures again { IfOk result IsRead }
-        ensures bad { IfErr result (λ e. IsNoRegister e → (x : Self) → Fits last x → column row.now at ≡ value x → ⊥) }
-        ensures first { IfErr result (λ e. IsNoRegister e → e ≡ OpenFault.BadRow) }
-        ensures disk { IfErr result (λ e. e ≡ OpenFault.Disk → ⊥) };
+        ensures bad { IfErr result (λ e. e ≡ RowsFault.BadRow → (x : Self) → Fits last x → column row.now at ≡ value x → ⊥) };
 }
 
 impl Column for u32 {
@@ -45,7 +43,7 @@ impl Column for u32 {
 
     ghost IsRead = { λ _. Unit {0} };
 
-    fn read_at(_alloc: Global, row: &Row, at: usize, _last: Day) -> Result<u32, OpenFault> {
+    fn read_at(_alloc: Global, row: &Row, at: usize, _last: Day) -> Result<u32, RowsFault> {
         number_at(row, at)
     }
 }
@@ -57,7 +55,7 @@ impl Column for ChildNo {
 
     ghost IsRead = { λ _. Unit {0} };
 
-    fn read_at(_alloc: Global, row: &Row, at: usize, _last: Day) -> Result<ChildNo, OpenFault> {
+    fn read_at(_alloc: Global, row: &Row, at: usize, _last: Day) -> Result<ChildNo, RowsFault> {
         child_at(row, at)
     }
 }
@@ -69,7 +67,7 @@ impl Column for Text {
 
     ghost IsRead = { λ _. Unit {0} };
 
-    fn read_at(_alloc: Global, row: &Row, at: usize, _last: Day) -> Result<Text, OpenFault> {
+    fn read_at(_alloc: Global, row: &Row, at: usize, _last: Day) -> Result<Text, RowsFault> {
         text_at(row, at)
     }
 }
@@ -81,7 +79,7 @@ impl Column for bool {
 
     ghost IsRead = { λ _. Unit {0} };
 
-    fn read_at(_alloc: Global, row: &Row, at: usize, _last: Day) -> Result<bool, OpenFault> {
+    fn read_at(_alloc: Global, row: &Row, at: usize, _last: Day) -> Result<bool, RowsFault> {
         truth_at(row, at)
     }
 }
@@ -94,7 +92,7 @@ impl Column for u16 {
 
     ghost IsRead = { λ _. Unit {0} };
 
-    fn read_at(_alloc: Global, row: &Row, at: usize, _last: Day) -> Result<u16, OpenFault> {
+    fn read_at(_alloc: Global, row: &Row, at: usize, _last: Day) -> Result<u16, RowsFault> {
         flags_at(row, at)
     }
 }
@@ -106,7 +104,7 @@ impl Column for Day {
 
     ghost IsRead = { λ _. Unit {0} };
 
-    fn read_at(_alloc: Global, row: &Row, at: usize, last: Day) -> Result<Day, OpenFault> {
+    fn read_at(_alloc: Global, row: &Row, at: usize, last: Day) -> Result<Day, RowsFault> {
         day_at(row, at, last)
     }
 }
@@ -123,7 +121,7 @@ impl Column for Seq<SchoolCode> {
         row: &Row,
         at: usize,
         _last: Day,
-    ) -> Result<Seq<SchoolCode>, OpenFault> {
+    ) -> Result<Seq<SchoolCode>, RowsFault> {
         codes_at(alloc, row, at)
     }
 }
@@ -140,14 +138,12 @@ pub(super) trait Columns: Fields {
 
     ghost AreRead: { Self.Values → Type 0 };
 
-    fn read_from(alloc: Global, row: &Row, at: usize, last: Day) -> Result<Self::Values, OpenFault>
+    fn read_from(alloc: Global, row: &Row, at: usize, last: Day) -> Result<Self::Values, RowsFault>
         requires has { at + count ≤ length row.now }
         requires few { at + count < 2 ^ 32 }
         ensures ok { IfOk result (λ xs. HasFrom row.now at (row_of xs)) }
         ensures again { IfOk result AreRead }
-        ensures bad { IfErr result (λ e. IsNoRegister e → (xs : Self.Values) → Fit last xs → HasFrom row.now at (row_of xs) → ⊥) }
-        ensures first { IfErr result (λ e. IsNoRegister e → e ≡ OpenFault.BadRow) }
-        ensures disk { IfErr result (λ e. e ≡ OpenFault.Disk → ⊥) };
+        ensures bad { IfErr result (λ e. e ≡ RowsFault.BadRow → (xs : Self.Values) → Fit last xs → HasFrom row.now at (row_of xs) → ⊥) };
 
     /// Whether there are so many fields.
     fn is_count(width: usize) -> bool
@@ -167,7 +163,7 @@ impl Columns for () {
 
     ghost counted = { λ _. refl };
 
-    fn read_from(_alloc: Global, _row: &Row, _at: usize, _last: Day) -> Result<(), OpenFault> {
+    fn read_from(_alloc: Global, _row: &Row, _at: usize, _last: Day) -> Result<(), RowsFault> {
         Ok(())
     }
 
@@ -197,7 +193,7 @@ where
         row: &Row,
         at: usize,
         last: Day,
-    ) -> Result<(F::Value, Others::Values), OpenFault> {
+    ) -> Result<(F::Value, Others::Values), RowsFault> {
         let value = F::Value::read_at(alloc, row, at, last)?;
         let others = Others::read_from(alloc, row, at + 1, last)?;
         Ok((value, others))
@@ -213,16 +209,14 @@ pub(super) fn values_in<L: Columns>(
     alloc: Global,
     row: &Row,
     last: Day,
-) -> Result<L::Values, OpenFault>
+) -> Result<L::Values, RowsFault>
     requires { L.count < 2 ^ 32 }
     ensures ok { IfOk result (λ xs. row.now ≡ L.row_of xs) }
     ensures again { IfOk result L.AreRead }
-    ensures bad { IfErr result (λ e. IsNoRegister e → (xs : L.Values) → L.Fit last xs → row.now ≡ L.row_of xs → ⊥) }
-    ensures first { IfErr result (λ e. IsNoRegister e → e ≡ OpenFault.BadRow) }
-    ensures disk { IfErr result (λ e. e ≡ OpenFault.Disk → ⊥) }
+    ensures bad { IfErr result (λ e. e ≡ RowsFault.BadRow → (xs : L.Values) → L.Fit last xs → row.now ≡ L.row_of xs → ⊥) }
 {
     if !L::is_count(row.column_count()) {
-        return Err(OpenFault::BadRow);
+        return Err(RowsFault::BadRow);
     }
     L::read_from(alloc, row, 0, last)
 }

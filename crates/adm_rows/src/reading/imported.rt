@@ -3,10 +3,10 @@ ghost use Rattle.adm_schema.specs.Schema.{imported};
 ghost use Rattle.adm_rows.specs.Forms.{imported_row};
 ghost use Rattle.adm_rows.specs.Faults.{IsImportRow, IsImportReadAgain};
 
-use crate::OpenFault;
 use crate::reading::fields::values_in;
 use crate::reading::reader::Reader;
 use adm_fields::{ImportColumns, bare_import_of};
+use adm_register::RowsFault;
 use adm_schema::tables::children::select_imported;
 use adm_types::{Day, Row as ImportRow};
 use sqlite::Row;
@@ -33,7 +33,7 @@ impl Reader for ImportedReader {
         select_imported()
     }
 
-    fn read(&self, alloc: Global, row: &Row) -> Result<ImportRow, OpenFault> {
+    fn read(&self, alloc: Global, row: &Row) -> Result<ImportRow, RowsFault> {
         let values = values_in::<ImportColumns>(alloc, row, self.last)?;
         Ok(bare_import_of(values))
     }

@@ -5,10 +5,9 @@ ghost use Rattle.std.specs.List.Sorted.{IsPermutation};
 ghost use Rattle.adm_types.specs.declared.rows.Child.{Child as ChildFacts};
 ghost use Rattle.adm_types.specs.declared.rows.Row.{Row as ImportFacts};
 ghost use Rattle.adm_types.specs.Children.{bare_child, bare_import, present_of_child, present_of_import, presents_of};
-ghost use Rattle.adm_rows.specs.Faults.{IsNoRegister};
 ghost use Rattle.adm_rows.specs.Joins.{IsJoin, IsWithout, IsOnceEachKey, left_rows, import_no};
 
-use crate::OpenFault;
+use adm_register::RowsFault;
 use adm_types::{Child, ChildNo, PresentRow, Row, SchoolCode};
 use std::alloc::Global;
 use std::collections::BTreeMap;
@@ -24,13 +23,11 @@ pub(super) fn join(
     rows: &[PresentRow],
     children: &mut Vec<Child>,
     imported: &mut Vec<Row>,
-) -> Result<(), OpenFault>
+) -> Result<(), RowsFault>
     ensures same_children { map bare_child children.new.items ≡ map bare_child children.old.items }
     ensures same_imports { map bare_import imported.new.items ≡ map bare_import imported.old.items }
     ensures ok { OnOk result (IsPermutation (presents_of children.new.items imported.new.items) rows.now) }
-    ensures bad { IfErr result (λ fault. fault ≡ OpenFault.BadRow → (joined : List ChildFacts) (joined_imports : List ImportFacts) → IsJoin children.old.items imported.old.items rows.now joined joined_imports → ⊥) }
-    ensures first { IfErr result (λ e. IsNoRegister e → e ≡ OpenFault.BadRow) }
-    ensures disk { IfErr result (λ e. e ≡ OpenFault.Disk → ⊥) }
+    ensures bad { IfErr result (λ fault. fault ≡ RowsFault.BadRow → (joined : List ChildFacts) (joined_imports : List ImportFacts) → IsJoin children.old.items imported.old.items rows.now joined joined_imports → ⊥) }
 {
     let mut left = by_child(alloc, rows)?;
     give_children(&mut left, children);
@@ -38,23 +35,21 @@ pub(super) fn join(
     if left.is_empty() {
         Ok(())
     } else {
-        Err(OpenFault::BadRow)
+        Err(RowsFault::BadRow)
     }
 }
 
 /// The schools of these rows; a bad row where two have one key.
-fn by_child(alloc: Global, rows: &[PresentRow]) -> Result<PresentSchools, OpenFault>
+fn by_child(alloc: Global, rows: &[PresentRow]) -> Result<PresentSchools, RowsFault>
     ensures ok { IfOk result (λ left. IsPermutation rows.now (left_rows left)) }
-    ensures bad { IfErr result (λ fault. fault ≡ OpenFault.BadRow → IsOnceEachKey rows.now → ⊥) }
-    ensures first { IfErr result (λ e. IsNoRegister e → e ≡ OpenFault.BadRow) }
-    ensures disk { IfErr result (λ e. e ≡ OpenFault.Disk → ⊥) }
+    ensures bad { IfErr result (λ fault. fault ≡ RowsFault.BadRow → IsOnceEachKey rows.now → ⊥) }
 {
     let mut left = BTreeMap::new(alloc);
     for row in rows {
         match left.insert((row.child, row.is_imported), row.school) {
             Ok(None) => {}
-            Ok(Some(_)) => return Err(OpenFault::BadRow),
-            Err(_) => return Err(OpenFault::Memory),
+            Ok(Some(_)) => return Err(RowsFault::BadRow),
+            Err(_) => return Err(RowsFault::Memory),
         }
     }
     Ok(left)

@@ -3,10 +3,10 @@ ghost use Rattle.adm_schema.specs.Schema.{left_list};
 ghost use Rattle.adm_rows.specs.Forms.{left_row};
 ghost use Rattle.adm_rows.specs.Faults.{IsLeftRow};
 
-use crate::OpenFault;
 use crate::reading::codes::code_at;
 use crate::reading::columns::child_at;
 use crate::reading::reader::Reader;
+use adm_register::RowsFault;
 use adm_schema::tables::left_list::select_left_list;
 use adm_types::LeftPair;
 use sqlite::Row;
@@ -30,9 +30,9 @@ impl Reader for LeftReader {
         select_left_list()
     }
 
-    fn read(&self, _alloc: Global, row: &Row) -> Result<LeftPair, OpenFault> {
+    fn read(&self, _alloc: Global, row: &Row) -> Result<LeftPair, RowsFault> {
         if row.column_count() != 2 {
-            return Err(OpenFault::BadRow);
+            return Err(RowsFault::BadRow);
         }
         let child = child_at(row, 0)?;
         let school = code_at(row, 1)?;

@@ -2,10 +2,10 @@
 ghost use Rattle.adm_schema.specs.Schema.{lot};
 ghost use Rattle.adm_rows.specs.DrawForms.{lot_row, IsLotRow};
 
-use crate::OpenFault;
 use crate::reading::codes::code_at;
 use crate::reading::columns::{child_at, number_at};
 use crate::reading::reader::Reader;
+use adm_register::RowsFault;
 use adm_schema::tables::draws::select_lots;
 use adm_types::{Lot, LotRow};
 use sqlite::Row;
@@ -29,9 +29,9 @@ impl Reader for LotReader {
         select_lots()
     }
 
-    fn read(&self, _alloc: Global, row: &Row) -> Result<LotRow, OpenFault> {
+    fn read(&self, _alloc: Global, row: &Row) -> Result<LotRow, RowsFault> {
         if row.column_count() != 4 {
-            return Err(OpenFault::BadRow);
+            return Err(RowsFault::BadRow);
         }
         let draw = number_at(row, 0)?;
         let school = code_at(row, 1)?;

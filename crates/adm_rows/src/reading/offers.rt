@@ -2,10 +2,10 @@
 ghost use Rattle.adm_schema.specs.Schema.{offer};
 ghost use Rattle.adm_rows.specs.DrawForms.{offer_row, IsOfferRow};
 
-use crate::OpenFault;
 use crate::reading::codes::code_or_null_at;
 use crate::reading::columns::{child_at, number_at, truth_at};
 use crate::reading::reader::Reader;
+use adm_register::RowsFault;
 use adm_schema::tables::draws::select_offers;
 use adm_types::{OfferRow, Outcome};
 use sqlite::Row;
@@ -29,9 +29,9 @@ impl Reader for OfferReader {
         select_offers()
     }
 
-    fn read(&self, _alloc: Global, row: &Row) -> Result<OfferRow, OpenFault> {
+    fn read(&self, _alloc: Global, row: &Row) -> Result<OfferRow, RowsFault> {
         if row.column_count() != 4 {
-            return Err(OpenFault::BadRow);
+            return Err(RowsFault::BadRow);
         }
         let draw = number_at(row, 0)?;
         let child = child_at(row, 1)?;

@@ -4,12 +4,12 @@ ghost use Rattle.sqlite.specs.declared.types.Value.TheVariants.{Int, Text as Tex
 ghost use Rattle.adm_types.specs.declared.rows.PlaceState.{PlaceState as StateFacts};
 ghost use Rattle.adm_schema.specs.Schema.{place};
 ghost use Rattle.adm_rows.specs.Forms.{place_row, state_columns, day_value};
-ghost use Rattle.adm_rows.specs.Faults.{IsNoRegister, IsPlaceRow, HasPlaceColumns};
+ghost use Rattle.adm_rows.specs.Faults.{IsPlaceRow, HasPlaceColumns};
 
-use crate::OpenFault;
 use crate::reading::codes::code_at;
 use crate::reading::columns::{child_at, day_or_null_at, number_at};
 use crate::reading::reader::Reader;
+use adm_register::RowsFault;
 use adm_schema::tables::places::select_places;
 use adm_types::{ChildNo, Day, Place, PlaceRow, PlaceState, SchoolCode};
 use sqlite::Row;
@@ -24,14 +24,12 @@ struct PlaceColumns {
     reminded: Option<Day>,
 }
 
-fn place_columns(row: &Row) -> Result<PlaceColumns, OpenFault>
+fn place_columns(row: &Row) -> Result<PlaceColumns, RowsFault>
     ensures ok { IfOk result (λ c. row.now ≡ Int (pos c.child) ∷ TextValue c.school ∷ Int (pos c.kind) ∷ day_value c.day ∷ day_value c.reminded ∷ []) }
-    ensures bad { IfErr result (λ e. IsNoRegister e → (child kind : ℕ) (code : List ℕ) (day reminded : Option ℕ) → HasPlaceColumns row.now child code kind day reminded → ⊥) }
-    ensures first { IfErr result (λ e. IsNoRegister e → e ≡ OpenFault.BadRow) }
-    ensures disk { IfErr result (λ e. e ≡ OpenFault.Disk → ⊥) }
+    ensures bad { IfErr result (λ e. e ≡ RowsFault.BadRow → (child kind : ℕ) (code : List ℕ) (day reminded : Option ℕ) → HasPlaceColumns row.now child code kind day reminded → ⊥) }
 {
     if row.column_count() != 5 {
-        return Err(OpenFault::BadRow);
+        return Err(RowsFault::BadRow);
     }
     let child = child_at(row, 0)?;
     let school = code_at(row, 1)?;
@@ -91,7 +89,7 @@ impl Reader for PlaceReader {
         select_places()
     }
 
-    fn read(&self, _alloc: Global, row: &Row) -> Result<PlaceRow, OpenFault> {
+    fn read(&self, _alloc: Global, row: &Row) -> Result<PlaceRow, RowsFault> {
         let PlaceColumns {
             child,
             school,
@@ -100,7 +98,7 @@ impl Reader for PlaceReader {
             reminded,
         } = place_columns(row)?;
         let Some(state) = state_of(kind, day, reminded) else {
-            return Err(OpenFault::BadRow);
+            return Err(RowsFault::BadRow);
         };
         let place = Place { school, state };
         Ok(PlaceRow { child, place })

@@ -15,20 +15,19 @@ use crate::OpenFault;
 use crate::reading::codes::code_at;
 use crate::reading::columns::{child_at, truth_at};
 use crate::reading::queries::query;
+use adm_register::RowsFault;
 use adm_schema::Version;
 use adm_schema::tables::present::select_present;
 use adm_types::PresentRow;
 use sqlite::{Alter, Row, Transaction};
 use std::alloc::Global;
 
-fn present_in(row: &Row) -> Result<PresentRow, OpenFault>
+fn present_in(row: &Row) -> Result<PresentRow, RowsFault>
     ensures ok { IfOk result (λ x. row.now ≡ present_columns x) }
-    ensures bad { IfErr result (λ e. IsNoRegister e → (x : Facts) → IsPresentRow x → row.now ≡ present_columns x → ⊥) }
-    ensures first { IfErr result (λ e. IsNoRegister e → e ≡ OpenFault.BadRow) }
-    ensures disk { IfErr result (λ e. e ≡ OpenFault.Disk → ⊥) }
+    ensures bad { IfErr result (λ e. e ≡ RowsFault.BadRow → (x : Facts) → IsPresentRow x → row.now ≡ present_columns x → ⊥) }
 {
     if row.column_count() != 3 {
-        return Err(OpenFault::BadRow);
+        return Err(RowsFault::BadRow);
     }
     let child = child_at(row, 0)?;
     let is_imported = truth_at(row, 1)?;
@@ -41,17 +40,15 @@ fn present_in(row: &Row) -> Result<PresentRow, OpenFault>
 }
 
 /// The present schools of these rows.
-fn all_in(alloc: Global, rows: &[Row]) -> Result<Vec<PresentRow>, OpenFault>
+fn all_in(alloc: Global, rows: &[Row]) -> Result<Vec<PresentRow>, RowsFault>
     ensures ok { IfOk result (λ all. map present_columns all.items ≡ rows.now) }
-    ensures bad { IfErr result (λ e. IsNoRegister e → (all : List Facts) → AllByRecursion IsPresentRow all → IsPermutation (map present_columns all) rows.now → ⊥) }
-    ensures first { IfErr result (λ e. IsNoRegister e → e ≡ OpenFault.BadRow) }
-    ensures disk { IfErr result (λ e. e ≡ OpenFault.Disk → ⊥) }
+    ensures bad { IfErr result (λ e. e ≡ RowsFault.BadRow → (all : List Facts) → AllByRecursion IsPresentRow all → IsPermutation (map present_columns all) rows.now → ⊥) }
 {
     let mut all = Vec::new(alloc);
     'rows: for row in rows {
         let one = present_in(row)?;
         if all.push(one).is_err() {
-            return Err(OpenFault::Memory);
+            return Err(RowsFault::Memory);
         }
     }
     Ok(all)

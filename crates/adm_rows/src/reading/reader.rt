@@ -9,6 +9,7 @@ ghost use Rattle.adm_rows.specs.Reads.{Finds, SeesTheSame, Holds};
 
 use crate::OpenFault;
 use crate::reading::queries::query;
+use adm_register::RowsFault;
 use adm_types::Seq;
 use sqlite::{Alter, Row, Transaction};
 use std::alloc::Global;
@@ -38,27 +39,23 @@ pub(super) trait Reader {
     fn select(&self) -> &'static str
         ensures { (v : Version) → AsksAll v (table self.now) result.now };
 
-    fn read(&self, alloc: Global, row: &Row) -> Result<Self::Item, OpenFault>
+    fn read(&self, alloc: Global, row: &Row) -> Result<Self::Item, RowsFault>
         ensures ok { IfOk result (λ x. row.now ≡ row_of x) }
         ensures again { IfOk result IsRead }
-        ensures bad { IfErr result (λ e. IsNoRegister e → (x : Self.Item) → Fits self.now x → row.now ≡ row_of x → ⊥) }
-        ensures first { IfErr result (λ e. IsNoRegister e → e ≡ OpenFault.BadRow) }
-        ensures disk { IfErr result (λ e. e ≡ OpenFault.Disk → ⊥) };
+        ensures bad { IfErr result (λ e. e ≡ RowsFault.BadRow → (x : Self.Item) → Fits self.now x → row.now ≡ row_of x → ⊥) };
 }
 
 /// The values of these rows.
-fn all_in<R: Reader>(alloc: Global, reader: &R, rows: &[Row]) -> Result<Vec<R::Item>, OpenFault>
+fn all_in<R: Reader>(alloc: Global, reader: &R, rows: &[Row]) -> Result<Vec<R::Item>, RowsFault>
     ensures ok { IfOk result (λ all. map R.row_of all.items ≡ rows.now) }
     ensures again { IfOk result (λ all. AllByRecursion R.IsRead all.items) }
-    ensures bad { IfErr result (λ e. IsNoRegister e → (all : List R.Item) → AllByRecursion (R.Fits reader.now) all → IsPermutation (map R.row_of all) rows.now → ⊥) }
-    ensures first { IfErr result (λ e. IsNoRegister e → e ≡ OpenFault.BadRow) }
-    ensures disk { IfErr result (λ e. e ≡ OpenFault.Disk → ⊥) }
+    ensures bad { IfErr result (λ e. e ≡ RowsFault.BadRow → (all : List R.Item) → AllByRecursion (R.Fits reader.now) all → IsPermutation (map R.row_of all) rows.now → ⊥) }
 {
     let mut all = Vec::new(alloc);
     'rows: for row in rows {
         let one = reader.read(alloc, row)?;
         if all.push(one).is_err() {
-            return Err(OpenFault::Memory);
+            return Err(RowsFault::Memory);
         }
     }
     Ok(all)

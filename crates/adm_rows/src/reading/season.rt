@@ -18,6 +18,7 @@ ghost use Rattle.adm_rows.specs.Causes.{DiskFailed, DiskFailedOr};
 use crate::reading::columns::value_at;
 use crate::reading::queries::query;
 use crate::{OpenFault, lists};
+use adm_register::RowsFault;
 use adm_schema::Version;
 use adm_schema::tables::meta::select_meta;
 use adm_types::{Day, Phase, Season, SeasonFault};
@@ -75,8 +76,8 @@ fn version_in(row: &Row) -> Result<Version, OpenFault>
     }
     let number: u32 = match value_at(row, 1) {
         Ok(number) => number,
-        Err(OpenFault::Memory) => return Err(OpenFault::Memory),
-        Err(_) => return Err(OpenFault::Version),
+        Err(RowsFault::Memory) => return Err(OpenFault::Memory),
+        Err(RowsFault::BadRow) => return Err(OpenFault::Version),
     };
     match version_of(number) {
         Some(version) => Ok(version),
@@ -85,25 +86,23 @@ fn version_in(row: &Row) -> Result<Version, OpenFault>
 }
 
 /// The other columns of a row that names this version.
-fn season_columns(row: &Row, version: Version) -> Result<SeasonColumns, OpenFault>
+fn season_columns(row: &Row, version: Version) -> Result<SeasonColumns, RowsFault>
     requires { column row.now 1 ≡ Int (pos (version_code version)) }
     ensures ok { IfOk result (λ c. row.now ≡ Int (pos 1) ∷ Int (pos (version_code version)) ∷ Int (pos (phase_code c.phase)) ∷ Int (pos c.year) ∷ TextValue (string_bytes c.holidays) ∷ Int (pos c.draws) ∷ []) }
-    ensures bad { IfErr result (λ e. IsNoRegister e → (phase : Phase) (year draws : ℕ) (holidays : List ℕ) → HasSeasonColumns row.now version phase year draws holidays → ⊥) }
-    ensures first { IfErr result (λ e. IsNoRegister e → e ≡ OpenFault.BadRow) }
-    ensures disk { IfErr result (λ e. e ≡ OpenFault.Disk → ⊥) }
+    ensures bad { IfErr result (λ e. e ≡ RowsFault.BadRow → (phase : Phase) (year draws : ℕ) (holidays : List ℕ) → HasSeasonColumns row.now version phase year draws holidays → ⊥) }
 {
     if row.column_count() != 6 {
-        return Err(OpenFault::BadRow);
+        return Err(RowsFault::BadRow);
     }
     let one: u32 = value_at(row, 0)?;
     let Some(phase) = phase_of(value_at(row, 2)?) else {
-        return Err(OpenFault::BadRow);
+        return Err(RowsFault::BadRow);
     };
     let year = value_at(row, 3)?;
     let holidays = value_at(row, 4)?;
     let draws = value_at(row, 5)?;
     if one != 1 {
-        return Err(OpenFault::BadRow);
+        return Err(RowsFault::BadRow);
     }
     Ok(SeasonColumns {
         phase,
@@ -114,56 +113,50 @@ fn season_columns(row: &Row, version: Version) -> Result<SeasonColumns, OpenFaul
 }
 
 /// Whether a text is that of these days.
-fn is_text_of_days(alloc: Global, text: &str, days: &[Day]) -> Result<bool, OpenFault>
+fn is_text_of_days(alloc: Global, text: &str, days: &[Day]) -> Result<bool, RowsFault>
     ensures ok { IfOk result (λ same. IsTrue same ↔ (text.now ≡ days_text days.now)) }
-    ensures bad { IfErr result (λ e. e ≡ OpenFault.Memory) }
+    ensures bad { IfErr result (λ e. e ≡ RowsFault.Memory) }
 {
     match lists::days_text(alloc, days) {
         Ok(again) => Ok(again.as_str() == text),
-        Err(_) => Err(OpenFault::Memory),
+        Err(_) => Err(RowsFault::Memory),
     }
 }
 
 /// The season of these days, where the entry year is in range and they are not too many.
-fn season_on(alloc: Global, phase: Phase, year: u32, days: &[Day]) -> Result<Season, OpenFault>
+fn season_on(alloc: Global, phase: Phase, year: u32, days: &[Day]) -> Result<Season, RowsFault>
     ensures ok { IfOk result (λ season. (season.phase ≡ phase) × (season.year ≡ year) × IsRising days.now season.holidays) }
-    ensures bad { IfErr result (λ e. IsNoRegister e → 2000 ≤ year → year ≤ 2100 → length days.now ≤ 40 → ⊥) }
-    ensures out_of_range { is_from 2000 2100 year ≡ false → result ≡ Err OpenFault.BadRow }
-    ensures too_many { IsTrue (is_from 2000 2100 year && nat_lt 40 (length days.now)) → result ≡ Err OpenFault.BadRow }
-    ensures first { IfErr result (λ e. IsNoRegister e → e ≡ OpenFault.BadRow) }
-    ensures disk { IfErr result (λ e. e ≡ OpenFault.Disk → ⊥) }
+    ensures bad { IfErr result (λ e. e ≡ RowsFault.BadRow → 2000 ≤ year → year ≤ 2100 → length days.now ≤ 40 → ⊥) }
+    ensures out_of_range { is_from 2000 2100 year ≡ false → result ≡ Err RowsFault.BadRow }
+    ensures too_many { IsTrue (is_from 2000 2100 year && nat_lt 40 (length days.now)) → result ≡ Err RowsFault.BadRow }
 {
     match Season::new(alloc, phase, year, days) {
         Ok(season) => Ok(season),
-        Err(SeasonFault::Memory) => Err(OpenFault::Memory),
-        Err(SeasonFault::YearRange) => Err(OpenFault::BadRow),
-        Err(SeasonFault::TooManyHolidays) => Err(OpenFault::BadRow),
+        Err(SeasonFault::Memory) => Err(RowsFault::Memory),
+        Err(SeasonFault::YearRange) => Err(RowsFault::BadRow),
+        Err(SeasonFault::TooManyHolidays) => Err(RowsFault::BadRow),
     }
 }
 
 /// The days that a text writes.
-fn read_days(alloc: Global, text: &str) -> Result<Vec<Day>, OpenFault>
+fn read_days(alloc: Global, text: &str) -> Result<Vec<Day>, RowsFault>
     ensures ok { IfOk result (λ days. days_of text.now ≡ Some days.items) }
-    ensures bad { IfErr result (λ e. IsNoRegister e → days_of text.now ≡ None) }
-    ensures first { IfErr result (λ e. IsNoRegister e → e ≡ OpenFault.BadRow) }
-    ensures disk { IfErr result (λ e. e ≡ OpenFault.Disk → ⊥) }
+    ensures bad { IfErr result (λ e. e ≡ RowsFault.BadRow → days_of text.now ≡ None) }
 {
     let Ok(read) = lists::days_in(alloc, text) else {
-        return Err(OpenFault::Memory);
+        return Err(RowsFault::Memory);
     };
     let Some(days) = read else {
-        return Err(OpenFault::BadRow);
+        return Err(RowsFault::BadRow);
     };
     Ok(days)
 }
 
 /// The season of these columns, where the text of its holidays is the text of them in rising order and once each.
-fn season_with(alloc: Global, columns: &SeasonColumns) -> Result<Season, OpenFault>
+fn season_with(alloc: Global, columns: &SeasonColumns) -> Result<Season, RowsFault>
     ensures ok { IfOk result (λ season. (season.phase ≡ columns.now.phase) × (season.year ≡ columns.now.year) × (string_bytes columns.now.holidays ≡ days_text season.holidays)) }
     ensures season { IfOk result IsSeason }
-    ensures bad { IfErr result (λ e. IsNoRegister e → (season : SeasonFacts) → IsSeason season → columns.now.year ≡ season.year → string_bytes columns.now.holidays ≡ days_text season.holidays → ⊥) }
-    ensures first { IfErr result (λ e. IsNoRegister e → e ≡ OpenFault.BadRow) }
-    ensures disk { IfErr result (λ e. e ≡ OpenFault.Disk → ⊥) }
+    ensures bad { IfErr result (λ e. e ≡ RowsFault.BadRow → (season : SeasonFacts) → IsSeason season → columns.now.year ≡ season.year → string_bytes columns.now.holidays ≡ days_text season.holidays → ⊥) }
 {
     let days = read_days(alloc, &columns.holidays)?;
     let season = season_on(alloc, columns.phase, columns.year, days.as_slice())?;
@@ -171,7 +164,7 @@ fn season_with(alloc: Global, columns: &SeasonColumns) -> Result<Season, OpenFau
     if same {
         Ok(season)
     } else {
-        Err(OpenFault::BadRow)
+        Err(RowsFault::BadRow)
     }
 }
 

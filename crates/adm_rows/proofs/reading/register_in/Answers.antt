@@ -7,8 +7,9 @@ use Rattle.adm_schema.proofs.Listed.{meta_in}
 use Rattle.adm_rows.specs.Reads.{HoldsSeason}
 use Rattle.adm_rows.specs.Represents.{HoldsRows, HoldsRegister}
 use Rattle.adm_rows.specs.FirstFault.{IsFirstFault}
+use Rattle.adm_rows.specs.Faults.{IsNoRegister}
 use Rattle.adm_rows.proofs.FaultLemmas.{one_version}
-use Rattle.adm_rows.proofs.CauseLemmas.{bad_rows, rows_never_disk, failed_in, cause_here, cause_of_season}
+use Rattle.adm_rows.proofs.CauseLemmas.{bad_rows, only_bad, rows_never_disk, failed_in, cause_here, cause_of_season}
 use Rattle.adm_rows.proofs.ReadingLemmas.{still, seen_before, seen_after}
 use Rattle.adm_rows.proofs.ReadBack.{season_back, version_back, count_back}
 use Rattle.adm_rows.proofs.RegisterRows.{holds_register, rows_held}
@@ -80,18 +81,18 @@ returns-in-Err-clause-bad g c structural r w clean has held =
     let there = seen_before v old mid same early here (λ db. HoldsSeason v season c.in_ok-first.first.draws db
     → HoldsRows v db rows) (c.in_ok-rows.ensures.ok clean (still v old mid same early here)) one in
     let back = season_back w v _ r season _ one c.in_ok-first.ensures.season held in
-    let reported = bad_rows _ _ structural c.rows_fault.ensures in
-    c.from_rows.ensures.bad_row (c.in-Err.is ∙ ap Err reported.0) r held.formed
+    let reported = bad_rows _ (subst IsNoRegister c.from.ensures structural) in
+    c.from_rows.ensures.bad_row (c.in-Err.is ∙ ap Err reported) r held.formed
     (rows_held v _ r rows (subst (λ u. HoldsRegister u old.now.trees r) own held) there c.in_ok-rows.ensures.again (c.in_ok-rows.ensures.season ∙ sym back))
 
 pub returns-in-Err-clause-first : goal.returns-in-Err-clause-first
 returns-in-Err-clause-first g c clean structural =
     let early : HasCleanDisk (state g.S.Store c.read_season.new.tx.conn.now) = omega (arith, c.rows_in.ensures.survives.clean, clean) in
-    let reported = bad_rows _ _ structural c.rows_fault.ensures in
-    subst (λ e. IsFirstFault (state g.S.Store c.args.tx.now.conn.now).now e) (sym reported.1) (c.in_ok-first.ensures.version early)
+    let reported = only_bad _ (subst IsNoRegister c.from.ensures structural) in
+    subst (λ e. IsFirstFault (state g.S.Store c.args.tx.now.conn.now).now e) (sym (c.from.ensures ∙ reported)) (c.in_ok-first.ensures.version early)
 
 pub returns-in-Err-clause-disk : goal.returns-in-Err-clause-disk
-returns-in-Err-clause-disk g c is = absurd (rows_never_disk _ _ c.rows_fault.ensures is)
+returns-in-Err-clause-disk g c is = absurd (rows_never_disk _ (sym c.from.ensures ∙ is))
 
 pub returns-in_err-first-clause-disk : goal.returns-in_err-first-clause-disk
 returns-in_err-first-clause-disk g c =

@@ -10,6 +10,7 @@ use Rattle.adm_types.specs.declared.rows.Child.{Child}
 use Rattle.adm_register.specs.declared.register_rows.Rows.{Rows}
 use Rattle.adm_rows.specs.Joins.{import_no}
 use Rattle.adm_rows.specs.Represents.{HasRows, fits_first_version, written_in, written_tables}
+use Rattle.adm_rows.proofs.CauseLemmas.{bad_rows, only_bad, rows_never_disk}
 use Rattle.adm_rows.proofs.JoinOnce.{once_values}
 use Rattle.adm_rows.proofs.RegisterRows.{bare_children, bare_imports, children_again, imports_again, each_table, first_again, not_said, presents_held, presents_fit, presents_said, presents_written, same_presents, with_later}
 use Rattle.adm_rows.proofs.reading.with_presents.Goals as goal
@@ -38,7 +39,7 @@ returns-in_err-join-clause-bad g c =
     rw (p.1, p.2) (λ structural again r clean has first held.
     let v = c.args.version in
     let db = (state g.S.Store c.args.tx.now.conn.now).now.trees in
-    c.in_err-join.ensures.bad (c.in_err-join.ensures.first structural) (values r.children) (values r.imported) (record {
+    c.in_err-join.ensures.bad (bad_rows _ structural) (values r.children) (values r.imported) (record {
       same_children = subst (λ xs. IsPermutation (map bare_child (values r.children)) (map bare_child xs)) (sym c.into_vec-children.ensures)
           (IsPermutation-sym _ _ (bare_children v db r c.args.rows.children again.children first.1.1.0 held));
       same_imports = subst (λ xs. IsPermutation (map bare_import (values r.imported)) (map bare_import xs)) (sym c.into_vec-imported.ensures)
@@ -87,3 +88,13 @@ returns-clause-again g c again =
     let imported : map bare_import c.from_vec-2.result ≡ map bare_import c.args.rows.imported = ap (map bare_import) c.from_vec-2.ensures ∙ c.join.ensures.same_imports
     ∙ ap (map bare_import) c.into_vec-imported.ensures in
     record { schools = again.schools; children = children_again _ _ children again.children; applications = again.applications; imported = imports_again _ _ imported again.imported }
+
+pub returns-in_err-join-clause-first : goal.returns-in_err-join-clause-first
+returns-in_err-join-clause-first g c clean =
+    let p = err_from_is_err_and c.from_residual-in_err-join.result c.from_residual-in_err-join.ensures.1 in
+    rw (p.1, p.2) (λ structural. only_bad _ structural)
+
+pub returns-in_err-join-clause-disk : goal.returns-in_err-join-clause-disk
+returns-in_err-join-clause-disk g c =
+    let p = err_from_is_err_and c.from_residual-in_err-join.result c.from_residual-in_err-join.ensures.1 in
+    rw (p.1, p.2) (λ is. absurd (rows_never_disk _ is))

@@ -7,6 +7,7 @@ use Rattle.adm_schema.proofs.Texts.{asks_present}
 use Rattle.sqlite.specs.Held.{state}
 use Rattle.adm_rows.specs.Present.{present_columns}
 use Rattle.adm_rows.specs.Reads.{AsksAll}
+use Rattle.adm_rows.proofs.CauseLemmas.{bad_rows, only_bad, rows_never_disk}
 use Rattle.adm_rows.proofs.ReadingLemmas.{held, held_as}
 use Rattle.adm_rows.proofs.reading.present.read_present.Goals as goal
 
@@ -33,6 +34,16 @@ pub returns-in_err-all-clause-bad : goal.returns-in_err-all-clause-bad
 returns-in_err-all-clause-bad g c =
     let p = err_from_is_err_and c.from_residual-in_err-all.result c.from_residual-in_err-all.ensures.1 in
     rw (p.1, p.2) (λ structural all formed clean has holds.
-    c.in_err-all.ensures.bad structural all formed
+    c.in_err-all.ensures.bad (bad_rows _ structural) all formed
     (held_as present present_columns (state g.S.Store c.args.tx.now.conn.now).now.trees c.in_ok-rows.rows.items c.as_slice.result.now
     (c.in_ok-rows.ensures.ok Second present (asks _ c.select_present.ensures) clean has) c.as_slice.ensures.value all holds))
+
+pub returns-in_err-all-clause-first : goal.returns-in_err-all-clause-first
+returns-in_err-all-clause-first g c clean =
+    let p = err_from_is_err_and c.from_residual-in_err-all.result c.from_residual-in_err-all.ensures.1 in
+    rw (p.1, p.2) (λ structural. only_bad _ structural)
+
+pub returns-in_err-all-clause-disk : goal.returns-in_err-all-clause-disk
+returns-in_err-all-clause-disk g c =
+    let p = err_from_is_err_and c.from_residual-in_err-all.result c.from_residual-in_err-all.ensures.1 in
+    rw (p.1, p.2) (λ is. absurd (rows_never_disk _ is))
