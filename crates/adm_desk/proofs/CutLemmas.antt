@@ -27,12 +27,6 @@ Cuts-then p xs q ys r ls ms first next = record {
   plain = λ plain. let a = first.plain plain in let b = next.plain a.1 in (each_append HasNoLineFeed ls ms a.0 b.0, b.1);
 }
 
-pub Cuts-end : (p : List ℕ) → Cuts p (10 ∷ []) (p ∷ []) []
-Cuts-end p = record {
-  whole = sym (append-nil (joined_lines (p ∷ [])) ∙ append-nil (p ++ 10 ∷ []));
-  plain = λ plain. ((plain, tt), tt);
-}
-
 pub Cuts-byte : (p : List ℕ) (b : ℕ) → (b ≡ 10 → ⊥) → Cuts p (b ∷ []) [] (p ++ b ∷ [])
 Cuts-byte p b other = record {
   whole = refl;

@@ -61,9 +61,6 @@ ended_lines ls p plain rest = rw (ended-joined ls p plain rest) (first_lines ls 
 
 -- ---- the ends of a run
 
-no_run : Run
-no_run = record { done = 0; refused = 0; failed = false }
-
 pub finished_from : {D : Type 0} (runs : D → List ℕ → LineAnswer → D → Type 0) (old mid new : D) (u v w : Option (List ℕ)) (run ran : Run) (p bytes : List ℕ)
     → Takes runs old mid u v (record { done = 0; refused = 0; failed = false }) run [] p bytes → Answered runs mid new v w run ran (last_line p) → Finished runs old new u w ran (lines_of bytes)
 finished_from {D} runs old mid new u v w run ran p bytes takes last =

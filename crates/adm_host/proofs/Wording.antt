@@ -1,11 +1,11 @@
 -- What is printed of a text, from what is printed of its two parts.
-use Rattle.std.proofs.Common.{◌≡◌, ℕ, zero, suc, ◌+◌, List, [], ◌∷◌, ◌++◌, length, take, Bool, Option, Result, Ok, Err, inl, inr, refl, sym, ap, subst}
+use Rattle.std.proofs.Common.{◌≡◌, ℕ, zero, suc, ◌+◌, List, [], ◌∷◌, ◌++◌, length, take, Bool, Option, Result, Ok, Err, refl, sym, ap, subst}
 use Rattle.std.specs.Io.KnownBytes.{Appends}
 use Rattle.std.specs.Result.{IsErr}
 use Rattle.std.proofs.KnownBytes.{Appends-trans}
 use Rattle.std.proofs.Math.Seq.{take-append-add}
 use Rattle.adm_wire.specs.Streams.{Stream}
-use Rattle.adm_host.specs.Reports.{IsCut, PrintsText, ReportsText}
+use Rattle.adm_host.specs.Reports.{IsCut, PrintsText}
 
 -- a beginning of a text is one of a longer text
 begun : (n : ℕ) (xs ys : List ℕ) → (m : ℕ) × (take m (xs ++ ys) ≡ take n xs)
@@ -35,8 +35,3 @@ writes_more xs ys a b c failed (Err e) first cut = cut_more xs ys a b c failed f
 pub as_cut : {A B : Type 0} (text : List ℕ) (errors : Stream) (r : Result A B) → IsErr r → IsCut text errors → PrintsText text errors r
 as_cut text errors (Ok x) is cut = let none : ⊥ = cc in absurd none
 as_cut text errors (Err e) is cut = cut
-
--- a print that fails is passed over
-pub tells : {A B : Type 0} (text : List ℕ) (errors : Stream) (r : Result A B) → PrintsText text errors r → ReportsText text errors
-tells text errors (Ok x) writes = inl writes
-tells text errors (Err e) writes = inr writes

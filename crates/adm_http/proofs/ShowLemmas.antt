@@ -1,23 +1,20 @@
 -- What is shown of a desk.
-use Rattle.std.proofs.Common.{◌≡◌, ℕ, List, Option, Some, None, Result, Ok, Err, Bool, true, false, cond, refl, sym, ap, ◌∙◌, subst}
-use Rattle.std.specs.Prelude.{MatchBool, IfOk, option_map, string_bytes}
+use Rattle.std.proofs.Common.{◌≡◌, ℕ, List, Option, Some, None, Result, Ok, Err, refl, sym, ap, ◌∙◌}
+use Rattle.std.specs.Prelude.{IfOk, option_map, string_bytes}
 use Rattle.std.specs.declared.alloc.AllocError.{AllocError}
 use Rattle.std.specs.declared.string.String.{String}
 use Rattle.serde_json.specs.Written.{compact_text}
 use Rattle.adm_types.specs.declared.draws.Draw.{Draw}
 use Rattle.adm_register.specs.State.{State}
-use Rattle.adm_desk.specs.DeskState.{DeskState}
 use Rattle.adm_letters.specs.Answers.{GivesText}
 use Rattle.adm_letters.specs.declared.fault.LetterFault.{LetterFault}
 use Rattle.adm_letters.specs.declared.fault.LetterFault.TheVariants as letter
 use Rattle.adm_view.specs.Answers.{GivesText as GivesDraw}
 use Rattle.adm_view.specs.Draws.{draw_data_with_lots}
 use Rattle.adm_view.specs.declared.fault.ViewFault.{ViewFault}
-use Rattle.adm_http.specs.Routes.{text_in}
-use Rattle.adm_http.specs.Shows.{IsShown, IsShownAs, IsMadeAs, IsDrawAs, Shows}
+use Rattle.adm_http.specs.Shows.{IsShown, IsShownAs, IsMadeAs, IsDrawAs}
 use Rattle.adm_http.specs.declared.request_handler.ShowResult.{ShowResult}
 use Rattle.adm_http.specs.declared.request_handler.ShowResult.TheVariants.{Text, Missing, Memory, Failed}
-use Rattle.adm_http.specs.declared.routes.Resource.{Resource}
 
 -- what was given is shown
 pub given_shown : {A : Type 0} (text : Option (List ℕ)) (fault : LetterFault) (given : Result (String A) LetterFault) (shown : ShowResult)
@@ -61,21 +58,3 @@ draw_shown s None (Err e) Missing gives is = refl
 draw_shown s (Some draw) (Err e) Memory gives is = (compact_text (draw_data_with_lots s draw), refl)
 draw_shown s None (Err e) Memory gives is = absurd (cc (sym gives ∙ is))
 draw_shown s wanted (Err e) Failed gives is = absurd is
-
-module _ {C : Type 0} (desk : DeskState C) (resource : Resource) where
-  -- of a desk that has not failed its register is shown
-  pub shows_register : (register : State) (shown : ShowResult) → Some register ≡ cond desk.failed None (Some desk.register)
-      → IsShown (text_in register resource) shown → Shows desk resource shown
-  shows_register register shown found is = by desk.failed found
-    where
-      by : (v : Bool) → Some register ≡ cond v None (Some desk.register) → MatchBool v (shown ≡ Failed) (IsShown (text_in desk.register resource) shown)
-      by true e = absurd (cc e)
-      by false e = subst (λ r. IsShown (text_in r resource) shown) (cc e) is
-
-  -- of a desk that has failed nothing is
-  pub shows_failed : None ≡ cond desk.failed None (Some desk.register) → Shows desk resource Failed
-  shows_failed found = by desk.failed found
-    where
-      by : (v : Bool) → None ≡ cond v None (Some desk.register) → MatchBool v (Failed ≡ Failed) (IsShown (text_in desk.register resource) Failed)
-      by true e = refl
-      by false e = absurd (cc e)

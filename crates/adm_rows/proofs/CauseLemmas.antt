@@ -1,5 +1,5 @@
 -- Why it is reported that the store failed.
-use Rattle.std.proofs.Common.{◌≡◌, ◌∙◌, refl, ℕ, List, [], Option, Some, None, ap, inl, inr, ◌⊎◌, arith, IsTrue, true, false, subst, sym}
+use Rattle.std.proofs.Common.{◌≡◌, ◌∙◌, refl, ℕ, List, [], Option, Some, None, ap, inl, inr, ◌⊎◌, arith, IsTrue, true, false, sym}
 use Rattle.std.specs.Prelude.{IsSome, IfSome, is_some}
 use Rattle.sqlite_disk.specs.Disk.{MoreFaults}
 use Rattle.sqlite_trees.specs.declared.error.StoreError.{StoreError}

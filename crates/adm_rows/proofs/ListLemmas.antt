@@ -1,7 +1,5 @@
 -- Texts that join their items by `;`, and what they are read as.
-use Rattle.std.proofs.Common.{◌≡◌, ◌∙◌, ℕ, suc, zero, ◌+◌, ◌<◌, Bool, true, false, List, [], ◌∷◌, ◌++◌, map, take, length, get_or, Some, None, Option, filter, refl, sym, ap, arith, append_assoc, append-nil}
-use Rattle.std.proofs.lemmas.List.{take_more, map-append}
-use Rattle.std.proofs.lemmas.List.Elements.{filter-append}
+use Rattle.std.proofs.Common.{◌≡◌, ◌∙◌, ℕ, suc, zero, ◌+◌, ◌<◌, Bool, true, false, List, [], ◌∷◌, ◌++◌, map, take, length, get_or, Some, None, Option, refl, sym, ap, arith, append_assoc}
 use Rattle.std.specs.Option.{option_map}
 use Rattle.std.specs.Prelude.{if◌then◌else◌}
 use Rattle.adm_schema.proofs.Lists.{map_more}
@@ -52,23 +50,3 @@ all_some_none (Some y ∷ xs) zero x low is none = absurd (let e = sym is ∙ no
 all_some_none (None ∷ xs) zero x low is none = refl
 all_some_none (Some y ∷ xs) (suc i) x low is none = ap (option_map (λ ys. y ∷ ys)) (all_some_none xs i x (omega arith) is none)
 all_some_none (None ∷ xs) (suc i) x low is none = refl
-
-pub filter_more : {X : Type 0} (p : X → Bool) (xs : List X) (i : ℕ) (x : X) → i < length xs → x ≡ get_or xs i x → filter p (take (i + 1) xs) ≡ filter p (take i xs) ++ (if p x then x ∷ [] else [])
-filter_more p xs i x low is = ap (filter p) (take_more xs i x low) ∙ filter-append p (take i xs) (get_or xs i x ∷ []) ∙ ap (λ y. filter p (take i xs) ++ (if p y then y ∷ [] else [])) (sym is)
-
--- the turn of a loop that keeps some items: one that is kept, and one that is not
-pub kept_more : {X W R : Type 0} (f : W → R) (g : X → R) (p : X → Bool) (xs : List X) (i : ℕ) (x : X) (was now : List W) (w : W) → i < length xs → x ≡ get_or xs i x → p x ≡ true
-    → map f was ≡ map g (filter p (take i xs)) → now ≡ was ++ w ∷ [] → f w ≡ g x → map f now ≡ map g (filter p (take (i + 1) xs))
-kept_more f g p xs i x was now w low is kept so_far next row =
-    ap (map f) next ∙ map-append f was (w ∷ []) ∙ (λ k. so_far k ++ row k ∷ []) ∙ sym (map-append g (filter p (take i xs)) (x ∷ []))
-    ∙ ap (map g) (sym (filter_more p xs i x low is ∙ ap (λ b. filter p (take i xs) ++ (if b then x ∷ [] else [])) kept))
-
-pub left_more : {X R : Type 0} (g : X → R) (p : X → Bool) (xs : List X) (i : ℕ) (x : X) (so : List R) → i < length xs → x ≡ get_or xs i x → p x ≡ false
-    → so ≡ map g (filter p (take i xs)) → so ≡ map g (filter p (take (i + 1) xs))
-left_more g p xs i x so low is no_ so_far =
-    so_far ∙ ap (map g) (sym (filter_more p xs i x low is ∙ ap (λ b. filter p (take i xs) ++ (if b then x ∷ [] else [])) no_ ∙ append-nil (filter p (take i xs))))
-
-pub any_default : {X : Type 0} (xs : List X) (i : ℕ) (d e : X) → i < length xs → get_or xs i d ≡ get_or xs i e
-any_default [] i d e low = absurd (omega arith)
-any_default (x ∷ xs) zero d e low = refl
-any_default (x ∷ xs) (suc i) d e low = any_default xs i d e (omega arith)

@@ -1,12 +1,11 @@
 -- Which rows are those of no school.
-use Rattle.std.proofs.Common.{◌≡◌, ◌∙◌, ℕ, ◌<◌, ◌^◌, true, List, [], ◌∷◌, length, Some, None, pos, nat_le, sym, ap, arith}
+use Rattle.std.proofs.Common.{◌≡◌, ◌∙◌, ℕ, ◌<◌, ◌^◌, true, List, [], length, Some, None, nat_le, sym, ap, arith}
 use Rattle.std.specs.Prelude.{◌&&◌}
 use Rattle.std.specs.List.{list_all}
 use Rattle.std.specs.Option.{unwrap_or}
 use Rattle.std.proofs.lemmas.Bool.{and_parts}
 use Rattle.std.proofs.lemmas.Bool.Decides.{nat_tests}
 use Rattle.std.proofs.lemmas.Str.{IsUtf8-from_is_utf8}
-use Rattle.sqlite.specs.declared.types.Value.TheVariants.{Int, Text}
 use Rattle.sqlite.specs.Order.{Row, column}
 use Rattle.adm_types.specs.Limits.{is_from, is_on_map, is_school_in_range}
 use Rattle.adm_types.specs.Criteria.{is_criterion}
@@ -48,11 +47,6 @@ has_school_columns row s fits is =
       east_fits = metres_fit s.at.east map.0;
       north_fits = metres_fit s.at.north map.1;
     }
-
--- a school of which the row is read has that code and that text of its criteria
-pub school_columns_agree : (row : Row) (code name criteria : List ℕ) (pan east north : ℕ) (s : School)
-    → row ≡ Text code ∷ Text name ∷ Int (pos pan) ∷ Int (pos east) ∷ Int (pos north) ∷ Text criteria ∷ [] → row ≡ school_row s → (code ≡ s.code) × (criteria ≡ criteria_text s.criteria)
-school_columns_agree row code name criteria pan east north s read is = let e = sym read ∙ is in (ap (λ r. text_in (column r 0)) e, ap (λ r. text_in (column r 5)) e)
 
 pub no_criteria_read : (text : List ℕ) (criteria : List Criterion) → list_all is_criterion criteria ≡ true → text ≡ criteria_text criteria → criteria_of text ≡ None → ⊥
 no_criteria_read text criteria fit is read =

@@ -1,8 +1,8 @@
 -- Which rows are that of no season.
-use Rattle.std.proofs.Common.{◌≡◌, ◌∙◌, ◌<◌, ◌^◌, ℕ, zero, suc, true, false, subst, List, [], ◌∷◌, Some, None, pos, refl, sym, ap, arith}
+use Rattle.std.proofs.Common.{◌≡◌, ◌∙◌, ◌<◌, ◌^◌, ℕ, zero, suc, true, false, subst, List, Some, None, pos, refl, sym, ap, arith}
 use Rattle.std.specs.Prelude.{◌==◌}
 use Rattle.std.specs.List.{list_any}
-use Rattle.sqlite.specs.declared.types.Value.TheVariants.{Int, Text}
+use Rattle.sqlite.specs.declared.types.Value.TheVariants.{Int}
 use Rattle.adm_schema.specs.declared.version.Version.{Version}
 use Rattle.adm_schema.specs.declared.version.Version.TheVariants.{First, Second}
 use Rattle.adm_rows.specs.FirstFault.{is_known_version}
@@ -47,12 +47,6 @@ no_code zero none = refl
 no_code (suc zero) none = absurd (none First refl)
 no_code (suc (suc zero)) none = absurd (none Second refl)
 no_code (suc (suc (suc n))) none = refl
-
--- a season of which the row is read
-pub columns_agree : (v w : Version) (row : Row) (phase : Phase) (year draws count : ℕ) (holidays : List ℕ) (season : SeasonFacts)
-    → row ≡ Int (pos 1) ∷ Int (pos (version_code v)) ∷ Int (pos (phase_code phase)) ∷ Int (pos year) ∷ Text holidays ∷ Int (pos draws) ∷ []
-    → row ≡ season_row w season count → (year ≡ season.year) × (holidays ≡ days_text season.holidays)
-columns_agree v w row phase year draws count holidays season read is = let e = sym read ∙ is in (ap (λ r. number_in (column r 3)) e, ap (λ r. text_in (column r 4)) e)
 
 pub has_season_columns : (v : Version) (row : Row) (season : SeasonFacts) (draws : ℕ) → IsSeason season → draws < 2 ^ 32 → row ≡ season_row v season draws
     → HasSeasonColumns row v season.phase season.year draws (days_text season.holidays)

@@ -1,12 +1,12 @@
 -- What a DELETE does, by its command.
-use Rattle.std.proofs.Common.{◌≡◌, ℕ, List, [], ◌∷◌, length, slice_get, true, false, ◌^◌, nat_le, Some, None, Ok, refl, sym, ap, subst, ◌∙◌}
+use Rattle.std.proofs.Common.{◌≡◌, ℕ, List, [], length, slice_get, false, Some, None, Ok, refl, sym, ap, subst, ◌∙◌}
 use Rattle.std.specs.Prelude.{unwrap_or}
 use Rattle.std.proofs.lemmas.List.{length-map}
 use Rattle.sqlite.specs.Order.{Row}
 use Rattle.sqlite.specs.Table.{Table}
 use Rattle.sqlite.specs.Schema.{Schema}
 use Rattle.sqlite.specs.Command.TheVariants.{Delete}
-use Rattle.sqlite.specs.Edit.{Edit, edit_of, Applies, id_in, have_rowids}
+use Rattle.sqlite.specs.Edit.{Edit, edit_of, Applies, id_in}
 use Rattle.sqlite_rules.specs.Edit.{taken_by, row_at}
 use Rattle.sqlite.specs.Rowids.TheVariants.{Given}
 use Rattle.sqlite_schema.specs.declared.schema.Keys.TheVariants.{Enforced}
@@ -20,14 +20,7 @@ use Rattle.sqlite.specs.Effect.{Database, Answers}
 use Rattle.sqlite.specs.Listing.{understood}
 use Rattle.sqlite.specs.State.{State, mode_of, ExecutesInside}
 use Rattle.sqlite.proofs.Callers.{IsPlain, command_of, statement_of, runs_as, one_step}
-use Rattle.std.specs.List.Sorted.{IsPermutation}
-use Rattle.std.proofs.lemmas.List.Sorted.{IsPermutation-map}
-use Rattle.std.proofs.lemmas.Simd.{map-map}
-use Rattle.sqlite.specs.Term.{eval_all, col}
-use Rattle.adm_schema.specs.Queries.{query_of, program_of}
 use Rattle.adm_schema.specs.Effects.{WritesOnly}
-use Rattle.adm_schema.proofs.Lists.{all_go, ids_have}
-use Rattle.adm_schema.proofs.Queries.{answers_all}
 use Rattle.adm_schema.proofs.Statements.{went, same_value, task_in, at_table, ends, counts, leaves_others}
 
 -- as many rowids as rows that name them
@@ -75,16 +68,3 @@ module _ (schema : Schema) (table : Table) (at : ℕ) (found : slice_get schema.
         subst (Applies schema Enforced old.now.trees edit) (sym (ap (λ (d : Database). d.trees) on.2)) some.2,
         w.counted ∙ ap (λ o. unwrap_or o 0) on.3 ∙ some.3,
       )
-
-  -- a DELETE with no WHERE
-  pub deleted_all : (sql : List ℕ) (params : Row) (old new : State) (count : ℕ)
-      → command_of (understood schema sql) ≡ Delete at (program_of (query_of table.tree [] (col 1 0 ∷ []) [])) → IsPlain (understood schema sql)
-      → nat_le (2 ^ 31) table.tree ≡ false → old.now.schema ≡ schema → have_rowids (old.now.trees table.tree) ≡ true → ExecutesInside 0 sql params old new (Ok count)
-      → WritesOnly table old new × (new.now.trees table.tree ≡ [])
-  deleted_all sql params old new count is plain low has keyed h =
-      let some = deleted (program_of (query_of table.tree [] (col 1 0 ∷ []) [])) sql params old new count is plain has h in
-      let rows = old.now.trees table.tree in
-      let asked = answers_all table.tree (col 1 0 ∷ []) [] (record { schema = schema; trees = old.now.trees }) params some.0 low some.2 in
-      let ids = subst (λ xs. IsPermutation xs (ids_of some.0)) (map-map (λ (r : Row). id_in (rowid r)) (λ (r : Row). eval_all (col 1 0 ∷ []) (params ∷ r ∷ [])) rows)
-      (IsPermutation-map (λ (r : Row). id_in (rowid r)) _ some.0 asked) in
-      (some.1, some.3.rows ∙ all_go (ids_of some.0) rows keyed (ids_have rows (ids_of some.0) ids))

@@ -152,10 +152,6 @@ weaker start end P Q f kept = record {
   crash = λ clean db may. elim (kept.crash clean db may) [ inl was ↦ inl was | inr now ↦ inr (f db now) ];
 }
 
--- where nothing was written, nothing was migrated
-pub as_it_was : (start end : State) → Survives start end (λ _. ⊥) → Survives start end (IsMigrated start)
-as_it_was start end kept = weaker start end (λ _. ⊥) (IsMigrated start) (λ _ none. absurd none) kept
-
 -- what an Ok says under a condition
 pub later_ok : {X E : Type 0} (x : Result X E) (C A Q : Type 0) → (C → OnOk x A) → ((C → A) → Q) → OnOk x Q
 later_ok (Ok v) C A Q h f = f h

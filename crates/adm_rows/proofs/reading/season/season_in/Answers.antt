@@ -1,6 +1,6 @@
 use Rattle.std.proofs.lemmas.Result.{err_from_is_err_and}
 use Rattle.adm_rows.specs.Forms.{days_text}
-use Rattle.adm_rows.proofs.CauseLemmas.{bad_rows, only_bad, rows_never_disk}
+use Rattle.adm_rows.proofs.CauseLemmas.{bad_rows}
 use Rattle.adm_rows.proofs.SeasonRows.{has_season_columns, is_its_version}
 use Rattle.adm_rows.proofs.reading.season.season_in.Goals as goal
 
