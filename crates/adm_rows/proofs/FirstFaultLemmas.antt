@@ -5,7 +5,7 @@ use Rattle.std.proofs.lemmas.List.Sorted.{IsPermutation-sym, length_permutation}
 use Rattle.sqlite.specs.Order.{Row}
 use Rattle.sqlite.specs.Clock.{timed}
 use Rattle.sqlite.specs.Effect.{Database, RefusesToRead}
-use Rattle.sqlite.specs.State.{State, Shown, ShowsRows, FailsToQuery, FailsToShow, IsNotRun, IsTooLate, store_error}
+use Rattle.sqlite.specs.State.{State, Shown, ShowsRows, FailsToQuery, FailsToShow, IsNotRun, IsTooLate}
 use Rattle.sqlite.specs.Command.{Command}
 use Rattle.sqlite.specs.Command.TheVariants.{Select, Rows}
 use Rattle.sqlite.specs.declared.error.Error.{Error}
@@ -13,12 +13,11 @@ use Rattle.sqlite.specs.declared.error.Error.TheVariants.{SqlInputError}
 use Rattle.sqlite.proofs.Callers.{one_permutation}
 use Rattle.sqlite_resolve.specs.declared.compiled.Compiled.{Compiled}
 use Rattle.sqlite_resolve.specs.declared.error.CompileError.{CompileError}
-use Rattle.sqlite_trees.specs.declared.error.StoreError.{StoreError}
-use Rattle.sqlite_trees.specs.declared.error.StoreError.TheVariants as stored
 use Rattle.adm_schema.specs.Rows.{rows_of}
 use Rattle.adm_schema.specs.declared.version.Version.{Version}
 use Rattle.adm_schema.specs.Schema.{meta, schema_of}
 use Rattle.adm_schema.specs.Texts.{select_meta}
+use Rattle.adm_schema.proofs.Queries.{no_store_error}
 use Rattle.adm_rows.specs.declared.fault.OpenFault.{OpenFault}
 use Rattle.adm_rows.specs.declared.fault.OpenFault.TheVariants.{NotOurs}
 use Rattle.adm_rows.specs.FirstFault.{first_open_fault, AnswersRows, IsAnswered, IsNotAsked, IsFirstFault}
@@ -33,14 +32,6 @@ answered sql old new rows h = (
   h.1.is,
   λ plain. let it = subst (ShowsRows old new sql h.0 (timed [] h.0.formats h.1.now) rows) plain h.2 in (it.0, timed [] h.0.formats h.1.now, it.1, it.2),
 )
-
-no_store_error : (cause : StoreError) (why : CompileError) → store_error cause ≡ SqlInputError why → ⊥
-no_store_error stored.OutOfMemory why e = absurd (cc)
-no_store_error stored.Io why e = absurd (cc)
-no_store_error stored.Corrupt why e = absurd (cc)
-no_store_error stored.Full why e = absurd (cc)
-no_store_error stored.Broken why e = absurd (cc)
-no_store_error stored.Unstorable why e = absurd (cc)
 
 -- a query that runs is not refused for its text
 no_text_error : (limit : Option ℕ) (command : Command) (db : Database) (params : Row) (e : Error) (why : CompileError) → e ≡ SqlInputError why → RefusesToRead limit command db params e → ⊥

@@ -1,9 +1,8 @@
 -- Texts that join their items by `;`, and what they are read as.
-use Rattle.std.proofs.Common.{◌≡◌, ◌∙◌, ℕ, suc, zero, ◌+◌, ◌<◌, Bool, true, false, List, [], ◌∷◌, ◌++◌, map, take, length, get_or, Some, None, Option, refl, sym, ap, arith, append_assoc}
-use Rattle.std.specs.Option.{option_map}
+use Rattle.std.proofs.Common.{◌≡◌, ◌∙◌, ℕ, ◌+◌, ◌<◌, Bool, true, false, List, [], ◌∷◌, ◌++◌, map, take, length, get_or, refl, sym, ap, append_assoc}
 use Rattle.std.specs.Prelude.{if◌then◌else◌}
 use Rattle.adm_schema.proofs.Lists.{map_more}
-use Rattle.adm_types.specs.Joined.{joined, all_some}
+use Rattle.adm_types.specs.Joined.{joined}
 
 abbrev pub is_nil : {X : Type 0} → List X → Bool
 is_nil [] = true
@@ -38,15 +37,3 @@ appended write xs i x is_first was now piece low item so_far first text done =
 
 pub not_first : {X : Type 0} (write : X → List ℕ) (xs : List X) (i : ℕ) (x : X) → i < length xs → x ≡ get_or xs i x → false ≡ is_nil (map write (take (i + 1) xs))
 not_first write xs i x low item = sym (ap is_nil (map_more write xs i x low item) ∙ nil_push (map write (take i xs)) (write x))
-
-pub all_some_of : {X : Type 0} (xs : List X) → all_some (map Some xs) ≡ Some xs
-all_some_of [] = refl
-all_some_of (x ∷ xs) = ap (option_map (λ ys. x ∷ ys)) (all_some_of xs)
-
--- one that is missing
-pub all_some_none : {X : Type 0} (xs : List (Option X)) (i : ℕ) (x : Option X) → i < length xs → x ≡ get_or xs i x → x ≡ None → all_some xs ≡ None
-all_some_none [] i x low is none = absurd (omega arith)
-all_some_none (Some y ∷ xs) zero x low is none = absurd (let e = sym is ∙ none in cc)
-all_some_none (None ∷ xs) zero x low is none = refl
-all_some_none (Some y ∷ xs) (suc i) x low is none = ap (option_map (λ ys. y ∷ ys)) (all_some_none xs i x (omega arith) is none)
-all_some_none (None ∷ xs) (suc i) x low is none = refl

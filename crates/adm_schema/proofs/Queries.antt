@@ -39,7 +39,7 @@ answers_all tree project order db params rows low h =
     ∙ map-flat (λ env. eval_all project env) (λ r. params ∷ r ∷ []) (db.trees tree) in
     subst₂ IsPermutation kept (sym a.shown) (IsPermutation-map (λ (o : Output). o.1) a.kept a.ordered a.same)
 
-no_store_error : (cause : StoreError) (why : CompileError) → store_error cause ≡ SqlInputError why → ⊥
+pub no_store_error : (cause : StoreError) (why : CompileError) → store_error cause ≡ SqlInputError why → ⊥
 no_store_error stored.OutOfMemory why e = absurd (cc)
 no_store_error stored.Io why e = absurd (cc)
 no_store_error stored.Corrupt why e = absurd (cc)

@@ -1,9 +1,8 @@
 -- The file of a new register: it represents the register that has its season alone.
 use Rattle.std.proofs.Common.{◌≡◌, ◌≤◌, true, inl, [], ◌∷◌, map, flat_map, refl, sym, ap, ◌∙◌, subst, arith, IsTrue}
 use Rattle.std.specs.List.Sorted.{IsPermutation}
-use Rattle.std.specs.declared.cmp.Ordering.{Ordering}
 use Rattle.std.specs.Ordering.{nat_cmp}
-use Rattle.std.specs.FinMap.{empty, get-empty, len-empty}
+use Rattle.std.specs.FinMap.{empty}
 use Rattle.sqlite.specs.Table.{Table}
 use Rattle.sqlite.specs.Held.{Held, state}
 use Rattle.sqlite_trees.specs.declared.store.Store as store
@@ -11,21 +10,17 @@ use Rattle.sqlite_trees.specs.View.{doubt}
 use Rattle.sqlite.specs.State.{State, HasCleanDisk, IsLive}
 use Rattle.sqlite_catalog.specs.Listing.{IsSound}
 use Rattle.sqlite_rules.specs.Lists.{Has}
-use Rattle.std.proofs.lemmas.Option.{none-some}
 use Rattle.adm_lists.proofs.Maps.{values-empty}
-use Rattle.adm_types.specs.Seasons.{SeasonFacts, IsSeason}
-use Rattle.adm_types.specs.declared.rows.School.{School}
-use Rattle.adm_types.specs.declared.rows.Child.{Child}
+use Rattle.adm_types.specs.Seasons.{SeasonFacts}
 use Rattle.adm_types.specs.Limits.{code_cmp}
 use Rattle.adm_register.specs.State.{only_season, left_cmp}
-use Rattle.adm_register.specs.WellFormed.{WellFormed, AllRows}
 use Rattle.adm_schema.specs.declared.version.Version.TheVariants.{Second}
 use Rattle.adm_schema.specs.Rows.{columns_of, rows_of}
 use Rattle.adm_schema.specs.Effects.{SeesNoRows}
 use Rattle.adm_schema.specs.Schema.{meta, no_schema, register_schema}
 use Rattle.adm_register.specs.Rows.{rows_in_order}
-use Rattle.adm_register.specs.Draws.{no_draws, are_in_order}
 use Rattle.adm_register.specs.declared.register_rows.Rows.{Rows}
+use Rattle.adm_register.proofs.OnlySeason.{only_season-WellFormed}
 use Rattle.adm_draws.specs.Draws.{row_of, offer_rows_of, lot_rows_of}
 use Rattle.adm_store.specs.declared.rows.SeasonRow.{SeasonRow}
 use Rattle.adm_store.specs.Changes.{IsRowOf, written_season}
@@ -34,27 +29,6 @@ use Rattle.adm_store.specs.Writes.{Adds, Leaves, Writes, write_of, after_writes,
 use Rattle.adm_store.proofs.LogLemmas.{keyed_none}
 use Rattle.adm_rows.proofs.RegisterRows.{each_table}
 use Rattle.adm_rows.proofs.RowLemmas.{recursion_had}
-
--- no row is without what each row has to have
-none_wrong : {K V : Type 0} (R : K → K → Ordering) (P : K → V → Type 0) → AllRows P (empty {K = K} {X = V} {R = R})
-none_wrong R P key row there = absurd (none-some row (sym (get-empty R key) ∙ there))
-
--- the season and no other row is a register
-pub formed_new : (season : SeasonFacts) → IsSeason season → WellFormed (only_season season)
-formed_new season fits = record {
-  base = record {
-    season_is = fits;
-    few_schools = omega (arith, len-empty code_cmp School);
-    schools_fit = none_wrong code_cmp _;
-    few_children = omega (arith, len-empty nat_cmp Child);
-    children_fit = none_wrong nat_cmp _;
-    applications_fit = none_wrong nat_cmp _;
-  };
-  places = record { each = none_wrong nat_cmp _; room = none_wrong code_cmp _ };
-  left = none_wrong left_cmp _;
-  draws = record { each = none_wrong nat_cmp _; in_order = ap (are_in_order season no_draws) (values-empty nat_cmp _) };
-  imported = none_wrong nat_cmp _;
-}
 
 -- the rows of a register that has only its season
 abbrev season_alone : SeasonFacts → Rows
@@ -80,7 +54,7 @@ represents_new made last season row it none wrote = record {
   sound = subst (λ s. IsSound s last.now.trees) (wrote.schema ∙ none.schema_is) wrote.sound;
   holds = record {
     rows = record { said = tt; each = λ t listed. subst (λ rows. HasRows t (written_in (written_tables Second rows) t) last.now.trees) (sym (only_rows season)) (table t listed) };
-    formed = formed_new season it.season_is;
+    formed = only_season-WellFormed season it.season_is;
   };
 }
   where

@@ -1,7 +1,7 @@
 use Rattle.std.proofs.Common.{sym, ap, ◌∙◌}
 use Rattle.std.proofs.lemmas.List.{take_all}
 use Rattle.adm_types.specs.Joined.{all_some}
-use Rattle.adm_rows.proofs.ListLemmas.{all_some_of, all_some_none}
+use Rattle.adm_types.proofs.JoinedLemmas.{all_some_of, all_some_none}
 use Rattle.adm_rows.proofs.lists.all_some.Goals as goal
 
 pub returns-in-None : goal.returns-in-None
