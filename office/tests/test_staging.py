@@ -887,6 +887,7 @@ def as_before(path: pathlib.Path) -> None:
     with contextlib.closing(sqlite3.connect(path)) as db:
         db.executescript("DROP VIEW staged_import; DELETE FROM sending WHERE kind='import';"
                          "ALTER TABLE staged_row DROP COLUMN remark;"
+                         "ALTER TABLE draw DROP COLUMN name;"
                          f"PRAGMA user_version={before}")
 
 
