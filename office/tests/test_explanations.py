@@ -183,7 +183,8 @@ def test_a_fill_is_explained(tmp_path: pathlib.Path) -> None:
         office.add("jane", "officer")
         jane = office.browser("jane")
         words = " ".join(Page(jane.get("/children/4").text).by_id["why"].split())
-        assert words.startswith("Offer of a place at A (draw 2), 14 April 2025: why not Alpha Round 1,")
+        assert words.startswith(
+            "Offer of a place at A (draw 2), 14 April 2025: why not Alpha Round 1,")
         page = Page(jane.get("/children/4/why/2/family").text)
         assert "Some children waited for the vacancy, your child among them." in page.text
         assert f"The child that was offered the place: {WORDS}." in page.text

@@ -55,9 +55,10 @@ def test_the_movement_of_a_list_is_that_of_the_copies(small: Machine) -> None:
         steps = Page(rita.get("/children/4?part=positions").text).tables["OAK School"]
         assert steps[1:] == [
             ["After round 1, 3 March 2025", "3", "4"],
-            ["After offer of a place at OAK (draw 2), 20 March 2025", "1", "2"], ["Now", "1", "2"]]
-        fill = ["offer of a place at OAK (draw 2)", "20 March 2025", "1", "3", "2", "0", "0", by_one,
-                "nobody moved"]
+            ["After offer of a place at OAK (draw 2), 20 March 2025", "1", "2"],
+            ["Now", "1", "2"]]
+        fill = ["offer of a place at OAK (draw 2)", "20 March 2025", "1", "3", "2", "0", "0",
+                by_one, "nobody moved"]
         assert moved() == [
             [*first, "0", "2", none, "2 children moved up, by 2 positions"], fill]
         assert "1 place was offered." in rita.get("/schools/OAK/moves").text

@@ -609,7 +609,8 @@ def test_nothing_is_stored_while_the_register_is_closed(empty: Site) -> None:
     empty.parts.desk.closed = lambda: "Recording is paused for round 1 by hal."
     found = stores(jane, "", page, "Store 2 schools")
     assert found.status_code == 409
-    assert Page(found.text).said() == "Recording is paused for round 1 by hal. Nothing was recorded."
+    said = "Recording is paused for round 1 by hal. Nothing was recorded."
+    assert Page(found.text).said() == said
     assert sent(empty) == [] and len(empty.parts.schools.rows()) == 2
 
 
