@@ -121,10 +121,10 @@ def question(office: Office) -> None:
         rita.pick(f"{NTH[at].capitalize()} preference", "no school", "no s")
     rita.press_by_keys("What would the child have got by this list?")
     rita.look("What another list would have given")
-    meant = f"a place at {NAMES[got]} ({got}), its first preference" if got else "no place"
-    rita.see(f"By the list {first}: {meant}.")
-    rita.see(f"By its own list, {', '.join(season.lists[child])}: a place at {NAMES[second]}"
-             f" ({second}), its second preference.")
+    meant = f"a place at {NAMES[got]} ({got}), the first preference" if got else "no place"
+    rita.see(f"With the list {first}: {meant}.")
+    rita.see(f"With the family’s own list, {', '.join(season.lists[child])}: a place at"
+             f" {NAMES[second]} ({second}), the second preference.")
 
 
 def archived(office: Office) -> None:
