@@ -740,7 +740,7 @@ def test_a_mutant_is_listed_by_what_it_attacks_with_its_edit_and_its_command(pac
         [it for it in found["mutants"] if it["changes_nothing"]])
     no_clause = {it["name"] for it in found["attacked"]
                  if it["kind"] == "function" and not it["clauses"]}
-    assert no_clause == {"Criterion::fmt", "RowsFault::from", "Fault::from"}
+    assert no_clause == {"Criterion::fmt", "RowsFault::from", "Fault::from", "OpenFault::from"}
     # one of a function that carries a promise, one of a definition that a promise reaches
     clause = next(it for it in found["clauses"]
                   if it["id"] == "adm_types.child_no.ChildNo::new:valid")
