@@ -11,8 +11,9 @@ FOREVER = "This cannot be undone: the school is not offered to the child again."
 # what is wrong with what was typed for a day
 NOT_A_DAY = "a day as 17 March 2025 or 17/3/2025"
 NOT_YET = "today or an earlier day"
-WRONG_DECLINE = ("A decline of the wrong child is put right only by a restore of a copy from before"
-                 " it, by two people, and best before the next draw: see Help.")
+WRONG_DECLINE = ("If a decline is of the wrong child, open Help before anything else is recorded:"
+                 " what puts it right depends on who has the place by then.")
+WAITS = "The child then waits at all its other schools, also at those that it wants less."
 # the name of a refusal, as it ends the words of an answer
 REFUSAL = re.compile(rf"(?<=\()({'|'.join(rules.RULES['refusals'])})(?=\))")
 # the name of an account at the begin of a text

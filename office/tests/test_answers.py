@@ -515,7 +515,7 @@ def test_names_that_are_not_all_offered_are_said_to_be_more(office: Site) -> Non
 
 def test_what_puts_a_wrong_decline_right_is_said_before_and_after(office: Site) -> None:
     """In the question, below what was recorded, and in the help; not of accepts."""
-    jane, said = office.browser("jane"), "is put right only by a restore"
+    jane, said = office.browser("jane"), "depends on who has the place by then"
     assert said not in jane.get(PAGE).text
     page = enter(jane, "12-")
     question = press(jane, PAGE, page, "Record 1 answer")
