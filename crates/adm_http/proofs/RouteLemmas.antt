@@ -6,7 +6,7 @@ use Rattle.matchit.specs.Router.{RouteOf, map_key}
 use Rattle.matchit.proofs.RenameLemmas.{first-rename}
 use Rattle.adm_http.specs.Routes.{Found, at_end, with_part, child_after, route_of, row_of, all_routes}
 use Rattle.adm_http.specs.declared.routes.Route.{Route}
-use Rattle.adm_http.specs.declared.routes.Route.TheVariants.{Command, Import, Child, Letter, Pairs, SchoolPairs, Waiting, Round, WhatIf, Register, Draw}
+use Rattle.adm_http.specs.declared.routes.Route.TheVariants.{Command, Import, Child, Letter, Pairs, SchoolPairs, Waiting, Round, WhatIf, Register, Draw, RegisterChild, RegisterSchool}
 use Rattle.adm_http.proofs.RowLemmas.{text_by_test}
 use Rattle.adm_http.proofs.FindLemmas.{IsBytes, key_of, ends, part_ends, suffix_ends, either_ends, last_found, next_found}
 
@@ -24,6 +24,8 @@ key SchoolPairs = 7
 key Import = 8
 key Register = 9
 key Draw = 10
+key RegisterChild = 11
+key RegisterSchool = 12
 
 abbrev pub route_row : Route → RouteOf Route
 route_row route = (row_of route).1
@@ -40,7 +42,9 @@ row_at k =
     (cond (k == 7) (route_row SchoolPairs)
     (cond (k == 8) (route_row Import)
     (cond (k == 9) (route_row Register)
-    (route_row Draw))))))))))
+    (cond (k == 10) (route_row Draw)
+    (cond (k == 11) (route_row RegisterChild)
+    (route_row RegisterSchool))))))))))))
 
 own_row : (r : Route) → r ≡ (route_row r).value
 own_row Letter = refl
@@ -54,6 +58,8 @@ own_row SchoolPairs = refl
 own_row Import = refl
 own_row Register = refl
 own_row Draw = refl
+own_row RegisterChild = refl
+own_row RegisterSchool = refl
 
 row_of_key : (r : Route) → row_at (key r) ≡ route_row r
 unfolding row_at
@@ -68,6 +74,8 @@ row_of_key SchoolPairs = refl
 row_of_key Import = refl
 row_of_key Register = refl
 row_of_key Draw = refl
+row_of_key RegisterChild = refl
+row_of_key RegisterSchool = refl
 
 -- ---- what is found
 
@@ -98,8 +106,14 @@ from_round = prepend (codes "/round/") (prepend (param_token ∷ []) (([], key R
 abbrev from_register : Rows
 from_register = prepend (codes "/register") (([], key Register) ∷ []) ++ from_round
 
+abbrev from_register_school : Rows
+from_register_school = prepend (codes "/register/school/") (prepend (param_token ∷ []) (([], key RegisterSchool) ∷ [])) ++ from_register
+
+abbrev from_register_child : Rows
+from_register_child = prepend (codes "/register/child/") (prepend (param_token ∷ []) (([], key RegisterChild) ∷ [])) ++ from_register_school
+
 abbrev from_pairs : Rows
-from_pairs = prepend (codes "/pairs") (([], key Pairs) ∷ []) ++ from_register
+from_pairs = prepend (codes "/pairs") (([], key Pairs) ∷ []) ++ from_register_child
 
 abbrev from_school_pairs : Rows
 from_school_pairs = prepend (codes "/pairs/") (prepend (param_token ∷ []) (([], key SchoolPairs) ∷ [])) ++ from_pairs
@@ -132,8 +146,74 @@ all_found t small =
     (text_by_test (codes "/pairs/") refl)
     (lit< tt, refl, refl, (lit< tt, refl, refl, (lit< tt, refl, refl, (lit< tt, refl, refl, (lit< tt, refl, refl, (lit< tt, refl, refl, (lit< tt, refl, refl, tt)))))))
     (part_ends key SchoolPairs)
-    (next_found key t small (codes "/pairs") (([], key Pairs) ∷ []) from_register (at_end Pairs) _
+    (next_found key t small (codes "/pairs") (([], key Pairs) ∷ []) from_register_child (at_end Pairs) _
     (text_by_test (codes "/pairs") refl) (lit< tt, refl, refl, (lit< tt, refl, refl, tt)) (ends key Pairs)
+    (next_found key t small (codes "/register/child/") (prepend (param_token ∷ []) (([], key RegisterChild) ∷ [])) from_register_school (with_part RegisterChild []) _
+    (text_by_test (codes "/register/child/") refl) (
+      lit< tt,
+      refl,
+      refl,
+      (
+        lit< tt,
+        refl,
+        refl,
+        (
+          lit< tt,
+          refl,
+          refl,
+          (
+            lit< tt,
+            refl,
+            refl,
+            (
+              lit< tt,
+              refl,
+              refl,
+              (
+                lit< tt,
+                refl,
+                refl,
+                (lit< tt, refl, refl, (lit< tt, refl, refl, (lit< tt, refl, refl, (lit< tt, refl, refl, (lit< tt, refl, refl, tt))))),
+              ),
+            ),
+          ),
+        ),
+      ),
+    )
+    (part_ends key RegisterChild)
+    (next_found key t small (codes "/register/school/") (prepend (param_token ∷ []) (([], key RegisterSchool) ∷ [])) from_register (with_part RegisterSchool []) _
+    (text_by_test (codes "/register/school/") refl) (
+      lit< tt,
+      refl,
+      refl,
+      (
+        lit< tt,
+        refl,
+        refl,
+        (
+          lit< tt,
+          refl,
+          refl,
+          (
+            lit< tt,
+            refl,
+            refl,
+            (
+              lit< tt,
+              refl,
+              refl,
+              (
+                lit< tt,
+                refl,
+                refl,
+                (lit< tt, refl, refl, (lit< tt, refl, refl, (lit< tt, refl, refl, (lit< tt, refl, refl, tt)))),
+              ),
+            ),
+          ),
+        ),
+      ),
+    )
+    (part_ends key RegisterSchool)
     (next_found key t small (codes "/register") (([], key Register) ∷ []) from_round (at_end Register) _
     (text_by_test (codes "/register") refl) (lit< tt, refl, refl, (lit< tt, refl, refl, (lit< tt, refl, refl, tt))) (ends key Register)
     (next_found key t small (codes "/round/") (prepend (param_token ∷ []) (([], key Round) ∷ [])) from_school (with_part Round []) _
@@ -141,7 +221,7 @@ all_found t small =
     (next_found key t small (codes "/school/") (prepend (param_token ∷ []) school_rows) question_rows (with_part Waiting (codes "/waiting")) _
     (text_by_test (codes "/school/") refl) (lit< tt, refl, refl, (lit< tt, refl, refl, tt))
     (suffix_ends key school_rows Waiting (codes "waiting") (text_by_test (codes "/waiting") refl) longest_school refl refl)
-    (last_found key t small (codes "/what-if") (([], key WhatIf) ∷ []) (at_end WhatIf) (text_by_test (codes "/what-if") refl) (ends key WhatIf))))))))))
+    (last_found key t small (codes "/what-if") (([], key WhatIf) ∷ []) (at_end WhatIf) (text_by_test (codes "/what-if") refl) (ends key WhatIf))))))))))))
 
 every_found : (t : List ℕ) → IsBytes t → first all_routes t ≡ map_key row_at (key_of key (route_of t))
 unfolding all_routes row_at

@@ -7,7 +7,7 @@ use Rattle.matchit.specs.Seek.{first}
 use Rattle.matchit.specs.Router.{RouteOf}
 use Rattle.adm_http.specs.Routes.{after_prefix, Found, or_found, at_end, with_part, child_after, route_of, all_routes}
 use Rattle.adm_http.specs.declared.routes.Route.{Route}
-use Rattle.adm_http.specs.declared.routes.Route.TheVariants.{Command, Import, Child, Letter, Pairs, SchoolPairs, Waiting, Round, WhatIf, Register, Draw}
+use Rattle.adm_http.specs.declared.routes.Route.TheVariants.{Command, Import, Child, Letter, Pairs, SchoolPairs, Waiting, Round, WhatIf, Register, Draw, RegisterChild, RegisterSchool}
 use Rattle.adm_http.proofs.FindLemmas.{IsBytes}
 use Rattle.adm_http.proofs.FormLemmas.{Takes, takes_end, takes_suffix, of_either, under, under_either, under_end}
 use Rattle.adm_http.proofs.RouteLemmas.{route_row, IsFound, some_found}
@@ -21,7 +21,8 @@ unfolding route_of
 takes_part t x text e =
     of_either a from_b x child
     (of_either b from_m x command (of_either m from_j x draw (of_either j from_i x rows_import (of_either i from_g x school_pairs
-    (of_either g from_n x pairs (of_either n from_d x register (of_either d from_f x round (of_either f h x school question)))))))) e
+    (of_either g from_k x pairs (of_either k from_l x register_child (of_either l from_n x register_school (of_either n from_d x register
+    (of_either d from_f x round (of_either f h x school question)))))))))) e
   where
     a : Found
     a = option_and_then child_after (after_prefix (codes "/child/") t)
@@ -50,6 +51,12 @@ takes_part t x text e =
     m : Found
     m = option_and_then (with_part Draw []) (after_prefix (codes "/draw/") t)
 
+    k : Found
+    k = option_and_then (with_part RegisterChild []) (after_prefix (codes "/register/child/") t)
+
+    l : Found
+    l = option_and_then (with_part RegisterSchool []) (after_prefix (codes "/register/school/") t)
+
     n : Found
     n = option_and_then (at_end Register) (after_prefix (codes "/register") t)
 
@@ -62,8 +69,14 @@ takes_part t x text e =
     from_n : Found
     from_n = or_found n from_d
 
+    from_l : Found
+    from_l = or_found l from_n
+
+    from_k : Found
+    from_k = or_found k from_l
+
     from_g : Found
-    from_g = or_found g from_n
+    from_g = or_found g from_k
 
     from_i : Found
     from_i = or_found i from_g
@@ -107,6 +120,18 @@ takes_part t x text e =
 
     register : n ≡ Some x → TakesPart x t
     register e = unnamed Register refl (under_end Register (codes "/register") t x e)
+
+    register_child : k ≡ Some x → TakesPart x t
+    register_child e =
+        let is = under RegisterChild (codes "/register/child/") [] t x e in
+        back RegisterChild is.route_is
+        (takes_end RegisterChild (codes "/register/child/") (codes "/register/child/{no}") (17, 19) refl refl t x.1 text is.target_is)
+
+    register_school : l ≡ Some x → TakesPart x t
+    register_school e =
+        let is = under RegisterSchool (codes "/register/school/") [] t x e in
+        back RegisterSchool is.route_is
+        (takes_end RegisterSchool (codes "/register/school/") (codes "/register/school/{code}") (18, 22) refl refl t x.1 text is.target_is)
 
     draw : m ≡ Some x → TakesPart x t
     draw e =

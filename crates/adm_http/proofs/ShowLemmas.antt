@@ -3,16 +3,17 @@ use Rattle.std.proofs.Common.{◌≡◌, ℕ, List, Option, Some, None, Result, 
 use Rattle.std.specs.Prelude.{IfOk, option_map, string_bytes}
 use Rattle.std.specs.declared.alloc.AllocError.{AllocError}
 use Rattle.std.specs.declared.string.String.{String}
+use Rattle.serde_json.specs.Data.{Data}
 use Rattle.serde_json.specs.Written.{compact_text}
 use Rattle.adm_types.specs.declared.draws.Draw.{Draw}
 use Rattle.adm_register.specs.State.{State}
 use Rattle.adm_letters.specs.Answers.{GivesText}
 use Rattle.adm_letters.specs.declared.fault.LetterFault.{LetterFault}
 use Rattle.adm_letters.specs.declared.fault.LetterFault.TheVariants as letter
-use Rattle.adm_view.specs.Answers.{GivesText as GivesDraw}
+use Rattle.adm_view.specs.Answers.{GivesText as GivesDraw, GivesEntry}
 use Rattle.adm_view.specs.Draws.{draw_data_with_lots}
 use Rattle.adm_view.specs.declared.fault.ViewFault.{ViewFault}
-use Rattle.adm_http.specs.Shows.{IsShown, IsShownAs, IsMadeAs, IsDrawAs}
+use Rattle.adm_http.specs.Shows.{IsShown, IsShownAs, IsMadeAs, IsDrawAs, IsEntryAs}
 use Rattle.adm_http.specs.declared.request_handler.ShowResult.{ShowResult}
 use Rattle.adm_http.specs.declared.request_handler.ShowResult.TheVariants.{Text, Missing, Memory, Failed}
 
@@ -58,3 +59,22 @@ draw_shown s None (Err e) Missing gives is = refl
 draw_shown s (Some draw) (Err e) Memory gives is = (compact_text (draw_data_with_lots s draw), refl)
 draw_shown s None (Err e) Memory gives is = absurd (cc (sym gives ∙ is))
 draw_shown s wanted (Err e) Failed gives is = absurd is
+
+-- the same of the text of an entry
+pub entry_shown : {A : Type 0} (wanted : Option Data) (given : Result (Option (String A)) AllocError) (shown : ShowResult)
+    → GivesEntry wanted given → IsEntryAs given shown → IsShown (option_map compact_text wanted) shown
+entry_shown (Some found) (Ok (Some given)) (Text made) gives is = ap Some (sym gives ∙ sym is)
+entry_shown None (Ok (Some given)) (Text made) gives is = absurd gives
+entry_shown wanted (Ok (Some given)) Missing gives is = absurd is
+entry_shown wanted (Ok (Some given)) Memory gives is = absurd is
+entry_shown wanted (Ok (Some given)) Failed gives is = absurd is
+entry_shown wanted (Ok None) (Text made) gives is = absurd is
+entry_shown (Some found) (Ok None) Missing gives is = absurd gives
+entry_shown None (Ok None) Missing gives is = refl
+entry_shown wanted (Ok None) Memory gives is = absurd is
+entry_shown wanted (Ok None) Failed gives is = absurd is
+entry_shown wanted (Err e) (Text made) gives is = absurd is
+entry_shown wanted (Err e) Missing gives is = absurd is
+entry_shown (Some found) (Err e) Memory gives is = (compact_text found, refl)
+entry_shown None (Err e) Memory gives is = absurd gives
+entry_shown wanted (Err e) Failed gives is = absurd is

@@ -9,19 +9,21 @@ use Rattle.matchit.specs.Router.{RouteOf, nearest}
 use Rattle.matchit.specs.Route.{Scan}
 use Rattle.matchit.specs.declared.error.InsertError.{InsertError}
 use Rattle.adm_http.specs.declared.routes.Route.{Route}
-use Rattle.adm_http.specs.declared.routes.Route.TheVariants.{Command, Import, Child, Letter, Pairs, SchoolPairs, Waiting, Round, WhatIf, Register, Draw}
+use Rattle.adm_http.specs.declared.routes.Route.TheVariants.{Command, Import, Child, Letter, Pairs, SchoolPairs, Waiting, Round, WhatIf, Register, Draw, RegisterChild, RegisterSchool}
 use Rattle.adm_http.specs.declared.routes.Target.{Target}
 use Rattle.adm_http.specs.declared.routes.Target.TheVariants.{Body, Text}
 use Rattle.adm_http.specs.declared.routes.Purpose.TheVariants as purpose
 use Rattle.adm_http.specs.declared.routes.Resource.{Resource}
-use Rattle.adm_http.specs.declared.routes.Resource.TheVariants.{ChildState, ChildLetter, WaitingList, RoundReport, PairList, WholeRegister, DrawWithLots}
+use Rattle.adm_http.specs.declared.routes.Resource.TheVariants.{ChildState, ChildLetter, WaitingList, RoundReport, PairList, WholeRegister, DrawWithLots, ChildEntry, SchoolEntry}
 use Rattle.adm_register.specs.State.{State}
 use Rattle.adm_letters.specs.Letters.{letter_text}
 use Rattle.adm_letters.specs.Lists.{list_text}
 use Rattle.adm_letters.specs.Pairs.{pairs_text}
 use Rattle.adm_letters.specs.Reports.{round_text}
+use Rattle.adm_view.specs.Children.{child_entry}
 use Rattle.adm_view.specs.Draws.{draw_data_with_lots}
 use Rattle.adm_view.specs.Register.{register_data}
+use Rattle.adm_view.specs.Schools.{school_entry}
 use Rattle.adm_http.specs.States.{child_text}
 use Rattle.adm_http.specs.declared.responses.Media.{Media}
 use Rattle.adm_http.specs.declared.responses.Media.TheVariants.{Json, PlainText}
@@ -64,7 +66,8 @@ with_part route text rest =
 abbrev pub child_after : List ℕ → Found
 child_after rest = or_found (with_part Letter (codes "/letter") rest) (with_part Child [] rest)
 
--- the route of a target: /child/{no}, /child/{no}/letter, /command, /draw/{no}, /import, /pairs, /pairs/{code}, /register, /round/{no}, /school/{code}/waiting or /what-if
+-- the route of a target: /child/{no}, /child/{no}/letter, /command, /draw/{no}, /import, /pairs, /pairs/{code}, /register, /register/child/{no},
+-- /register/school/{code}, /round/{no}, /school/{code}/waiting or /what-if
 unfoldable pub route_of : List ℕ → Found
 route_of target =
     or_found (option_and_then child_after (after_prefix (codes "/child/") target))
@@ -73,10 +76,12 @@ route_of target =
     (or_found (option_and_then (at_end Import) (after_prefix (codes "/import") target))
     (or_found (option_and_then (with_part SchoolPairs []) (after_prefix (codes "/pairs/") target))
     (or_found (option_and_then (at_end Pairs) (after_prefix (codes "/pairs") target))
+    (or_found (option_and_then (with_part RegisterChild []) (after_prefix (codes "/register/child/") target))
+    (or_found (option_and_then (with_part RegisterSchool []) (after_prefix (codes "/register/school/") target))
     (or_found (option_and_then (at_end Register) (after_prefix (codes "/register") target))
     (or_found (option_and_then (with_part Round []) (after_prefix (codes "/round/") target))
     (or_found (option_and_then (with_part Waiting (codes "/waiting")) (after_prefix (codes "/school/") target))
-    (option_and_then (at_end WhatIf) (after_prefix (codes "/what-if") target))))))))))
+    (option_and_then (at_end WhatIf) (after_prefix (codes "/what-if") target))))))))))))
 
 -- what the part of a route names, where it has the form that the route requires
 abbrev pub named_by : Route × List ℕ → Option Target
@@ -91,6 +96,8 @@ named_by (Waiting, part) = option_map (λ code. Text (WaitingList code)) (code_o
 named_by (Round, part) = option_map (λ n. Text (RoundReport n)) (plain_of part)
 named_by (Register, part) = Some (Text WholeRegister)
 named_by (Draw, part) = option_map (λ n. Text (DrawWithLots n)) (plain_of part)
+named_by (RegisterChild, part) = option_map (λ n. Text (ChildEntry n)) (child_named part)
+named_by (RegisterSchool, part) = option_map (λ code. Text (SchoolEntry code)) (code_of part)
 
 -- what the target names, if it has a route
 abbrev pub target_of : List ℕ → Option Target
@@ -105,6 +112,8 @@ media_of (RoundReport round) = PlainText
 media_of (PairList school) = PlainText
 media_of WholeRegister = Json
 media_of (DrawWithLots number) = Json
+media_of (ChildEntry child) = Json
+media_of (SchoolEntry school) = Json
 
 -- the requested text, if the register has such a child, school, round or draw
 abbrev pub text_in : State → Resource → Option (List ℕ)
@@ -115,6 +124,8 @@ text_in s (RoundReport round) = round_text s round
 text_in s (PairList school) = pairs_text s school
 text_in s WholeRegister = Some (compact_text (register_data s))
 text_in s (DrawWithLots number) = option_map (λ draw. compact_text (draw_data_with_lots s draw)) (get s.draws number)
+text_in s (ChildEntry child) = option_map compact_text (child_entry s child)
+text_in s (SchoolEntry school) = option_map compact_text (school_entry s school)
 
 -- ---- the router
 
@@ -127,6 +138,8 @@ row_of Command = row (codes "/command") (codes "/command") [] Command
 row_of Import = row (codes "/import") (codes "/import") [] Import
 row_of Draw = row (codes "/draw/" ++ param_token ∷ []) (codes "/draw/{no}") ((7, 9) ∷ []) Draw
 row_of Register = row (codes "/register") (codes "/register") [] Register
+row_of RegisterChild = row (codes "/register/child/" ++ param_token ∷ []) (codes "/register/child/{no}") ((17, 19) ∷ []) RegisterChild
+row_of RegisterSchool = row (codes "/register/school/" ++ param_token ∷ []) (codes "/register/school/{code}") ((18, 22) ∷ []) RegisterSchool
 row_of Child = row (codes "/child/" ++ param_token ∷ []) (codes "/child/{no}") ((8, 10) ∷ []) Child
 row_of Letter = row (codes "/child/" ++ param_token ∷ codes "/letter") (codes "/child/{no}/letter") ((8, 10) ∷ []) Letter
 row_of Pairs = row (codes "/pairs") (codes "/pairs") [] Pairs
@@ -138,8 +151,8 @@ row_of WhatIf = row (codes "/what-if") (codes "/what-if") [] WhatIf
 -- the routes in the order of their patterns
 unfoldable pub all_routes : RowsOf (RouteOf Route)
 all_routes =
-    row_of Letter ∷ row_of Child ∷ row_of Command ∷ row_of Draw ∷ row_of Import ∷ row_of SchoolPairs ∷ row_of Pairs ∷ row_of Register ∷ row_of Round
-    ∷ row_of Waiting ∷ row_of WhatIf ∷ []
+    row_of Letter ∷ row_of Child ∷ row_of Command ∷ row_of Draw ∷ row_of Import ∷ row_of SchoolPairs ∷ row_of Pairs ∷ row_of RegisterChild
+    ∷ row_of RegisterSchool ∷ row_of Register ∷ row_of Round ∷ row_of Waiting ∷ row_of WhatIf ∷ []
 
 -- a route's text reads well, and conflicts with none of the rows
 abbrev pub IsRouteFree : Result Scan InsertError → RowsOf (RouteOf Route) → Type 0

@@ -57,3 +57,18 @@ IsDrawAs (Err fault) (Text given) = ⊥
 IsDrawAs (Err fault) Missing = fault ≡ view.NoDraw
 IsDrawAs (Err fault) Memory = fault ≡ view.Memory
 IsDrawAs (Err fault) Failed = ⊥
+
+-- the same of a call that makes the text of an entry where there is one, unless memory runs out
+abbrev pub IsEntryAs : {A : Type 0} → Result (Option (String A)) AllocError → ShowResult → Type 0
+IsEntryAs (Ok (Some text)) (Text given) = string_bytes given ≡ string_bytes text
+IsEntryAs (Ok (Some text)) Missing = ⊥
+IsEntryAs (Ok (Some text)) Memory = ⊥
+IsEntryAs (Ok (Some text)) Failed = ⊥
+IsEntryAs (Ok None) (Text given) = ⊥
+IsEntryAs (Ok None) Missing = ⊤
+IsEntryAs (Ok None) Memory = ⊥
+IsEntryAs (Ok None) Failed = ⊥
+IsEntryAs (Err fault) (Text given) = ⊥
+IsEntryAs (Err fault) Missing = ⊥
+IsEntryAs (Err fault) Memory = ⊤
+IsEntryAs (Err fault) Failed = ⊥

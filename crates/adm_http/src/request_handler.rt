@@ -1,6 +1,6 @@
 // What answers requests: a trait that runs bodies and shows texts, which the desk implements.
 ghost use Rattle.std.specs.Prelude.{◌≡◌, List, ℕ};
-ghost use Rattle.adm_http.specs.Shows.{IsShownAs, IsMadeAs, IsDrawAs};
+ghost use Rattle.adm_http.specs.Shows.{IsShownAs, IsMadeAs, IsDrawAs, IsEntryAs};
 
 use crate::body_answer::BodyAnswer;
 use crate::routes::{Purpose, Resource};
@@ -75,5 +75,16 @@ pub(crate) fn given_of_draw(text: Result<String, ViewFault>) -> ShowResult
         Ok(text) => ShowResult::Text(text),
         Err(ViewFault::Memory) => ShowResult::Memory,
         Err(ViewFault::NoDraw) => ShowResult::Missing,
+    }
+}
+
+/// What a call gave that makes a text where there is one, unless memory runs out.
+pub(crate) fn given_if_any(text: Result<Option<String>, AllocError>) -> ShowResult
+    ensures { IsEntryAs text result }
+{
+    match text {
+        Ok(Some(text)) => ShowResult::Text(text),
+        Ok(None) => ShowResult::Missing,
+        Err(_) => ShowResult::Memory,
     }
 }

@@ -4,14 +4,14 @@ ghost use Rattle.adm_types.specs.Fields.{child_named};
 ghost use Rattle.adm_http.specs.Routes.{named_by, media_of, text_in, all_routes};
 ghost use Rattle.adm_http.specs.Shows.{IsShown};
 
-use crate::request_handler::{ShowResult, given, given_always, given_of_draw};
+use crate::request_handler::{ShowResult, given, given_always, given_if_any, given_of_draw};
 use crate::responses::Media;
 use crate::router::add;
 use crate::states::child_text;
 use adm_letters::{letter, list_text, pairs_text, round_text};
 use adm_register::Register;
 use adm_types::{ChildNo, SchoolCode, plain};
-use adm_view::{draw_text, register_text};
+use adm_view::{child_entry_text, draw_text, register_text, school_entry_text};
 use matchit::Router;
 use std::alloc::{AllocError, Global};
 
@@ -29,6 +29,8 @@ pub enum Route {
     WhatIf,
     Register,
     Draw,
+    RegisterChild,
+    RegisterSchool,
 }
 
 /// What a body is read as.
@@ -59,6 +61,10 @@ pub enum Resource {
     WholeRegister,
     /// A draw with its lots.
     DrawWithLots(u32),
+    /// The entry of the register's document for a child.
+    ChildEntry(ChildNo),
+    /// The entry of the register's document for a school.
+    SchoolEntry(SchoolCode),
 }
 
 /// What a target names.
@@ -86,6 +92,12 @@ pub(crate) fn all_routes(alloc: Global) -> Result<Router<Route>, AllocError>
     add(&mut router, "/import", Route::Import)?;
     add(&mut router, "/register", Route::Register)?;
     add(&mut router, "/draw/{no}", Route::Draw)?;
+    add(&mut router, "/register/child/{no}", Route::RegisterChild)?;
+    add(
+        &mut router,
+        "/register/school/{code}",
+        Route::RegisterSchool,
+    )?;
     Ok(router)
 }
 
@@ -105,6 +117,8 @@ pub(crate) fn named(route: Route, part: &str) -> Option<Target>
         Route::Round => Some(Target::Text(Resource::RoundReport(plain(part)?))),
         Route::Register => Some(Target::Text(Resource::WholeRegister)),
         Route::Draw => Some(Target::Text(Resource::DrawWithLots(plain(part)?))),
+        Route::RegisterChild => Some(Target::Text(Resource::ChildEntry(child_number(part)?))),
+        Route::RegisterSchool => Some(Target::Text(Resource::SchoolEntry(SchoolCode::new(part)?))),
     }
 }
 
@@ -113,8 +127,11 @@ pub(crate) fn media(resource: Resource) -> Media
     ensures { result ≡ media_of resource }
 {
     match resource {
-        Resource::ChildState(_) | Resource::WholeRegister | Resource::DrawWithLots(_) =>
-            Media::Json,
+        Resource::ChildState(_)
+        | Resource::WholeRegister
+        | Resource::DrawWithLots(_)
+        | Resource::ChildEntry(_)
+        | Resource::SchoolEntry(_) => Media::Json,
         Resource::ChildLetter(_)
         | Resource::WaitingList(_)
         | Resource::RoundReport(_)
@@ -123,7 +140,7 @@ pub(crate) fn media(resource: Resource) -> Media
 }
 
 /// The requested text, if the register has such a child, school, round or draw.
-#[tactic(auto, using(crate::proofs::ShowLemmas::given_shown, crate::proofs::ShowLemmas::always_shown, crate::proofs::ShowLemmas::draw_shown))]
+#[tactic(auto, using(crate::proofs::ShowLemmas::given_shown, crate::proofs::ShowLemmas::always_shown, crate::proofs::ShowLemmas::draw_shown, crate::proofs::ShowLemmas::entry_shown))]
 pub(crate) fn show(alloc: Global, register: &Register, resource: &Resource) -> ShowResult
     ensures { IsShown (text_in register.now resource.now) result }
 {
@@ -135,6 +152,8 @@ pub(crate) fn show(alloc: Global, register: &Register, resource: &Resource) -> S
         Resource::PairList(school) => given(pairs_text(alloc, register, *school)),
         Resource::WholeRegister => given_always(register_text(alloc, register)),
         Resource::DrawWithLots(number) => given_of_draw(draw_text(alloc, register, *number)),
+        Resource::ChildEntry(child) => given_if_any(child_entry_text(alloc, register, *child)),
+        Resource::SchoolEntry(school) => given_if_any(school_entry_text(alloc, register, *school)),
     }
 }
 

@@ -1,4 +1,5 @@
 // The law of connections that are served over a desk.
+ghost use Rattle.std.specs.Prelude.{◌≡◌, if◌then◌else◌};
 ghost use Rattle.sqlite.specs.Held.{state};
 ghost use Rattle.adm_http.specs.Connections.{IsIdle, moment};
 ghost use Rattle.adm_program_laws.specs.Exchanges.{KeepsIfSound, ServedIsKept};
@@ -18,7 +19,8 @@ pub fn served_is_kept<S: Alter>()
     ensures { ServedIsKept (state S.Store) }
 {}
 
-/// Serves connections, as `serve_on` does: what they were answered is kept.
+/// Serves connections, as `serve_on` does: what they were answered is kept. The exit status is 4 where
+/// the desk has failed, and else 0.
 pub fn serve_and_keep<N: Connections, S: Alter, E: Output>(
     alloc: Global,
     routes: &Routes,
@@ -28,6 +30,7 @@ pub fn serve_and_keep<N: Connections, S: Alter, E: Output>(
     errors: &mut E,
 ) -> u8
     requires { IsIdle (N.traffic connections.old) }
+    ensures status { result ≡ (if desk.new.failed then 4 else 0) }
     ensures kept { KeepsIfSound (state S.Store) count
         (moment E.Output desk.old (N.traffic connections.old) errors.old)
         (moment E.Output desk.new (N.traffic connections.new) errors.new) }

@@ -152,7 +152,7 @@ plain_fields n child =
     (put_plain (n + 1) (codes "siblings") _ _ (plain_list string n (plain_text n) _)
     (put_plain (n + 1) (codes "present") _ no_members (plain_code_or_empty _ child.present) (no_more _))))))))
 
-plain_child : (n : ℕ) (s : State) (child : Child) → IsPlain (n + 1 + 1 + 1 + 1) (child_data s child)
+pub plain_child : (n : ℕ) (s : State) (child : Child) → IsPlain (n + 1 + 1 + 1 + 1) (child_data s child)
 plain_child n s child =
     plain_object (n + 1 + 1 + 1) _ (put_plain (n + 1 + 1 + 1) (codes "place") _ _ (plain_place (n + 1 + 1) (place_of s child.no))
     (put_plain (n + 1 + 1 + 1) (codes "left") _ _ (plain_list string (n + 1 + 1) (plain_text (n + 1 + 1)) _)
@@ -160,7 +160,7 @@ plain_child n s child =
 
 -- ---- schools, draws and the season
 
-plain_school : (n : ℕ) (s : State) (school : School) → IsPlain (n + 1 + 1) (school_data s school)
+pub plain_school : (n : ℕ) (s : State) (school : School) → IsPlain (n + 1 + 1) (school_data s school)
 plain_school n s school =
     let m = n + 1 in
     plain_object m _ (and_member m _ _ _ (plain_list _ n (λ criterion. plain_text n _) school.criteria)

@@ -1,35 +1,37 @@
--- The position of a child is read off the ranks of those that wait, which a map has for each school.
-use Rattle.std.proofs.Common.{◌≡◌, ◌∙◌, ◌+◌, ◌<◌, ◌≤◌, inl, inr, ap, sym, subst, refl, cond, ℕ, List, [], ◌∷◌, ◌++◌, map, take, length, get_or, Bool, true, false, Some, Vec, Global, arith}
+-- The position of a child is read off the ranks of those that wait, which a map has for each school that is asked for.
+use Rattle.std.proofs.Common.{◌≡◌, ◌∙◌, ◌+◌, ◌<◌, ◌≤◌, inl, inr, ap, sym, subst, refl, cond, ℕ, ◌&&◌, List, [], ◌∷◌, ◌++◌, map, take, length, get_or, Bool, true, false, Option, Some, None, Vec, Global, arith}
 use Rattle.std.specs.Prelude.{IsSorted, All, count_by}
 use Rattle.std.specs.Ordering.{is_lt}
 use Rattle.std.specs.Cmp.{IsTotalOrder}
 use Rattle.std.specs.BTreeMap.{BTreeMap, get, UpdatesBy}
 use Rattle.std.specs.FinMap as rows
-use Rattle.std.proofs.lemmas.Bool.{cases_Bool}
+use Rattle.std.proofs.lemmas.Bool.{cases_Bool, false≢true, and_parts}
 use Rattle.std.proofs.lemmas.Bool.Decides.{nat_tests}
 use Rattle.std.proofs.lemmas.Cmp.{nat_cmp_total, on_total, then_total}
 use Rattle.std.proofs.lemmas.List.{length-map}
 use Rattle.std.proofs.lemmas.List.Sorted.{length_permutation, sum_by-IsPermutation, ranks_by, sorted_far}
 use Rattle.std.proofs.lemmas.List.Sums.{sum_by-cons}
-use Rattle.std.proofs.lemmas.Option.{same_Some}
+use Rattle.std.proofs.lemmas.Option.{none-some, same_Some}
 use Rattle.std.proofs.lemmas.Map.Text.{is_eq-slice_cmp}
 use Rattle.std.proofs.lemmas.Slice.Eq.{bytes_eq-Decides}
 use Rattle.std.specs.Str.{bytes_eq}
-use Rattle.adm_lists.proofs.Members.{In, in_All, All_in, from_append, from_take}
+use Rattle.adm_lists.proofs.Members.{In, in_All, All_in, in_map, from_append}
 use Rattle.adm_lists.proofs.Walks.{next_of}
 use Rattle.adm_lists.proofs.Maps.{in_values}
 use Rattle.std.specs.Cmp.Lexicographic.{nat_list_cmp_total}
 use Rattle.adm_register.proofs.Maps.{code_cmp-IsAntisymmetric}
-use Rattle.std.proofs.lemmas.List.{take_all}
-use Rattle.adm_types.specs.Limits.{code_cmp}
+use Rattle.adm_register.proofs.RoundLemmas.{listed_in}
+use Rattle.adm_types.specs.Limits.{code_cmp, is_listed}
 use Rattle.adm_types.specs.declared.rows.School.{School}
 use Rattle.adm_types.specs.declared.rows.Child.{Child}
+use Rattle.adm_types.specs.declared.rows.Application.{Application}
 use Rattle.adm_waiting.specs.Waiting.{is_ahead}
 use Rattle.adm_register.specs.State.{State}
-use Rattle.adm_register.specs.WellFormed.{WellFormed}
+use Rattle.adm_register.specs.WellFormed.{WellFormed, has_first_round}
+use Rattle.adm_register.specs.Wanted.{wanted_of, wanted}
 use Rattle.adm_register.specs.Waits.{is_waiting, waiting_at, standing_of}
 use Rattle.adm_view.specs.declared.waits.Rank.{Rank}
-use Rattle.adm_view.specs.Waits.{rank_of, rank_cmp, is_rank_ahead, AreRanks, HasRanks, HasWaits, standing_among}
+use Rattle.adm_view.specs.Waits.{rank_of, rank_cmp, is_rank_ahead, AreRanks, HasRanks, HasRanksAt, AddsRanks, HasWaits, HasWaitsOf, standing_among}
 
 -- ---- ranks in order
 
@@ -84,46 +86,76 @@ module _ (s : State) (school : School) (ranks : List Rank) (are : AreRanks s sch
 
 -- ---- the map
 
-module _ (s : State) (schools : List School) (i : ℕ) (school : School) (old new : BTreeMap (List ℕ) (Vec Rank Global)) (ranks : Vec Rank Global) where
-  -- the ranks of one more school are put in
-  pub ranks_added : i < length schools → school ≡ get_or schools i school → All (λ (x : School). rows.get s.schools x.code ≡ Some x) schools
-      → UpdatesBy code_cmp (code_cmp school.code) old new (Some ranks) → AreRanks s school ranks.items → All (HasRanks s old) (take i schools) → All (HasRanks s new) (take (i + 1) schools)
-  ranks_added within at own updates are so_far =
-      subst (All (HasRanks s new)) (sym (next_of schools i school within at)) (in_All (HasRanks s new) (take i schools ++ school ∷ []) (λ x there. elim (from_append (take i schools) (school ∷ []) x there) [
-        | inl earlier ↦ kept x (from_take i schools x earlier) (All_in (HasRanks s old) (take i schools) x so_far earlier)
-        | inr last ↦ elim last [ inl same ↦ subst (HasRanks s new) same here | inr none ↦ absurd none ]
-      ]))
+module _ (s : State) (well : WellFormed s) (school : School) (old new : BTreeMap (List ℕ) (Vec Rank Global)) (ranks : Vec Rank Global) where
+  -- the ranks of a school are put in
+  pub ranks_put : rows.get s.schools school.code ≡ Some school → UpdatesBy code_cmp (code_cmp school.code) old new (Some ranks) → AreRanks s school ranks.items → AddsRanks s school.code old new
+  ranks_put there updates are = record {
+    here = λ x other. subst (HasRanks s new) (same_Some school x (sym there ∙ other)) own;
+    kept = λ code had x other. kept_at code x other (had x other);
+  }
     where
-      found : (code : List ℕ) → bytes_eq school.code code ≡ true → get code_cmp new code ≡ Some ranks
-      found code hit = updates.0 code ∙ ap (λ b. cond b (Some ranks) (get code_cmp old code)) (is_eq-slice_cmp school.code code ∙ hit)
+      own : HasRanks s new school
+      own = (
+        ranks,
+        updates.0 school.code ∙ ap (λ b. cond b (Some ranks) (get code_cmp old school.code)) (is_eq-slice_cmp school.code school.code ∙ (bytes_eq-Decides school.code school.code).1 refl),
+        are,
+      )
 
-      here : HasRanks s new school
-      here = (ranks, found school.code ((bytes_eq-Decides school.code school.code).1 refl), are)
-
-      kept : (x : School) → In x schools → HasRanks s old x → HasRanks s new x
-      kept x there had = elim (cases_Bool (bytes_eq school.code x.code)) [
+      kept_at : (code : List ℕ) (x : School) → rows.get s.schools code ≡ Some x → HasRanks s old x → HasRanks s new x
+      kept_at code x other had = elim (cases_Bool (bytes_eq school.code x.code)) [
         | inl hit ↦
-            let code : school.code ≡ x.code = (bytes_eq-Decides school.code x.code).0 hit in
-            let same : school ≡ x =
-            same_Some school x (sym (subst (λ (y : School). rows.get s.schools y.code ≡ Some y) (sym at) (own i school within)) ∙ ap (rows.get s.schools) code
-            ∙ All_in (λ (y : School). rows.get s.schools y.code ≡ Some y) schools x own there) in
-            subst (HasRanks s new) same here
+            let code_is : school.code ≡ code = (bytes_eq-Decides school.code x.code).0 hit ∙ (well.base.schools_fit code x other).own_code in
+            subst (HasRanks s new) (same_Some school x (sym there ∙ ap (rows.get s.schools) code_is ∙ other)) own
         | inr miss ↦ (had.0, updates.2 x.code (is_eq-slice_cmp school.code x.code ∙ miss) ∙ had.1, had.2)
       ]
 
--- where the ranks of all schools are put in, the map has those of each
-pub has_waits : (s : State) → WellFormed s → (schools : List School) (i : ℕ) (waits : BTreeMap (List ℕ) (Vec Rank Global)) → schools ≡ rows.values s.schools → length schools ≤ i
-    → All (HasRanks s waits) (take i schools) → HasWaits s waits
-has_waits s well schools i waits are all so_far = record {
+-- where there is no school of this code, nothing has to be put in
+pub none_put : (s : State) (code : List ℕ) (waits : BTreeMap (List ℕ) (Vec Rank Global)) → rows.get s.schools code ≡ None → AddsRanks s code waits waits
+none_put s code waits none = record { here = λ school there. absurd (none-some school (sym none ∙ there)); kept = λ other had. had }
+
+-- the ranks at one more code are put in
+pub ranks_added : (s : State) (codes : List (List ℕ)) (i : ℕ) (code : List ℕ) (old new : BTreeMap (List ℕ) (Vec Rank Global)) → i < length codes → code ≡ get_or codes i code
+    → AddsRanks s code old new → All (HasRanksAt s old) (take i codes) → All (HasRanksAt s new) (take (i + 1) codes)
+ranks_added s codes i code old new within at adds so_far =
+    subst (All (HasRanksAt s new)) (sym (next_of codes i code within at)) (in_All (HasRanksAt s new) (take i codes ++ code ∷ []) (λ x there. elim (from_append (take i codes) (code ∷ []) x there) [
+      | inl earlier ↦ adds.kept x (All_in (HasRanksAt s old) (take i codes) x so_far earlier)
+      | inr last ↦ elim last [ inl same ↦ subst (HasRanksAt s new) same adds.here | inr none ↦ absurd none ]
+    ]))
+
+-- where the ranks at the codes of all schools are put in, the map has those of each
+pub has_waits : (s : State) (codes : List (List ℕ)) (waits : BTreeMap (List ℕ) (Vec Rank Global)) → codes ≡ map (λ (school : School). school.code) (rows.values s.schools)
+    → All (HasRanksAt s waits) codes → HasWaits s waits
+has_waits s codes waits are all = record {
   each = λ school there.
-      All_in (HasRanks s waits) (take i schools) school so_far
-      (subst (In school) (sym (take_all i schools all ∙ are)) (in_values nat_list_cmp_total code_cmp-IsAntisymmetric s.schools school.code school there));
+      let listed = in_map (λ (x : School). x.code) (rows.values s.schools) school (in_values nat_list_cmp_total code_cmp-IsAntisymmetric s.schools school.code school there) in
+      All_in (HasRanksAt s waits) codes school.code all (subst (In school.code) (sym are) listed) school there;
 }
 
--- what the map has at the code of a school is its ranks
-pub ranks_there : (s : State) (waits : BTreeMap (List ℕ) (Vec Rank Global)) (code : List ℕ) (school : School) → WellFormed s → HasWaits s waits → rows.get s.schools code ≡ Some school
+-- a child wants each school at which it waits
+waits_where_wanted : (s : State) (child : ℕ) (code : List ℕ) → is_waiting s child code ≡ true → In code (wanted s child)
+waits_where_wanted s child code = by (rows.get s.applications child) refl
+  where
+    by : (found : Option Application) → rows.get s.applications child ≡ found → is_waiting s child code ≡ true → In code (wanted s child)
+    by None is waiting = absurd (false≢true (sym (rw is refl) ∙ waiting))
+    by (Some application) is waiting =
+        let applies : (has_first_round s.draws && is_listed (wanted_of s application) code) ≡ true = sym (rw is refl) ∙ waiting in
+        let listed : is_listed (wanted_of s application) code ≡ true = (and_parts (has_first_round s.draws) (is_listed (wanted_of s application) code) applies).1 in
+        let same : wanted s child ≡ wanted_of s application = rw is refl in
+        subst (In code) (sym same) (listed_in (wanted_of s application) code listed)
+
+-- where the ranks at all schools that a child wants are put in, the map has those of each at which it waits
+pub has_waits_of : (s : State) (child : ℕ) (codes : List (List ℕ)) (waits : BTreeMap (List ℕ) (Vec Rank Global)) → codes ≡ wanted s child → All (HasRanksAt s waits) codes
+    → HasWaitsOf s child waits
+has_waits_of s child codes waits are all = record {
+  each = λ school there waiting.
+      All_in (HasRanksAt s waits) codes school.code all (subst (In school.code) (sym are) (waits_where_wanted s child school.code waiting)) school there;
+}
+
+-- what the map has at the code of a school at which a child waits is its ranks
+pub ranks_there : (s : State) (child : ℕ) (waits : BTreeMap (List ℕ) (Vec Rank Global)) (code : List ℕ) (school : School) → WellFormed s → HasWaitsOf s child waits
+    → is_waiting s child code ≡ true → rows.get s.schools code ≡ Some school
     → (ranks : Vec Rank Global) × (get code_cmp waits code ≡ Some ranks) × AreRanks s school ranks.items × (school.code ≡ code)
-ranks_there s waits code school well has there =
+ranks_there s child waits code school well has waiting there =
     let own : school.code ≡ code = (well.base.schools_fit code school there).own_code in
-    let found = has.each school (ap (rows.get s.schools) own ∙ there) in
+    let found = has.each school (ap (rows.get s.schools) own ∙ there) (ap (is_waiting s child) own ∙ waiting) in
     (found.0, ap (get code_cmp waits) (sym own) ∙ found.1, found.2, own)

@@ -36,3 +36,10 @@ module _ (s : State) (well : WellFormed s) where
   -- and so is a school
   pub school_in_range : (code : List ℕ) (school : School) → get s.schools code ≡ Some school → IsTrue (is_school_in_range school)
   school_in_range code school there = (well.base.schools_fit code school there).in_range
+
+  -- a child is at its own number, and a school at its own code
+  pub child_number : (number : ℕ) (child : Child) → get s.children number ≡ Some child → child.no ≡ number
+  child_number number child there = (well.base.children_fit number child there).own_number
+
+  pub school_code : (code : List ℕ) (school : School) → get s.schools code ≡ Some school → school.code ≡ code
+  school_code code school there = (well.base.schools_fit code school there).own_code

@@ -1,5 +1,5 @@
 -- Children as JSON data: their fields, their places, the schools that they left, and their preferences with what became of each.
-use Rattle.std.specs.Prelude.{ℕ, Bool, false, not, nat_eq, List, map, filter, codes, Option, Some, None, if◌then◌else◌, bytes_eq}
+use Rattle.std.specs.Prelude.{ℕ, Bool, false, not, nat_eq, List, map, filter, codes, Option, Some, None, option_map, if◌then◌else◌, bytes_eq}
 use Rattle.std.specs.FinMap.{get, values}
 use Rattle.serde_json.specs.Data.{Data, null, string, object, Members, no_members, member, put}
 use Rattle.adm_types.specs.declared.rows.School.{School}
@@ -113,3 +113,7 @@ child_data s child =
 -- all children, by their numbers
 abbrev pub children_data : State → Data
 children_data s = list_data (child_data s) (values s.children)
+
+-- the entry of the document for the child of a number, if there is such a child
+abbrev pub child_entry : State → ℕ → Option Data
+child_entry s number = option_map (child_data s) (get s.children number)

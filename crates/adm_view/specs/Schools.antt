@@ -1,6 +1,6 @@
 -- Schools as JSON data: their fields, how their places are taken, and how many wait.
-use Rattle.std.specs.Prelude.{ℕ, ◌-◌, ◌&&◌, Bool, List, length, codes, count_by, bytes_eq}
-use Rattle.std.specs.FinMap.{values}
+use Rattle.std.specs.Prelude.{ℕ, ◌-◌, ◌&&◌, Bool, List, length, codes, count_by, Option, option_map, bytes_eq}
+use Rattle.std.specs.FinMap.{get, values}
 use Rattle.serde_json.specs.Data.{Data, string, object, no_members, member}
 use Rattle.adm_types.specs.declared.rows.School.{School}
 use Rattle.adm_types.specs.declared.rows.PlaceRow.{PlaceRow}
@@ -34,3 +34,7 @@ school_data s school =
 -- all schools, by their codes
 abbrev pub schools_data : State → Data
 schools_data s = list_data (school_data s) (values s.schools)
+
+-- the entry of the document for the school of a code, if there is such a school
+abbrev pub school_entry : State → List ℕ → Option Data
+school_entry s code = option_map (school_data s) (get s.schools code)

@@ -1,5 +1,5 @@
 -- The ranks of those that wait at each school, in order, from which positions are read. Only private functions cite this.
-use Rattle.std.specs.Prelude.{◌≡◌, ℕ, ◌+◌, ◌||◌, ◌&&◌, ◌==◌, nat_lt, Bool, List, map, length, count_by, Some, Vec, IsPermutation, IsSorted}
+use Rattle.std.specs.Prelude.{◌≡◌, ℕ, ◌+◌, ◌||◌, ◌&&◌, ◌==◌, nat_lt, Bool, true, List, map, length, count_by, Some, Vec, IsPermutation, IsSorted}
 use Rattle.std.specs.declared.alloc.Global.{Global}
 use Rattle.std.specs.declared.cmp.Ordering.{Ordering}
 use Rattle.std.specs.Ordering.{nat_cmp, ordering_then}
@@ -11,7 +11,7 @@ use Rattle.adm_types.specs.declared.rows.Child.{Child}
 use Rattle.adm_rank.specs.Class.{class_of}
 use Rattle.adm_rank.specs.Distance.{distance_of}
 use Rattle.adm_register.specs.State.{State}
-use Rattle.adm_register.specs.Waits.{waiting_at}
+use Rattle.adm_register.specs.Waits.{is_waiting, waiting_at}
 use Rattle.adm_register.specs.declared.standings.Standing.{Standing}
 use Rattle.adm_view.specs.declared.waits.Rank.{Rank}
 
@@ -39,6 +39,19 @@ HasRanks s waits school = (ranks : Vec Rank Global) × (get code_cmp waits schoo
 -- the map has the ranks of each school of the register
 pub record HasWaits (s : State) (waits : BTreeMap (List ℕ) (Vec Rank Global)) : Type 0 where
   pub each : (school : School) → rows.get s.schools school.code ≡ Some school → HasRanks s waits school
+
+-- the map has the ranks of the school of this code, if there is one
+abbrev pub HasRanksAt : State → BTreeMap (List ℕ) (Vec Rank Global) → List ℕ → Type 0
+HasRanksAt s waits code = (school : School) → rows.get s.schools code ≡ Some school → HasRanks s waits school
+
+-- the new map has those of this code beside all that the old map had
+pub record AddsRanks (s : State) (code : List ℕ) (old new : BTreeMap (List ℕ) (Vec Rank Global)) : Type 0 where
+  pub here : HasRanksAt s new code
+  pub kept : (other : List ℕ) → HasRanksAt s old other → HasRanksAt s new other
+
+-- the map has the ranks of each school of the register at which the child waits
+pub record HasWaitsOf (s : State) (child : ℕ) (waits : BTreeMap (List ℕ) (Vec Rank Global)) : Type 0 where
+  pub each : (school : School) → rows.get s.schools school.code ≡ Some school → is_waiting s child school.code ≡ true → HasRanks s waits school
 
 -- the child among these ranks
 abbrev pub standing_among : List Rank → Child → Rank → Standing

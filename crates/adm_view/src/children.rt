@@ -4,7 +4,7 @@ ghost use Rattle.std.specs.FinMap as rows;
 ghost use Rattle.serde_json.specs.View.{view};
 ghost use Rattle.adm_types.specs.declared.rows.Child.{Child as ChildRow};
 ghost use Rattle.adm_types.specs.declared.rows.LeftPair.{LeftPair as Pair};
-ghost use Rattle.adm_view.specs.Waits.{HasWaits};
+ghost use Rattle.adm_view.specs.Waits.{HasWaits, HasWaitsOf};
 ghost use Rattle.adm_view.specs.Left.{is_below, is_upto, Rise};
 ghost use Rattle.adm_view.specs.Children.{child_data, children_data};
 
@@ -12,7 +12,7 @@ use crate::kinds::{Kind, list};
 use crate::members::child_members;
 use crate::places::place;
 use crate::preferences::application;
-use crate::waits::Waits;
+use crate::waits::{Waits, waits_of};
 use adm_register::Register;
 use adm_table::Shared;
 use adm_types::{Child, ChildNo, LeftPair, SchoolCode};
@@ -53,6 +53,20 @@ fn each_child(
     Ok(made)
 }
 
+/// One child by itself. It takes memory for all pairs of children and schools that were left.
+pub(crate) fn one_child(
+    alloc: Global,
+    register: &Register,
+    one: &Child,
+) -> Result<Value, AllocError>
+    requires { rows.get register.now.children one.now.no ≡ Some one.now }
+    ensures { IfOk result (λ made. view made ≡ child_data register.now one.now) }
+{
+    let waits = waits_of(alloc, register, one.no)?;
+    let left = register.tables().all_left(alloc)?;
+    child(alloc, register, &waits, &left, one)
+}
+
 fn child(
     alloc: Global,
     register: &Register,
@@ -60,7 +74,7 @@ fn child(
     left: &[LeftPair],
     child: &Child,
 ) -> Result<Value, AllocError>
-    requires waits { HasWaits register.now waits.now }
+    requires waits { HasWaitsOf register.now child.now.no waits.now }
     requires left { left.now ≡ rows.values register.now.left }
     requires child { rows.get register.now.children child.now.no ≡ Some child.now }
     ensures { IfOk result (λ made. view made ≡ child_data register.now child.now) }

@@ -3,7 +3,7 @@ ghost use Rattle.std.specs.Prelude.{◌≡◌, Some, IfOk, IsTrue, map};
 ghost use Rattle.adm_types.specs.Limits.{is_school_in_range, is_child_in_range};
 ghost use Rattle.std.specs.FinMap as rows;
 ghost use Rattle.serde_json.specs.View.{view, members_view};
-ghost use Rattle.adm_view.specs.Waits.{HasWaits};
+ghost use Rattle.adm_view.specs.Waits.{HasWaitsOf};
 ghost use Rattle.adm_view.specs.Children.{is_place_at, preference_state, rank_members, wait_members, preference_data, application_data};
 
 use crate::kinds::Kind;
@@ -21,7 +21,7 @@ pub(crate) fn application(
     waits: &Waits,
     child: &Child,
 ) -> Result<Value, AllocError>
-    requires waits { HasWaits register.now waits.now }
+    requires waits { HasWaitsOf register.now child.now.no waits.now }
     requires child { rows.get register.now.children child.now.no ≡ Some child.now }
     ensures { IfOk result (λ made. view made ≡ application_data register.now child.now (rows.get register.now.applications child.now.no)) }
 {
@@ -38,7 +38,7 @@ fn applied(
     child: &Child,
     application: &Application,
 ) -> Result<Value, AllocError>
-    requires waits { HasWaits register.now waits.now }
+    requires waits { HasWaitsOf register.now child.now.no waits.now }
     requires child { rows.get register.now.children child.now.no ≡ Some child.now }
     ensures { IfOk result (λ made. view made ≡ application_data register.now child.now (Some application.now)) }
 {
@@ -55,7 +55,7 @@ fn preferences(
     child: &Child,
     list: &[SchoolCode],
 ) -> Result<Vec<Value>, AllocError>
-    requires waits { HasWaits register.now waits.now }
+    requires waits { HasWaitsOf register.now child.now.no waits.now }
     requires child { rows.get register.now.children child.now.no ≡ Some child.now }
     ensures { IfOk result (λ made. map view made.items ≡ map (preference_data register.now child.now) list.now) }
 {
@@ -73,7 +73,7 @@ fn preference(
     child: &Child,
     school: SchoolCode,
 ) -> Result<Value, AllocError>
-    requires waits { HasWaits register.now waits.now }
+    requires waits { HasWaitsOf register.now child.now.no waits.now }
     requires child { rows.get register.now.children child.now.no ≡ Some child.now }
     ensures { IfOk result (λ made. view made ≡ preference_data register.now child.now school) }
 {

@@ -4,11 +4,11 @@ ghost use Rattle.std.specs.FinMap as rows;
 ghost use Rattle.serde_json.specs.View.{view};
 ghost use Rattle.adm_types.specs.declared.rows.School.{School as SchoolRow};
 ghost use Rattle.adm_register.specs.Waits.{waiting_at};
-ghost use Rattle.adm_view.specs.Waits.{HasWaits};
+ghost use Rattle.adm_view.specs.Waits.{HasRanks, HasWaits};
 ghost use Rattle.adm_view.specs.Schools.{is_plan_at, school_data, schools_data};
 
 use crate::kinds::{Kind, list};
-use crate::waits::Waits;
+use crate::waits::{Waits, waits_at};
 use adm_register::{Register, is_plan};
 use adm_table::Shared;
 use adm_types::{PlaceRow, School, SchoolCode};
@@ -50,6 +50,20 @@ fn each_school(
     Ok(made)
 }
 
+/// One school by itself. It takes memory for all places.
+pub(crate) fn one_school(
+    alloc: Global,
+    register: &Register,
+    one: &School,
+) -> Result<Value, AllocError>
+    requires { rows.get register.now.schools one.now.code ≡ Some one.now }
+    ensures { IfOk result (λ made. view made ≡ school_data register.now one.now) }
+{
+    let waits = waits_at(alloc, register, &[one.code])?;
+    let places = register.tables().all_places(alloc)?;
+    school(alloc, register, &waits, &places, one)
+}
+
 fn school(
     alloc: Global,
     register: &Register,
@@ -57,9 +71,8 @@ fn school(
     places: &[PlaceRow],
     school: &School,
 ) -> Result<Value, AllocError>
-    requires waits { HasWaits register.now waits.now }
+    requires waits { HasRanks register.now waits.now school.now }
     requires places { places.now ≡ rows.values register.now.places }
-    requires school { rows.get register.now.schools school.now.code ≡ Some school.now }
     ensures { IfOk result (λ made. view made ≡ school_data register.now school.now) }
 {
     let taken = count_taken(places, school.code);
@@ -97,8 +110,7 @@ fn count_plans(places: &[PlaceRow], code: SchoolCode) -> usize
 
 /// How many children wait at the school.
 fn count_waiting(register: &Register, waits: &Waits, school: &School) -> usize
-    requires waits { HasWaits register.now waits.now }
-    requires school { rows.get register.now.schools school.now.code ≡ Some school.now }
+    requires { HasRanks register.now waits.now school.now }
     ensures { result ≡ length (waiting_at register.now school.now.code) }
 {
     // Read only so that the check sees that the rows are a register's.

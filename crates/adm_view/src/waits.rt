@@ -1,16 +1,16 @@
-// Those that wait at each school, by class and distance, and the position of a child among them.
+// Those that wait at schools, by class and distance, and the position of a child among them.
 ghost use Rattle.std.specs.Prelude.{◌≡◌, ◌≤◌, Some, IfOk, IsTrue, All, map, length, count_by, true, IsSorted};
 ghost use Rattle.std.specs.FinMap as rows;
 ghost use Rattle.adm_types.specs.Limits.{is_school_in_range, is_child_in_range};
 ghost use Rattle.adm_types.specs.declared.rows.School.{School as SchoolRow};
 ghost use Rattle.adm_register.specs.WellFormed.{WellFormed};
 ghost use Rattle.adm_register.specs.Waits.{waiting_at, standing_of};
-ghost use Rattle.adm_view.specs.Waits.{rank_of, rank_cmp, is_rank_ahead, AreRanks, HasWaits, standing_among};
+ghost use Rattle.adm_view.specs.Waits.{rank_of, rank_cmp, is_rank_ahead, AreRanks, HasRanksAt, AddsRanks, HasWaits, HasWaitsOf, standing_among};
 
 use adm_rank::{class, distance};
 use adm_register::{Register, Standing};
 use adm_table::Shared;
-use adm_types::{Child, School, SchoolCode};
+use adm_types::{Child, ChildNo, School, SchoolCode};
 use adm_waiting::Waiting;
 use std::alloc::{AllocError, Global};
 use std::collections::BTreeMap;
@@ -22,7 +22,7 @@ pub(crate) struct Rank {
     metres: u32,
 }
 
-/// The ranks of those that wait at each school, in order.
+/// The ranks of those that wait at each of some schools, in order.
 pub(crate) type Waits = BTreeMap<SchoolCode, Vec<Rank>>;
 
 /// Those that wait at each school of the register. It takes memory and time as the waiting lists of
@@ -31,26 +31,83 @@ pub(crate) fn waits(alloc: Global, register: &Register) -> Result<Waits, AllocEr
     ensures { IfOk result (λ waits. HasWaits register.now waits) }
 {
     let schools = register.tables().all_schools(alloc)?;
-    waits_at(alloc, register, &schools)
+    let codes = codes_of(alloc, &schools)?;
+    waits_at(alloc, register, &codes)
 }
 
-fn waits_at(
+/// Those that wait at each school at which the child waits. It takes memory and time as the waiting
+/// lists of the schools that the child wants do.
+pub(crate) fn waits_of(
     alloc: Global,
     register: &Register,
-    schools: &[Shared<School>],
+    child: ChildNo,
 ) -> Result<Waits, AllocError>
-    requires schools { schools.now ≡ rows.values register.now.schools }
-    ensures { IfOk result (λ waits. HasWaits register.now waits) }
+    ensures { IfOk result (λ waits. HasWaitsOf register.now child waits) }
+{
+    let wanted = register.wanted(alloc, child)?;
+    waits_at(alloc, register, &wanted)
+}
+
+/// Those that wait at each school of these codes.
+pub(crate) fn waits_at(
+    alloc: Global,
+    register: &Register,
+    codes: &[SchoolCode],
+) -> Result<Waits, AllocError>
+    ensures { IfOk result (λ waits. All (HasRanksAt register.now waits) codes.now) }
+{
+    let mut waits = BTreeMap::new(alloc);
+    for code in codes {
+        put_ranks_at(alloc, register, &mut waits, *code)?;
+    }
+    Ok(waits)
+}
+
+/// Puts in those that wait at the school of this code, if there is one.
+fn put_ranks_at(
+    alloc: Global,
+    register: &Register,
+    waits: &mut Waits,
+    code: SchoolCode,
+) -> Result<(), AllocError>
+    ensures { IfOk result (λ _. AddsRanks register.now code waits.old waits.new) }
 {
     // Read only so that the check sees that the rows are a register's.
     let _tables = register.tables();
-    let mut waits = BTreeMap::new(alloc);
-    for index in 0..schools.len() {
-        let school = schools[index].as_ref();
-        let ranks = ranks_at(alloc, register, school)?;
-        waits.insert(school.code, ranks)?;
+    match register.school(code) {
+        None => Ok(()),
+        Some(school) => put_ranks(alloc, register, waits, school),
     }
-    Ok(waits)
+}
+
+/// Puts in those that wait at a school.
+fn put_ranks(
+    alloc: Global,
+    register: &Register,
+    waits: &mut Waits,
+    school: &School,
+) -> Result<(), AllocError>
+    requires { rows.get register.now.schools school.now.code ≡ Some school.now }
+    ensures { IfOk result (λ _. AddsRanks register.now school.now.code waits.old waits.new) }
+{
+    // Read only so that the check sees that the rows are a register's.
+    let _tables = register.tables();
+    let ranks = ranks_at(alloc, register, school)?;
+    waits.insert(school.code, ranks)?;
+    Ok(())
+}
+
+/// The codes of the schools.
+fn codes_of(alloc: Global, schools: &[Shared<School>]) -> Result<Vec<SchoolCode>, AllocError>
+    ensures { IfOk result (λ codes. codes.items ≡ map (λ (school : SchoolRow). school.code) schools.now) }
+{
+    schools.iter().map(|school| code_of(school)).collect(alloc)
+}
+
+fn code_of(school: &Shared<School>) -> SchoolCode
+    ensures { result ≡ school.now.code }
+{
+    school.as_ref().code
 }
 
 /// Those that wait at a school, in order.
@@ -114,7 +171,7 @@ pub(crate) fn standing(
     child: &Child,
     code: SchoolCode,
 ) -> Option<Standing>
-    requires waits { HasWaits register.now waits.now }
+    requires waits { HasWaitsOf register.now child.now.no waits.now }
     requires child { rows.get register.now.children child.now.no ≡ Some child.now }
     ensures { result ≡ standing_of register.now child.now.no code }
 {

@@ -7,3 +7,4 @@ pub mod DeterminedSchools
 pub mod DeterminedDraws
 pub mod DeterminedSeason
 pub mod Determined
+pub mod Parts

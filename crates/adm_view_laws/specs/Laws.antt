@@ -1,8 +1,9 @@
--- What is true of each document: its positions are those of waiting lists, its vacancies and places those of the register.
-use Rattle.std.specs.Prelude.{◌≡◌, ℕ, length, codes, Contains, Some, option_map}
+-- What is true of each document: positions are those of lists, vacancies and places those of the register, entries those that it has.
+use Rattle.std.specs.Prelude.{◌≡◌, ℕ, List, length, codes, Contains, Some, option_map}
 use Rattle.std.specs.FinMap as rows
-use Rattle.serde_json.specs.Data.{Data, string}
+use Rattle.serde_json.specs.Data.{Data, string, array}
 use Rattle.serde_json.specs.Find.{get}
+use Rattle.serde_json.specs.View.{items_of}
 use Rattle.adm_types.specs.declared.rows.School.{School}
 use Rattle.adm_types.specs.declared.rows.Child.{Child}
 use Rattle.adm_rank.specs.Class.{class_of}
@@ -14,8 +15,9 @@ use Rattle.adm_register.specs.Rows.{place_of, vacancies}
 use Rattle.adm_register.specs.Waits.{list_of, standing_of}
 use Rattle.adm_register.specs.declared.standings.Standing.{Standing}
 use Rattle.adm_view.specs.Writing.{number_data}
-use Rattle.adm_view.specs.Children.{preference_data, place_data, child_data}
-use Rattle.adm_view.specs.Schools.{school_data}
+use Rattle.adm_view.specs.Children.{preference_data, place_data, child_data, child_entry}
+use Rattle.adm_view.specs.Schools.{school_data, school_entry}
+use Rattle.adm_view.specs.Register.{register_data}
 
 -- the waiting list of the school has an entry of the child with this position, and the preference has its class, its distance and the length of the list
 pub record HasEntry (s : State) (school : School) (child : Child) (position : ℕ) (preference : Data) : Type 0 where
@@ -60,3 +62,23 @@ VacanciesAreThose =
 -- The place of a child is that of the register.
 abbrev pub PlacesAreThose : Type 0
 PlacesAreThose = (s : State) (child : Child) → get (codes "place") (child_data s child) ≡ Some (place_data (place_of s child.no))
+
+-- the document has the entry in its list of this name, as the one item whose member of that name is this value
+pub record IsOnlyEntry (document : Data) (list name : List ℕ) (value entry : Data) : Type 0 where
+  pub entries : List Data
+  pub list_is : get list document ≡ Some (array (items_of entries))
+  pub listed : Contains entries entry
+  pub named : get name entry ≡ Some value
+  pub only : (other : Data) → Contains entries other → get name other ≡ Some value → other ≡ entry
+
+-- The entry of a child by itself is the one that the document has among its children for the child's number.
+abbrev pub ChildEntriesAreOfDocument : Type 0
+ChildEntriesAreOfDocument =
+    (s : State) (number : ℕ) (entry : Data) → WellFormed s → child_entry s number ≡ Some entry
+    → IsOnlyEntry (register_data s) (codes "children") (codes "child") (number_data number) entry
+
+-- The entry of a school by itself is the one that the document has among its schools for the school's code.
+abbrev pub SchoolEntriesAreOfDocument : Type 0
+SchoolEntriesAreOfDocument =
+    (s : State) (code : List ℕ) (entry : Data) → WellFormed s → school_entry s code ≡ Some entry
+    → IsOnlyEntry (register_data s) (codes "schools") (codes "school") (string code) entry

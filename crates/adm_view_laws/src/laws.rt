@@ -1,5 +1,5 @@
-// The laws of the document: what it says of lists, vacancies and places is so, and it determines a register but for lots and imported rows.
-ghost use Rattle.adm_view_laws.specs.Laws.{PositionsAreOfLists, WaitsAreShown, RanksAreThose, VacanciesAreThose, PlacesAreThose};
+// The laws of the document: what it says is so, it has each entry, and it determines a register but for lots and imported rows.
+ghost use Rattle.adm_view_laws.specs.Laws.{PositionsAreOfLists, WaitsAreShown, RanksAreThose, VacanciesAreThose, PlacesAreThose, ChildEntriesAreOfDocument, SchoolEntriesAreOfDocument};
 ghost use Rattle.adm_view_laws.specs.Alike.{DocumentDeterminesRegister};
 
 /// Where a preference has a position, the waiting list of its school has an entry of the child with
@@ -27,6 +27,18 @@ pub fn vacancies_are_those()
 /// The place of a child is the one that the register's query returns.
 pub fn places_are_those()
     ensures { PlacesAreThose }
+{}
+
+/// The entry of a child by itself is the one that the document has among its children for the
+/// child's number.
+pub fn child_entries_are_of_document()
+    ensures { ChildEntriesAreOfDocument }
+{}
+
+/// The entry of a school by itself is the one that the document has among its schools for the
+/// school's code.
+pub fn school_entries_are_of_document()
+    ensures { SchoolEntriesAreOfDocument }
 {}
 
 /// Two registers with the same document have the same season, schools, children, applications,

@@ -110,6 +110,39 @@ add-requires-11 c =
     let l = c.in_ok-add-10.ensures in
     rw (l.1, k.1, j.1, i.1, h.1, f.1, e.1, d.1, b.1, a.1, c.new-router.ensures) refl
 
+pub add-requires-12 : goal.add-requires-12
+unfolding matchit_on_literals
+add-requires-12 c =
+    let a = c.in_ok-add.ensures in
+    let b = c.in_ok-add-2.ensures in
+    let d = c.in_ok-add-3.ensures in
+    let e = c.in_ok-add-4.ensures in
+    let f = c.in_ok-add-5.ensures in
+    let h = c.in_ok-add-6.ensures in
+    let i = c.in_ok-add-7.ensures in
+    let j = c.in_ok-add-8.ensures in
+    let k = c.in_ok-add-9.ensures in
+    let l = c.in_ok-add-10.ensures in
+    let m = c.in_ok-add-11.ensures in
+    rw (m.1, l.1, k.1, j.1, i.1, h.1, f.1, e.1, d.1, b.1, a.1, c.new-router.ensures) refl
+
+pub add-requires-13 : goal.add-requires-13
+unfolding matchit_on_literals
+add-requires-13 c =
+    let a = c.in_ok-add.ensures in
+    let b = c.in_ok-add-2.ensures in
+    let d = c.in_ok-add-3.ensures in
+    let e = c.in_ok-add-4.ensures in
+    let f = c.in_ok-add-5.ensures in
+    let h = c.in_ok-add-6.ensures in
+    let i = c.in_ok-add-7.ensures in
+    let j = c.in_ok-add-8.ensures in
+    let k = c.in_ok-add-9.ensures in
+    let l = c.in_ok-add-10.ensures in
+    let m = c.in_ok-add-11.ensures in
+    let n = c.in_ok-add-12.ensures in
+    rw (n.1, m.1, l.1, k.1, j.1, i.1, h.1, f.1, e.1, d.1, b.1, a.1, c.new-router.ensures) refl
+
 pub returns : goal.returns
 unfolding matchit_on_literals all_routes
 returns c =
@@ -124,4 +157,6 @@ returns c =
     let k = c.in_ok-add-9.ensures in
     let l = c.in_ok-add-10.ensures in
     let m = c.in_ok-add-11.ensures in
-    rw (m.1, l.1, k.1, j.1, i.1, h.1, f.1, e.1, d.1, b.1, a.1, c.new-router.ensures) refl
+    let n = c.in_ok-add-12.ensures in
+    let o = c.in_ok-add-13.ensures in
+    rw (o.1, n.1, m.1, l.1, k.1, j.1, i.1, h.1, f.1, e.1, d.1, b.1, a.1, c.new-router.ensures) refl

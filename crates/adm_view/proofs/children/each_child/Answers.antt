@@ -3,6 +3,9 @@ use Rattle.adm_view.specs.Children.{child_data}
 use Rattle.adm_view.proofs.Walks.{one_more}
 use Rattle.adm_view.proofs.children.each_child.Goals as goal
 
+pub child-requires-clause-waits : goal.child-requires-clause-waits
+child-requires-clause-waits c = record { each = λ school there waiting. c.requires.waits.each school there }
+
 pub loop-index-preserved : goal.loop-index-preserved
 loop-index-preserved c =
     let form = child_data c.args.register.now in

@@ -1,7 +1,16 @@
-use Rattle.std.proofs.Common.{◌∙◌, ap}
+use Rattle.std.proofs.Common.{◌≡◌, ◌∙◌, ap, sym, subst, Some}
+use Rattle.std.specs.FinMap.{get}
+use Rattle.adm_types.specs.declared.rows.School.{School}
 use Rattle.adm_view.specs.Schools.{school_data}
 use Rattle.adm_view.proofs.Walks.{one_more}
 use Rattle.adm_view.proofs.schools.each_school.Goals as goal
+
+pub school-requires-clause-waits : goal.school-requires-clause-waits
+school-requires-clause-waits c =
+    let s = c.args.register.now in
+    let row = c.index-schools-index.result in
+    c.requires.waits.each c.as_ref-one.result.now
+    (subst (λ (x : School). get s.schools x.code ≡ Some x) (sym (c.as_ref-one.ensures ∙ c.index-schools-index.is)) (c.requires.schools c.loop-index.index row c.loop-index-test.true))
 
 pub loop-index-preserved : goal.loop-index-preserved
 loop-index-preserved c =

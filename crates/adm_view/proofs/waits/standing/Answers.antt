@@ -10,7 +10,9 @@ use Rattle.adm_view.proofs.waits.standing.Goals as goal
 pub returns-in_default-get : goal.returns-in_default-get
 returns-in_default-get c =
     let there = sym c.school.ensures ∙ ap option_copied c.in-Some.is in
-    let found = ranks_there c.args.register.now c.args.waits.now c.args.code c.in-Some.school.now c.tables-tables.ensures.well_formed c.requires.waits there in
+    let found =
+    ranks_there c.args.register.now c.args.child.now.no c.args.waits.now c.args.code c.in-Some.school.now c.tables-tables.ensures.well_formed c.requires.waits
+    (sym c.waits.ensures ∙ c.if-not-waits.false) there in
     absurd (none-some found.0 (sym (ap option_copied c.in_default-get.is) ∙ c.get.ensures.value ∙ found.1))
 
 pub standing_among-requires-clause-school : goal.standing_among-requires-clause-school
@@ -23,14 +25,18 @@ standing_among-requires-clause-child c = child_in_range c.args.register.now c.ta
 pub standing_among-requires-clause-sorted : goal.standing_among-requires-clause-sorted
 standing_among-requires-clause-sorted c =
     let there = sym c.school.ensures ∙ ap option_copied c.in-Some.is in
-    let found = ranks_there c.args.register.now c.args.waits.now c.args.code c.in-Some.school.now c.tables-tables.ensures.well_formed c.requires.waits there in
+    let found =
+    ranks_there c.args.register.now c.args.child.now.no c.args.waits.now c.args.code c.in-Some.school.now c.tables-tables.ensures.well_formed c.requires.waits
+    (sym c.waits.ensures ∙ c.if-not-waits.false) there in
     let same = c.deref.ensures.value ∙ ap (λ v. v.items) (same_Some c.in-Some-get.ranks.now found.0 (sym (ap option_copied c.in-Some-get.is) ∙ c.get.ensures.value ∙ found.1)) in
     subst (IsSorted rank_cmp) (sym same) found.2.sorted
 
 pub returns : goal.returns
 returns c =
     let there = sym c.school.ensures ∙ ap option_copied c.in-Some.is in
-    let found = ranks_there c.args.register.now c.args.waits.now c.args.code c.in-Some.school.now c.tables-tables.ensures.well_formed c.requires.waits there in
+    let found =
+    ranks_there c.args.register.now c.args.child.now.no c.args.waits.now c.args.code c.in-Some.school.now c.tables-tables.ensures.well_formed c.requires.waits
+    (sym c.waits.ensures ∙ c.if-not-waits.false) there in
     let same = c.deref.ensures.value ∙ ap (λ v. v.items) (same_Some c.in-Some-get.ranks.now found.0 (sym (ap option_copied c.in-Some-get.is) ∙ c.get.ensures.value ∙ found.1)) in
     ap Some c.standing_among.ensures
     ∙ standing_is c.args.register.now c.in-Some.school.now c.deref.result.now (subst (AreRanks c.args.register.now c.in-Some.school.now) (sym same) found.2) c.args.child.now c.args.code found.3
