@@ -131,7 +131,7 @@ install:
 	install -D -m 755 tools/restore $(DESTDIR)$(PREFIX)/bin/admissions-restore
 	install -D -m 755 office/command $(DESTDIR)$(PREFIX)/bin/admissions-audit
 	install -d $(DESTDIR)$(PREFIX)/share/admissions/office
-	cd office && find . -name tests -prune -o '(' -name '*.py' -o -name '*.json' -o -path '*/templates/*' ')' -exec install -D -m 644 {} $(abspath $(DESTDIR)$(PREFIX))/share/admissions/office/{} ';'
+	cd office && find . -name tests -prune -o '(' -name '*.py' -o -name '*.json' -o -path '*/templates/*' -o -path '*/printed/*' ')' -exec install -D -m 644 {} $(abspath $(DESTDIR)$(PREFIX))/share/admissions/office/{} ';'
 	# (the help of the application, beside it as it is here)
 	install -D -m 644 docs/office/HANDBOOK.md $(DESTDIR)$(PREFIX)/share/admissions/docs/office/HANDBOOK.md
 	install -d $(DESTDIR)$(PREFIX)/share/admissions/docs/pictures

@@ -4,7 +4,7 @@ import io
 from collections.abc import Callable, Mapping
 from typing import Any
 
-from . import persons, rules
+from . import child_fields, rules
 from .fields import trimmed
 from .model import WAITS, Place, Register
 
@@ -20,7 +20,7 @@ def place_of(register: Register, command: Command) -> Place | None:
 def has_data(register: Register, command: Command) -> bool:
     """Whether a child has the data of a command that adds or amends it."""
     child = register.children.get(command["child"])
-    return child is not None and normal(persons.command_of(command["cmd"], child)) == normal(
+    return child is not None and normal(child_fields.command_of(command["cmd"], child)) == normal(
         command)
 
 
@@ -66,7 +66,7 @@ def has_kind(kind: str | None) -> Callable[[Register, Command], bool]:
 def has_school(register: Register, command: Command) -> bool:
     """Whether a school has the data of a command that adds it."""
     school = register.schools.get(command["school"])
-    return school is not None and persons.command_of_school(school) == command
+    return school is not None and child_fields.command_of_school(school) == command
 
 
 def has_pan(register: Register, command: Command) -> bool:

@@ -196,6 +196,21 @@ class Members:
     left: set[tuple[int, str]]
     draws: list[Draw]
 
+    def member(self, number: int) -> Member | None:
+        """A child by its number, with all that is its own."""
+        child = self.children.get(number)
+        if child is None:
+            return None
+        return Member(child, self.applications.get(number), self.places.get(number),
+                      tuple(sorted(code for it, code in self.left if it == number)))
+
+
+# what a register works out once, each with the members that it follows from, beside its draws
+WORKED_OUT = {
+    "taking_part": ("applications",), "called": ("children",), "own": ("applications", "places"),
+    "wanted": ("applications",), "pairs": ("applications",),
+}
+
 
 @dataclasses.dataclass
 class Register(Members):
@@ -237,6 +252,19 @@ class Register(Members):
         """
         found = copy.copy(self)
         found._drawn = {}  # pylint: disable=protected-access
+        return found
+
+    def but(self, is_drawn_alike: bool, **members: Any) -> "Register":
+        """The same with other members, which are of no other draws: what explains these may follow
+        from them. What is worked out of members that are the same objects is not worked out anew.
+        """
+        if is_drawn_alike and all(getattr(self, name) is it for name, it in members.items()):
+            return self
+        drawn = self._drawn if is_drawn_alike else {}
+        found = dataclasses.replace(self, _drawn=drawn, **members)
+        vars(found).update({
+            name: vars(self)[name] for name, rests_on in WORKED_OUT.items() if name in vars(self)
+            and all(getattr(found, it) is getattr(self, it) for it in rests_on)})
         return found
 
     @property

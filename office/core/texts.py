@@ -12,6 +12,8 @@ LONGEST = 60
 MOST_SOUGHT, MOST_KEPT = 200, 1_000
 # ends of lines, control characters, and those that turn the direction of the text around them
 UNSHOWN = re.compile("[\x00-\x1f\x7f-\x9f\u2028\u2029\u200e\u200f\u202a-\u202e\u2066-\u2069\ufeff]")
+# a half of a pair of surrogates is no character, and no file takes it
+HALF = re.compile("[\ud800-\udfff]")
 CONTROL = re.compile("[\x00-\x1f\x7f-\x9f]")
 ORDINALS = ("first", "second", "third", "fourth", "fifth", "sixth", "seventh", "eighth", "ninth",
             "tenth")
@@ -25,6 +27,11 @@ def shown(text: str) -> str:
     """A value as it is printed in a message: in quotes, with what cannot be seen escaped, and cut
     where it is long."""
     return f'"{cut(text)}"'
+
+
+def is_text(value: object) -> bool:
+    """Whether a value is a text that can be stored and shown."""
+    return isinstance(value, str) and not HALF.search(value)
 
 
 def visible(text: str) -> str:

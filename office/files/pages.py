@@ -4,15 +4,17 @@ from collections.abc import Mapping
 from pathlib import Path
 from typing import Any
 
-FOLDER = Path(__file__).resolve().parents[1] / "templates"
+OFFICE = Path(__file__).resolve().parents[1]
+# of what several pages include
+FOLDER = OFFICE / "files" / "printed"
 
 
 def render(name: str, values: Mapping[str, Any]) -> str:
-    """A page by a template."""
+    """A page by a template, which is named by its path from the folder of the package."""
     import jinja2
 
     made = jinja2.Environment(
-        loader=jinja2.FileSystemLoader(FOLDER),
+        loader=jinja2.FileSystemLoader((OFFICE, FOLDER)),
         autoescape=True,
         undefined=jinja2.StrictUndefined,
         trim_blocks=True,

@@ -17,8 +17,8 @@ from served import served
 
 from office.web import app
 from office.web.copies.copies import Copies
-from office.web.frame import people
 from office.web.parts import Config, Parts
+from office.web.people import roles
 
 ORIGIN = "https://admissions.example"
 Answer = Any
@@ -139,7 +139,7 @@ class Site:
         """A person with a password of their own."""
         drawn = self.parts.people.add(name, role)
         self.passwords[name] = f"{name} of the office"
-        self.parts.people.set_password(people.Person(name, role), drawn, self.passwords[name])
+        self.parts.people.set_password(roles.Person(name, role), drawn, self.passwords[name])
         return name
 
     def browser(self, name: str, role: str = "officer") -> Browser:
@@ -154,16 +154,16 @@ class Site:
 
     def record(self, name: str, command: dict[str, Any]) -> None:
         """What an officer records, by whatever screen."""
-        done = self.parts.desk.send(people.Person(name, people.OFFICER), command)
+        done = self.parts.desk.send(roles.Person(name, roles.OFFICER), command)
         assert done.is_done, done
 
-    def program(self, name: str, role: str = people.OFFICER) -> Program:
+    def program(self, name: str, role: str = roles.OFFICER) -> Program:
         """Another program."""
         return Program(self.app, self.token(name, role))
 
     def token(self, name: str, role: str) -> dict[str, str]:
         """The header of a program."""
-        secret = self.parts.people.add(name, role, people.PROGRAM)
+        secret = self.parts.people.add(name, role, roles.PROGRAM)
         given = base64.b64encode(f"{name}:{secret}".encode()).decode()
         return {"Authorization": f"Basic {given}"}
 

@@ -18,14 +18,14 @@ from register_files import Refused
 
 from office.core.model import Pair
 from office.web import app
-from office.web.frame import people
 from office.web.parts import Config
+from office.web.people import roles
 from office.web.rounds.drafts import Typed
 from office.web.rounds.draws import Draws
 
 NAME = "secondary-2025"
-HAL, JANE = people.Person("hal", "head"), people.Person("jane", "officer")
-SUP = people.Person("sup", "supervisor")
+HAL, JANE = roles.Person("hal", "head"), roles.Person("jane", "officer")
+SUP = roles.Person("sup", "supervisor")
 OFFER_DAY = "2025-03-03"
 RAISED = {"cmd": "raise_pan", "school": "OAK", "pan": 2}
 Command = dict[str, Any]

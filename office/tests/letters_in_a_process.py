@@ -7,9 +7,9 @@ import time
 
 from applications import site
 
-from office.web.frame import people
 from office.web.letters import sets as letters_sets
 from office.web.letters.sets import Asked, Sets
+from office.web.people import roles
 
 MANY, AT_A_TIME = 12, 4
 
@@ -21,7 +21,7 @@ def main() -> None:
         found: Sets = office.parts.letters
         template = found.templates.standard()
         asked = Asked("a try", list(range(1, MANY + 1)), template, 1, "2025-03-03", "pdf")
-        print(found.ask(people.Person("jane", "officer"), "key", asked), flush=True)
+        print(found.ask(roles.Person("jane", "officer"), "key", asked), flush=True)
         time.sleep(3600)
 
 

@@ -12,9 +12,9 @@ import pytest
 from applications import ROUND, Browser, Site, child, office_over, town
 from pages import Page
 
-from office.core import kinds, wording
-from office.web.frame.people import Person
+from office.core import command_kinds, wording
 from office.web.frame.views import activity
+from office.web.people.roles import Person
 from office.web.register import entry_words
 from office.web.register.entry_words import Names
 from office.web.register.history import SENDS, Entry
@@ -140,7 +140,11 @@ def test_what_is_empty_is_left_out() -> None:
         ("corrected an application",
          {"row": "row 4 of a.csv", "number": "12", "day": '"" to "2024-10-20"'},
          "Corrected row 4 of a.csv, child 12: Day: none → 2024-10-20"),
-        ("audited", {"draw": 2, "copies": [1, 2], "wrong": []}, "Audited draw 2"),
+        ("audited", {"draw": 2, "copies": [1, 2], "wrong": []}, "Audited round or offer 2"),
+        ("gave the pairs to the supervisor", {"for": "round 1", "id": 1, "pairs": 6046},
+         "Asked the supervisor for the lots of round 1: Lots: 6,046"),
+        ("added applications", {"file": "a.csv", "rows": 1330, "digest": "ab"},
+         "Added the file a.csv with 1,330 rows"),
         ("gave up", {"copy": 3, "restore": 1}, "Cancelled the restore of copy 3"),
         ("gave up", {"for": "round 2", "id": 1, "reason": "a slip"},
          "Cancelled round 2: Reason: a slip"),
@@ -155,9 +159,9 @@ def test_what_is_empty_is_left_out() -> None:
 
 def test_each_step_that_is_recorded_has_words() -> None:
     """None is shown by its own name of the history, which the application has in its sources."""
-    told = {name: (it.work, it.told) for name, it in kinds.KINDS.items()}
+    told = {name: (it.work, it.told) for name, it in command_kinds.KINDS.items()}
     for key, (work, form) in {**told, **entry_words.STEPS}.items():
-        assert work in kinds.WORK and form[0].isupper(), key
+        assert work in command_kinds.WORK and form[0].isupper(), key
         filled = said(Entry(1, "", "jane", key, {"child": 5, "restore": 1, "copy": 2}))
         assert "{" not in filled and "[" not in filled, filled
 

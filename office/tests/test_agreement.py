@@ -15,7 +15,7 @@ from applications import Browser, Site, office_over
 from conftest import apply, child, school
 from pages import Page
 
-from office.web.lists.views import season
+from office.web.home import views as season
 
 CRITERIA = ["flag:2", "sibling", "within:1500"]
 TODAY = datetime.date(2025, 3, 20)
@@ -104,7 +104,7 @@ def test_the_first_screen_counts_what_the_register_has(
     vacant = {it["school"]: it["vacancies"] for it in found["schools"]}
     assert len(applied) == 38 and met[1] and met[2] and met[None] and sum(vacant.values())
     assert {words: number for words, (number, _) in figures(text).items()} == {
-        "Applications": len(applied), "Have their first preference": met[1],
+        "Applications": len(applied), "Have their first preference today": met[1],
         "Offers not answered": sum(bool(it["place"]) and it["place"]["kind"] == "offered"
                                    for it in rows),
         "Vacant places": sum(vacant.values()),

@@ -14,10 +14,10 @@ from pages import Page, press
 from register_files import Refused
 from served import served
 
-from office.web.answers import piles
+from office.web.answers import piles, rows
 from office.web.answers import entries as answers
 from office.web.answers.views import answers as screen
-from office.web.frame.people import Person
+from office.web.people.roles import Person
 from office.web.register.desk import LOST, Result
 
 
@@ -397,6 +397,12 @@ def several(office: Site, text: str) -> dict[str, list[str]]:
     found = jane.post("/answers/several", {"pasted": text}, content_type="multipart/form-data")
     assert found.status_code == 303, Page(found.text).said()
     return {row[0]: [row[1], row[3], row[5]] for row in pile(shown(jane))}
+
+
+def test_a_name_of_signs_is_read_once() -> None:
+    """One that is read again from each of its signs on would never be done."""
+    assert not rows.SIGNS.findall(f"{'-' * 2_000_000}x")
+    assert rows.SIGNS.findall("Bell- St. Ives ., 7") == ["-", ".,", "7"]
 
 
 def test_no_row_is_an_accept_that_does_not_say_so_alone(office: Site) -> None:

@@ -23,10 +23,12 @@ from register_files import Refused
 
 from office.core import turns
 from office.web import serve
-from office.web.frame import attempts, guard, people, uploads
-from office.web.frame.views import people as people_screen
+from office.web.frame import uploads
 from office.web.letters import whom as letters_whom
 from office.web.lists import saved as list_views
+from office.web.people import attempts, guard, people
+from office.web.people import roles as people_roles
+from office.web.people.views import people as people_screen
 from office.web.register import history, store
 
 ACCEPT = {"cmd": "accept", "child": 1, "school": "A"}
@@ -48,7 +50,8 @@ def test_nobody_reads_without_a_sign_in(office: Site) -> None:
     there = urllib.parse.urlsplit(found.location)
     assert (found.status_code, there.path) == (302, "/sign-in")
     assert urllib.parse.parse_qs(there.query) == {"to": ["/activity/?who=jane"]}
-    for path in ("/register", "/child/1", "/pairs", "/school/A/waiting", "/draw/1"):
+    for path in ("/register", "/register/child/1", "/child/1", "/pairs", "/school/A/waiting",
+                 "/draw/1"):
         asked = stranger.client.get(path, base_url=ORIGIN)
         assert (asked.status_code, asked.json) == (
             401, {"reason": "sign in first", "status": 401}), path
@@ -76,6 +79,8 @@ RIGHTS = [
     # (method and path, and who may: of what is for programs, those of the role)
     ("GET /", "head officer supervisor reader administrator school-A"),
     ("GET /register", "head officer reader"),
+    ("GET /register/child/1", "head officer reader"),
+    ("GET /register/school/A", "head officer reader"),
     ("GET /child/1", "head officer reader"),
     ("GET /draw/1", "head officer reader"),
     ("GET /school/A/waiting", "head officer reader school-A"),
@@ -340,9 +345,9 @@ def test_a_program_has_a_token(office: Site) -> None:
 
 def test_a_password_is_dear_to_guess(tmp_path: pathlib.Path) -> None:
     """Seen in a process of its own: in this one the tests make it cheap."""
-    code = ("import sys; sys.path[:0] = sys.argv[1:3]; from office.web.frame import people;"
+    code = ("import sys; sys.path[:0] = sys.argv[1:3]; from office.web.people import people, roles;"
             "from office.web.register import store;"
-            "people.People(store.Store(sys.argv[3])).add('jane', people.HEAD)")
+            "people.People(store.Store(sys.argv[3])).add('jane', roles.HEAD)")
     kept = tmp_path / "office.db"
     words = [sys.executable, "-c", code, str(ROOT), str(ROOT / "tools"), str(kept)]
     subprocess.run(words, check=True)
@@ -571,7 +576,7 @@ def test_people_are_added_by_typing_alone(office: Site) -> None:
             assert bool(page.error(field)) == (field in wrong), (name, field)
         again = page.form("Add").values
         assert (again["name"], again["kind"]) == ([name], ["program"])
-        assert role not in people.ROLES or again["role"] == [role]
+        assert role not in people_roles.ROLES or again["role"] == [role]
     rows = office.parts.store.rows("SELECT name, role FROM person ORDER BY name")
     assert [tuple(it) for it in rows] == [("ann", "officer"), ("hal", "head")]
 
@@ -648,13 +653,14 @@ def test_a_register_that_is_away_is_said(tmp_path: pathlib.Path) -> None:
     """In words, for a page and for a program; and so is a code that is no code."""
     with site(tmp_path, "http://127.0.0.1:9") as office:
         portal = office.program("portal")
-        for path in ("/child/1", "/draw/1", "/pairs", "/pairs/A", "/school/A/waiting", "/register"):
+        for path in ("/child/1", "/draw/1", "/pairs", "/pairs/A", "/school/A/waiting", "/register",
+                     "/register/child/1", "/register/school/A"):
             found = portal.get(path)
             said = found.json or {}
             assert (found.status_code, said["unanswered"]) == (502, True), path
             assert "the register does not answer now" in said["reason"], path
         for code in ("%20", "A%0d%0aX", "%C3%A9", "A%3Fx"):
-            for path in (f"/pairs/{code}", f"/school/{code}/waiting"):
+            for path in (f"/pairs/{code}", f"/school/{code}/waiting", f"/register/school/{code}"):
                 assert portal.get(path).status_code == 404, path
 
 

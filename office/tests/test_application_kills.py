@@ -22,8 +22,8 @@ import pytest
 from applications import child, town
 from conftest import PROGRAM, ROOT, make
 
-from office.core import kinds, model, senders
-from office.web.frame import people
+from office.core import command_kinds, model, senders
+from office.web.people import people, roles
 from office.web.register import history
 from office.web.register.store import Store
 
@@ -94,7 +94,7 @@ class Room:
         self.way = Counter(self.desk_port)
         (folder / "office").mkdir()
         store = Store(str(folder / "office" / "office.db"))
-        secret = people.People(store).add(TOKEN, "officer", people.PROGRAM)
+        secret = people.People(store).add(TOKEN, "officer", roles.PROGRAM)
         store.close()
         self.token = base64.b64encode(f"{TOKEN}:{secret}".encode()).decode()
         self.desk, self.office = self.begin_desk(), self.begin_office()
@@ -185,7 +185,7 @@ def see(room: Room, done: list[dict[str, Any]]) -> None:
     register = model.of_source(
         model.Server(senders.Http(f"http://127.0.0.1:{room.desk_port}")))
     for it in done:
-        assert kinds.is_done(register, it), it
+        assert command_kinds.is_done(register, it), it
     once = [it for it in room.way.arrived if b'"cmd":"add_child"' in it]
     assert len(once) == len(set(once))
     entries = history.read(str(room.folder / "office" / "history.jsonl"))

@@ -23,10 +23,9 @@ from register_files import Refused
 from office.core import texts
 from office.core.model import Register
 from office.files import sheet
-from office.web.applications import check as staging_check
+from office.web.applications import row_check, table_check
 from office.web.applications import files as staging_files
 from office.web.applications.rows import OPEN, Staged
-from office.work import check
 
 # what is found: the row of the spreadsheet, the column, the kind
 Found = set[tuple[int, str, str]]
@@ -130,25 +129,25 @@ def write_csv(path: Path, rows: Iterable[Fields]) -> None:
 
 def table_of(
     data: bytes, register: Register | None = None, wanted: str | None = None,
-) -> staging_check.Table:
+) -> table_check.Table:
     """The rows of a file as they are checked when they are dropped in."""
     name = "a.csv"
     read = staging_files.rows_of(name, sheet.of_bytes(name, data, wanted, "name one"))
     rows = [Staged(at, 1, name, False, False, it.number, it.cells, it.others, it.notes, OPEN, 1,
                    "jane", "", "jane", "", None) for at, it in enumerate(read.rows, 1)]
-    return staging_check.Checker(lambda: dict.fromkeys(range(16), "a reason")).table(
+    return table_check.Checker(lambda: dict.fromkeys(range(16), "a reason")).table(
         rows, register)
 
 
-def found_in(table: staging_check.Table) -> Found:
+def found_in(table: table_check.Table) -> Found:
     """Row, column and kind of each finding."""
     return {(table.rows[at].staged.number, it.column, it.kind)
             for at, them in table.findings.items() for it in them}
 
 
-def said_in(table: staging_check.Table) -> str:
+def said_in(table: table_check.Table) -> str:
     """All that is said of them."""
-    return "\n".join(staging_check.said(it) for them in table.findings.values() for it in them)
+    return "\n".join(table_check.said(it) for them in table.findings.values() for it in them)
 
 
 def test_sixty_faults_of_a_csv(town: Path) -> None:
@@ -232,10 +231,10 @@ def write_kind(path: Path, kind: str, rows: Iterable[Fields]) -> None:
     path.write_bytes(start + out.getvalue().encode("utf-8"))
 
 
-def written(table: staging_check.Table) -> bytes:
+def written(table: table_check.Table) -> bytes:
     """The rows of a table as they are imported."""
     return sheet.csv_bytes(
-        [COLUMNS, *(check.values_of(it.row) for it in table.rows.values())])
+        [COLUMNS, *(row_check.values_of(it.row) for it in table.rows.values())])
 
 
 def test_what_has_one_reading_is_imported(town: Path, tmp_path: Path) -> None:
@@ -406,6 +405,14 @@ def test_what_only_a_workbook_has() -> None:
     with pytest.raises(Refused, match="has the sheets Autumn, Spring: name one"):
         table_of(saved(book))
     assert not table_of(saved(book), wanted="Autumn").wrong()
+
+
+def test_a_row_is_named_beside_a_few_others() -> None:
+    """However many there are of one name at one home."""
+    rows = "\n".join(",".join([str(it), "Ann Abel", *cells_of(good(1))[2:]])
+                     for it in range(1, 301))
+    pairs = table_of(f"{HEADER}\n{rows}\n".encode()).pairs
+    assert 299 <= len(pairs) <= 5 * 299
 
 
 @pytest.mark.parametrize("one, other, is_alike", [

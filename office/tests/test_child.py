@@ -23,8 +23,8 @@ from office.web.children import corrections
 from office.web.children import actions as children
 from office.web.children.views import child as screen
 from office.web.explain import reasons
-from office.web.frame.people import Person
 from office.web.machinery.asked import MOST_CHARACTERS, MOST_KEPT, Asked
+from office.web.people.roles import Person
 from office.web.register.desk import LOST
 from office.web.schools import flags
 
@@ -65,8 +65,8 @@ def test_a_child_is_shown_with_its_place_its_list_and_its_data(office: Site) -> 
     assert page.by_id["deadline"] == (
         "The last day to answer is 17 March 2025; from the next day a reminder is due.")
     assert page.by_id["stays"] == (
-        "If the family accepts: the child stays on the waiting list of Alpha. If a later draw"
-        " offers a place there, this place ends; a family that does not want that leaves the list.")
+        "If the family accepts: the child stays on the waiting list of Alpha. If a place is offered"
+        " there later, this place ends; a family that does not want that leaves the list.")
     assert page.tables["list"][1:] == [
         ["1. A Alpha", "Waiting list: 1 of 2", "ranked by distance alone 300 metres",
          "ranked by distance alone 200 metres", "The last child admitted lives 100 metres nearer."],
@@ -115,7 +115,7 @@ def test_a_reason_has_few_words_and_withholds_distances() -> None:
             (DISTANCE, "The last child admitted lives 150 metres nearer."),
             (LOT, "As near as the last child admitted; the lot decided."),
             (NOBODY, "Nobody was newly admitted."),
-            (None, "Data changed since the draw: see the explanation.")):
+            (None, "Data changed since then: see the explanation.")):
         found = reasons.why(by, last, 150)
         assert found == wanted and len(found.split()) <= 12
     assert reasons.why(DISTANCE, last, None) == "The last child admitted lives nearer."
@@ -167,7 +167,7 @@ ACTIONS: list[tuple[str, str, dict[str, Any]]] = [
      {"cmd": "decline", "child": 3, "school": "B"}),
     ("/children/3/remind?day=18/3/2025", "Record the reminder of Cyd <b>Cole</b> about Beta",
      {"cmd": "remind", "child": 3, "school": "B", "day": "2025-03-18"}),
-    ("/children/3/leave?school=A", "Take Cyd <b>Cole</b> off the list of Alpha",
+    ("/children/3/leave?school=A", "Leave the list of Alpha for Cyd <b>Cole</b>",
      {"cmd": "leave_list", "child": 3, "school": "A"}),
     ("/children/4/plan?school=A", "Give Dai O'Dare a place at Alpha by a plan",
      {"cmd": "name_plan", "child": 4, "school": "A"}),
@@ -217,7 +217,7 @@ def test_an_accept_says_on_which_waiting_lists_the_child_stays(office: Site) -> 
     jane = office.browser("jane")
     page = Page(jane.get("/children/3/accept").text)
     assert page.by_id["becomes"].endswith(
-        "The child stays on the waiting list of Alpha. If a later draw offers a place there, this"
+        "The child stays on the waiting list of Alpha. If a place is offered there later, this"
         " place ends; a family that does not want that leaves the list.")
     act(jane, "/children/3/accept", "Accept Beta for Cyd <b>Cole</b>")
     page = Page(jane.get("/children/3").text)
@@ -389,7 +389,7 @@ def test_a_draw_that_gave_a_place_is_named(office: Site) -> None:
                      "lots": [1, 2]}):
         assert desk.send(hal, command, draw=True).is_done, command
     found = press(jane, "/children/3/decline", page, "Decline Beta for Cyd <b>Cole</b>")
-    assert "Child 3: hal recorded a fill at " in Page(found.text).said()
+    assert "Child 3: hal recorded an offer from a waiting list at " in Page(found.text).said()
     assert history(jane.get("/children/3").text) == [
         ("hal", "Offer of a place at A (draw 2): offered Alpha", "Dated 17 March 2025"),
         ("3 March 2025", "Round 1: offered Beta", "Dated 3 March 2025")]

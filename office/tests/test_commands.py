@@ -13,8 +13,7 @@ import pytest
 from conftest import PROGRAM, Command, apply, child, do, make, school
 from files import register_of
 
-from office.core import commands, model, rules, senders
-from office.work import risks
+from office.core import commands, model, risks, rules, senders
 
 ROUND: Command = {"cmd": "round", "draw": 1, "day": "2025-03-03", "lots": [1, 2, 1, 2]}
 
@@ -186,15 +185,15 @@ def test_the_field_of_each_unreadable_line(tmp_path: Path) -> None:
 # a command and its day, what is said of it in the season, and on 10 March 2025
 DAYS = [
     ("round", "2035-03-05", "outside the season: offers are made on 3 March 2025, and lists close"
-     " on 31 December 2025", "3,647 days after today"),
+     " on 31 December 2025", "3,647 days away"),
     ("round", "2025-03-04", "not right for a first round: the offer day is 3 March 2025", ""),
     ("round", "2025-03-03", "", ""),
-    ("fill", "2025-03-11", "", "1 day after today"),
-    ("remind", "2025-04-08", "", "29 days after today"),
+    ("fill", "2025-03-11", "", "1 day away"),
+    ("remind", "2025-04-08", "", "29 days away"),
     ("apply", "2024-01-10", "more than four months before the closing date, 31 October 2024: with a"
      " wrong year a late application is in time", "425 days before today"),
     ("apply", "2026-01-10", "after the last day of the lists, 31 December 2025: the register"
-     " refuses it", "306 days after today"),
+     " refuses it", "306 days away"),
     ("apply", "2024-12-01", "after the closing date, 31 October 2024: the child takes no part in"
      " the first round", "99 days before today"),
     ("apply", "2024-10-31", "", "130 days before today"),

@@ -4,7 +4,7 @@ of commands does not read the whole register for each.
 import itertools
 import json
 import pathlib
-from collections.abc import Iterator
+from collections.abc import Callable, Iterator
 from typing import Any
 
 import pytest
@@ -12,10 +12,12 @@ from applications import Site, child, office_over
 from register_files import Refused
 
 from office.core import rules
-from office.core.kinds import KINDS
+from office.core.command_kinds import KINDS
+from office.core.entries import MOST
 from office.core.model import Register, drawn_in, of_document
-from office.web.frame.people import Person
-from office.web.register.desk import FRESH_SECONDS, Command, seen_of
+from office.core.senders import Ended
+from office.web.people.roles import Person
+from office.web.register.desk import WHOLE_SECONDS, Command, seen_of, subject
 
 BO, JANE = Person("bo", "head"), Person("jane", "officer")
 SCHOOLS: list[Command] = [
@@ -120,7 +122,8 @@ def test_what_somebody_else_did_just_before_is_seen_for_each_command(
         reads.paths.clear()
         found = desk.send(JANE, command, seen)
         assert found.outcome == "differs" and "Nothing was recorded now." in found.said, name
-        assert reads.paths == ["/register"], name
+        own = "/register/{}/{}".format(*subject({"command": command}))
+        assert own in reads.paths and "/register" not in reads.paths, name
         before = desk.now()
         assert desk.send(JANE, command, seen).outcome == "differs", name
         assert desk.now() == before
@@ -149,7 +152,7 @@ def test_another_draw_just_before_is_seen(office: Site) -> None:
 def test_a_row_of_commands_reads_the_register_once(
     office: Site, monkeypatch: pytest.MonkeyPatch
 ) -> None:
-    """One about a child that was in it already reads it again; and so does each after a while."""
+    """And once more after a while."""
     reads, desk = Reads(office, monkeypatch), office.parts.desk
     register = desk.now()
     row = [(it, seen_of(register, it)) for it in ROW]
@@ -159,22 +162,80 @@ def test_a_row_of_commands_reads_the_register_once(
     for command, seen in row:
         assert desk.send(JANE, command, seen).is_done, command
     assert reads.count == 0
-    assert desk.send(JANE, again, of_again).outcome == "differs" and reads.count == 1
-    desk.now()
-    reads.step = FRESH_SECONDS + 1
-    assert desk.send(JANE, again, seen_of(desk.now(), again)).is_done and reads.count == 3
+    assert desk.send(JANE, again, of_again).outcome == "differs" and reads.count == 0
+    of_again = seen_of(desk.register(), again)
+    reads.moment += WHOLE_SECONDS
+    assert desk.send(JANE, again, of_again).is_done and reads.count == 1
 
 
-def test_what_is_sent_past_the_desk_is_seen_after_a_while(
+def test_what_is_sent_past_the_desk_is_seen(
     office: Site, monkeypatch: pytest.MonkeyPatch
 ) -> None:
-    """No copy that is older than some seconds is compared with."""
+    """In what a command rests on at once, and in all else after a while."""
     reads, desk = Reads(office, monkeypatch), office.parts.desk
     command = about("decline", 1)
     seen = seen_of(desk.now(), command)
-    desk.sender.send(json.dumps(about("accept", 1)).encode())
-    reads.moment += FRESH_SECONDS
+    for at in (1, 2):
+        desk.sender.send(json.dumps(about("accept", at)).encode())
     assert desk.send(JANE, command, seen).outcome == "differs"
+    places = desk.register().places
+    assert (places[1].kind, places[2].kind) == ("accepted", "offered")
+    reads.moment += WHOLE_SECONDS
+    assert desk.register().places[2].kind == "accepted"
+
+
+def past_the_desk(office: Site) -> None:
+    """Somebody at the machine has a child wait at B, where another one leaves the list."""
+    office.parts.desk.sender.send(json.dumps(about("decline", 1)).encode())
+    assert office.parts.desk.send(JANE, about("leave_list", 13, "B")).is_done
+
+
+def begins(office: Site) -> None:
+    """Something is sent while what was sent before is read."""
+    desk, others = office.parts.desk, [about("decline", 2)]
+    part = desk.part
+
+    def other(path: str) -> bytes | None:
+        if others:
+            assert desk.send(BO, others.pop()).is_done
+        return part(path)
+
+    assert desk.send(JANE, about("decline", 1)).is_done
+    setattr(desk, "part", other)
+
+
+def is_lost(office: Site) -> None:
+    """A request of which it is not known what it came to."""
+    desk = office.parts.desk
+    send = desk.sender.send
+
+    def lost(line: bytes) -> bytes:
+        send(line)
+        setattr(desk.sender, "send", send)
+        raise Ended("the answer is lost")
+
+    setattr(desk.sender, "send", lost)
+    assert desk.send(JANE, about("decline", 1)).is_done
+
+
+def many(office: Site) -> None:
+    """More commands than are worth to be followed."""
+    for number in range(100, 101 + MOST):
+        assert office.parts.desk.send(JANE, child(number, "Tom", 0)).is_done
+
+
+@pytest.mark.parametrize("happens", (past_the_desk, begins, is_lost, many))
+def test_what_is_not_known_is_read_wholly(
+    office: Site, monkeypatch: pytest.MonkeyPatch, happens: Callable[[Site], None]
+) -> None:
+    """Also where one thing that is read could be from before another."""
+    reads, desk = Reads(office, monkeypatch), office.parts.desk
+    before = desk.now()
+    happens(office)
+    reads.paths.clear()
+    found = desk.register()
+    assert reads.count == 1 and found != before
+    assert found == desk.now()
 
 
 def rests_on(register: Register, without: Command) -> dict[tuple[str, Any, str], str]:

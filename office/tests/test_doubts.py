@@ -43,7 +43,7 @@ def test_a_register_that_was_replaced_by_an_older_one_is_told(
         office.record("jane", command)
         assert said(jane) == ""
         with monkeypatch.context() as patch:
-            patch.setattr(office.parts.desk, "now", lambda older=older: older)
+            patch.setattr(office.parts.desk, "present", lambda *_, older=older: older)
             assert said(jane).startswith("The register lacks what jane recorded at "), command
             assert said(jane).endswith("Record nothing, and tell IT support.")
     # (as of an import that is done)

@@ -231,6 +231,17 @@ def test_a_restore_that_is_killed(
         assert copies.is_same(office.parts.desk.now(), before)
 
 
+def test_what_was_read_before_a_restore_is_not_shown(small: Machine) -> None:
+    """Also where nobody has looked since."""
+    with small.office() as office:
+        desk = office.parts.desk
+        office.parts.copies.make("a try")
+        do_over(small.address, [RAISED])
+        assert desk.now().schools["OAK"].pan == 2
+        office.parts.copies.asked(copies.RESTORE, 1)
+        assert desk.register().schools["OAK"].pan == 1
+
+
 class Killed(BaseException):
     """The unit ends here."""
 

@@ -10,6 +10,7 @@ from draw_site import (
     HAL, Crash, Fields, Machine, Person, at_lots, begun, brought, first_day, lot_of, no_answer,
     typed, version,
 )
+from pages import Page
 from register_files import Refused
 
 from office.web.rounds import page as draws_page
@@ -265,6 +266,7 @@ def test_long_work_says_that_it_runs(small: Machine, monkeypatch: pytest.MonkeyP
         for who in (hal, jane):
             page = who.browser.get(f"/draws/{number}").text
             assert f'data-running="/draws/{number}"' in page and "begun by hal" in page
+            assert "Recording is paused for round 1 by hal" in Page(page).by_id["in-progress"]
             assert "the places are given, and then audited." in page
             assert "Audit round 1</button>" not in page and "Cancel this" not in page
             assert "A step of it runs now." in who.browser.get("/").text
@@ -274,6 +276,8 @@ def test_long_work_says_that_it_runs(small: Machine, monkeypatch: pytest.MonkeyP
         assert work.is_over.wait(600)
         page = hal.browser.get(f"/draws/{number}").text
         assert "everybody can record again" in page and "data-running" not in page
+        # (the part of the frame that was there, from which the page that looks again takes it)
+        assert '<div class="closed" id="in-progress"></div>' in page
         assert [it.who for it in office.parts.draws.get(number).done[-2:]] == ["hal", "hal"]
 
 

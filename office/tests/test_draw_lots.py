@@ -10,13 +10,13 @@ from draw_site import (
     HAL, MISTYPED, SUP, Fields, Machine, Person, after_round, at_lots, begun, brought, lot_of,
     sealed, typed, version,
 )
-from pages import Page
+from pages import Page, press
 from register_files import Refused
 
 from office.core.model import Pair
-from office.web.frame import people
+from office.web.people import roles
+from office.web.rounds import lot_sheets_apart
 from office.web.rounds import lots as draws_lots
-from office.web.rounds import sheet as draws_sheet
 from office.web.rounds.drafts import Typed
 from office.web.rounds.views import lots as screen
 
@@ -50,6 +50,38 @@ def test_sealed_lots_cannot_be_changed(small: Machine) -> None:
             db.execute("UPDATE lot SET text='77' WHERE school='OAK' AND child=1")
         with pytest.raises(Refused, match="the lots are not those that were sealed. Cancel it"):
             office.parts.draws.rehearse(HAL, number, version(office, number))
+
+
+def test_the_first_screen_has_the_lots_that_are_to_be_drawn(small: Machine) -> None:
+    """The table with the sheet and the seed, as on its own page; once each child has its lot, all
+    of them to be sealed. Not for a supervisor who may not draw them, nor for anybody else.
+    """
+    with small.office() as office:
+        number = begun(office)
+        sup, sue = at_lots(office), at_lots(office, "sue")
+        office.parts.history.add("hal", "added", {"person": "sue", "role": "supervisor"})
+        brought(office, number, "copied")
+        assert Page(sup.get("/").text).buttons() == []
+        brought(office, number, "lots")
+        home, own = (Page(sup.get(it).text) for it in ("/", f"/lots/{number}"))
+        table = "Lots, page 1 of 1"
+        assert home.tables[table] == own.tables[table] and len(home.tables[table]) == 11
+        assert home.buttons() == own.buttons() and home.by_id["lots-title"] == "Lots of round 1"
+        assert {f"/lots/{number}/sheet.xlsx", "file", "seed"} <= set(home.stops)
+        others = (office.browser(f"one.{it}", it) for it in ("reader", "head", "administrator"))
+        for other in (sue, *others):
+            assert "/lots.js" not in other.get("/").text
+        assert f"/lots/{number}" in Page(sue.get("/").text).stops
+        found = press(sup, "/", home, "Save", **{"lot-OAK-1-0": "7"})
+        assert found.location == f"/lots/{number}?page=1&done=saved&lots=1"
+        assert Fields(sup.get("/").text).values["lot-OAK-1-0"] == "7"
+        typed(office, number, lot_of)
+        page = Page(sup.get("/").text)
+        assert page.buttons() == ["Seal the lots of round 1"] and "/lots.js" not in page.text
+        assert len(page.tables["All lots"]) == 11
+        assert press(sup, "/", page, "Seal the lots of round 1").status_code == 303
+        assert office.parts.draws.get(number).who("sealed") == "sup"
+        assert Page(sup.get("/").text).buttons() == []
 
 
 def test_each_way_from_the_table_saves_it(
@@ -220,7 +252,7 @@ def test_a_seed_with_two_equal_lots_is_refused(
     with small.office() as office:
         number = begun(office)
         brought(office, number, "lots")
-        with pytest.raises(Refused, match="1 and 4 would have the same lot at ELM: take another"):
+        with pytest.raises(Refused, match="1 and 4 would have the same lot at ELM: use another"):
             office.parts.lots.draw_by_seed(SUP, number, "1")
         assert not any(office.parts.lots.sheet(number)[1].cells().values())
 
@@ -260,6 +292,23 @@ def test_lots_come_from_a_sheet(small: Machine) -> None:
         assert zipfile.is_zipfile(io.BytesIO(found.data))
 
 
+def test_the_sheet_of_lots_is_on_record(small: Machine) -> None:
+    """It names each child with its schools: who downloads it is on record, once an hour for each
+    form of it.
+    """
+    with small.office() as office:
+        number = begun(office)
+        brought(office, number, "lots")
+        sup = at_lots(office)
+        for kind in ("xlsx", "csv", "xlsx"):
+            assert sup.get(f"/lots/{number}/sheet.{kind}").status_code == 200
+        found = [(it.who, it.about) for it in office.parts.history.entries
+                 if it.what == "took a file"]
+        assert found == [("sup", {"of": f"/lots/{number}/sheet.{it}"}) for it in ("xlsx", "csv")]
+        page = office.browser("hal", "head").get("/activity/").text
+        assert page.count("Downloaded a sheet of lots") == 2
+
+
 def test_each_of_several_fills_has_a_sheet_that_names_it(small: Machine) -> None:
     """A row says of which draw it is, and a file of one draw is not taken for another."""
     with small.office() as office:
@@ -288,7 +337,7 @@ def test_each_of_several_fills_has_a_sheet_that_names_it(small: Machine) -> None
 WRONG_SHEETS = {
     "a duplicate": (b"OAK,1,5\nOAK,2,5\n", "row 2 has a lot that row 1 has at OAK: 5"),
     "no number": (b"OAK,1,<b>\n", "row 1 has a lot that is no number: &lt;b&gt;"),
-    "another pair": (b"OAK,1,5\nOAK,99,6\n", "row 2 is for no lot of this draw: OAK 99"),
+    "another pair": (b"OAK,1,5\nOAK,99,6\n", "row 2 is for no lot that is drawn here: OAK 99"),
     "a pair twice": (b"OAK,1,5\nOAK,1,6\n", "row 2 is for the school and child of row 1: OAK 1"),
     "no lot": (b"OAK,1\nOAK,2\n", "the file has no lot of round 1"),
     "a web page": (b"<html><body>1</body></html>", "a web page (HTML)"),
@@ -323,7 +372,7 @@ def test_a_sheet_that_fills_the_memory_is_refused() -> None:
     assert len(out.getvalue()) < 1_000_000
     for data in (out.getvalue(), b"OAK,1,5\n" * 2_000_000):
         with pytest.raises(Refused):
-            draws_sheet.rows_of(data)
+            lot_sheets_apart.rows_of(data)
 
 
 def test_lots_are_read_with_the_pairs_that_the_register_says(small: Machine) -> None:
@@ -382,7 +431,7 @@ def test_a_made_up_supervisor_neither_sees_nor_draws_lots(small: Machine, when: 
         assert sue.post(f"/lots/{number}/seed", {"seed": "1"}).status_code == 403
         sheet = (io.BytesIO(b"OAK,1,5\n"), "a.csv")
         assert sue.post(f"/lots/{number}/sheet", {"file": sheet}).status_code == 403
-        who = people.Person("sue", "supervisor")
+        who = roles.Person("sue", "supervisor")
         with pytest.raises(Refused, match="somebody else draws the lots"):
             office.parts.lots.save(who, number, {(("OAK", 1), 0): Typed(was, "5")})
         assert office.parts.lots.sheet(number)[1].text() == before

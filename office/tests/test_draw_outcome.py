@@ -15,9 +15,10 @@ from draw_site import (
     HAL, Command, Machine, begun, brought, machine_over, sealed, typed, version,
 )
 from pages import Page
+from staged import Screens, csv_of
 
 from office.core.model import Cutoff
-from office.web.frame import people
+from office.web.people import roles
 from office.web.rounds.outcome import OfSchool, last_in_words
 
 CODES = ("ASH", "BAY", "CLY", "DUN")
@@ -121,7 +122,8 @@ def test_the_flow_and_the_places_are_those_of_the_register(town: Machine) -> Non
                 '<dl class="figures">')[1].split("</dl>")[0]).split())
             lower = "".join(f", {words} {many}" for words, many in zip(
                 ("second", "third", "lower"), every[1:4]) if many)
-            assert (f"First preference {every[0]} {100 * every[0] / len(has):.1f}%{lower},"
+            assert (f"First preference {every[0]} {100 * every[0] / len(has):.1f}% of those who"
+                    f" took part{lower},"
                     f" none of theirs {every[4]}") in figures
             assert [len(shown.numbers(f"what={it}")) for it in ("first", "lower", "none")] == [
                 every[0], sum(every[1:4]), every[4]]
@@ -144,7 +146,7 @@ def test_the_flow_and_the_places_are_those_of_the_register(town: Machine) -> Non
 def test_children_to_look_at_are_found_by_group(town: Machine) -> None:
     """Late ones are named, though they are not in the round; and one with a note."""
     with town.office() as office:
-        office.parts.notes.add(people.Person("jane", "officer"), 12, "Ann", "A note.")
+        office.parts.notes.add(roles.Person("jane", "officer"), 12, "Ann", "A note.")
         number = rehearsed(office)
         shown = Shown(office, number)
         assert shown.numbers("what=late") == set(LATE)
@@ -157,7 +159,7 @@ def test_children_to_look_at_are_found_by_group(town: Machine) -> None:
             "119 children take part. All children, with 10 late" in checked)
         assert ("119 children take part, and 10 are late. Those offered a place come first, then no"
                 " place, then late ones; by number.") in shown.page.text
-        assert 'href="?what=late#children"' in shown.page.text
+        assert f'href="/draws/{number}?what=late#children"' in shown.page.text
         assert "Agrees The independent audit" in " ".join(shown.page.by_id["next"].split())
         # (a page has fifty rows; who may not read notes is not told who has one)
         assert [len(shown.at(it).tables["By child"]) - 1 for it in ("", "page=3")] == [50, 29]
@@ -168,7 +170,7 @@ def test_children_to_look_at_are_found_by_group(town: Machine) -> None:
         said = "Until it is run, all pages but its own show the register from before it."
         assert said in shown.jane.get("/children/1").text
         assert said in shown.jane.get("/schools/ASH").text
-        office.parts.draws.confirm(people.Person("jane", "officer"), number,
+        office.parts.draws.confirm(roles.Person("jane", "officer"), number,
                                    version(office, number))
         office.add("hal", "head")
         page = " ".join(shown.at("").by_id["draw"].split())
@@ -179,12 +181,35 @@ def test_children_to_look_at_are_found_by_group(town: Machine) -> None:
         assert "Round 1 waits for hal" in home and "Run round 1" not in home
         assert "Run round 1" in office.browser("hal").get("/").text
         assert "What was checked" in page and "119 children take part." in page
-        assert "No change since the applications were stored" in page
+        assert "No change since the applications were added to the register" in page
         assert f'href="/draws/{number}/audit"' in shown.at("").text
         assert "Go to it" not in page and re.search(r"Copy 1, made .* before it", page)
         office.parts.draws.send(HAL, number, version(office, number))
         assert said not in shown.jane.get("/children/1").text
         assert "119 children take part." in " ".join(shown.at("").by_id["checked"].split())
+
+
+def test_applications_that_are_left_out_are_named_before_it_is_confirmed(town: Machine) -> None:
+    """Rows that are set aside, and those that are not in the register yet, with the way to them for
+    who may see them; of a round that is run nothing is said of the rows of now.
+    """
+    with town.office() as office:
+        number = rehearsed(office)
+        jane, rita = office.browser("jane"), office.browser("rita", "reader")
+        rows = [f"{it},Mo Marsh {it},{it},2,no,,,2024-10-01,ASH," for it in (901, 902, 903)]
+        screens = Screens(jane)
+        assert screens.add(("a.csv", csv_of(*rows))).status_code == 303
+        assert "Left out 3 applications are not in the register yet, and take no part." in (
+            " ".join(Page(jane.get(f"/draws/{number}").text).by_id["to-look-at"].split()))
+        assert screens.withdraw(screens.see().rows()[0]).status_code == 303
+        page = Page(jane.get(f"/draws/{number}").text)
+        said = " ".join(page.by_id["to-look-at"].split())
+        assert "Left out 1 application is set aside, and takes no part. Show it" in said
+        assert "Left out 2 applications are not in the register yet, and take no part." in said
+        assert {"/applications/withdrawn", "/applications/"} <= {*page.stops}
+        assert "Left out" not in rita.get(f"/draws/{number}").text
+        brought(office, number, "opened")
+        assert "Left out" not in jane.get(f"/draws/{number}").text
 
 
 def test_an_audit_is_read_in_words(town: Machine) -> None:

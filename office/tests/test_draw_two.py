@@ -22,8 +22,8 @@ from register_files import Refused
 from served import do_over
 
 from office.web.copies import copies
-from office.web.frame import people
 from office.web.machinery.steps import Done
+from office.web.people import roles
 from office.web.register.history import Entry
 from office.web.register.schema import STEPS
 from office.web.register.store import Store
@@ -50,7 +50,7 @@ def renewed(office: Site, name: str, by: str = "hal") -> None:
     """Somebody gets a new password, and changes it at once."""
     office.parts.history.add(by, "drew a new password", {"person": name})
     drawn = office.parts.people.reset(name)
-    office.parts.people.set_password(people.Person(name, ""), drawn, f"{OWN}, {name}")
+    office.parts.people.set_password(roles.Person(name, ""), drawn, f"{OWN}, {name}")
     office.passwords[name] = f"{OWN}, {name}"
 
 
@@ -279,6 +279,28 @@ def test_who_could_act_in_both_names_does_not_confirm(small: Machine, what: str)
         assert jane.step(number, "confirm").status_code == 303
 
 
+def test_who_could_act_for_whoever_saved_lots_does_not_confirm(small: Machine) -> None:
+    """A supervisor whose account the second person has made types the lots, and another one seals
+    them.
+    """
+    with small.office() as office:
+        _, jane = office_of_two(office)
+        pat = Person(office, "pat", "officer")
+        office.parts.history.add("jane", "added", {"person": "sue", "role": "supervisor"})
+        number = begun(office)
+        brought(office, number, "lots")
+        _, sheet = office.parts.lots.sheet(number)
+        sue = roles.Person("sue", "supervisor")
+        office.parts.lots.save(
+            sue, number, {cell: Typed("", str(lot_of(*cell))) for cell in sheet.cells()})
+        brought(office, number, "rehearsed")
+        assert office.parts.draws.get(number).who("sealed") == "sup"
+        found = jane.step(number, "confirm")
+        assert found.status_code == 409 and "sue was added by jane at" in found.text
+        assert "May confirm it pat May not confirm it" in words(pat, number)
+        assert pat.step(number, "confirm").status_code == 303
+
+
 def test_who_closed_it_does_not_confirm_it(small: Machine) -> None:
     """Whoever read what looked wrong before the close, and said that it is right, is not the one
     who is asked whether it is.
@@ -290,8 +312,8 @@ def test_who_closed_it_does_not_confirm_it(small: Machine) -> None:
         assert pat.step(number, "close").status_code == 303
         brought(office, number, "rehearsed")
         page = words(pat, number)
-        assert "pat closed the register for it. Somebody else confirms it." in page
-        assert "May confirm it jane May not confirm it hal began round 1 pat closed the" in page
+        assert "pat paused recording for it. Somebody else confirms it." in page
+        assert "May confirm it jane May not confirm it hal began round 1 pat paused" in page
         for it in (hal, pat):
             found = it.step(number, "confirm")
             assert found.status_code == 409 and ": somebody else confirms it." in found.text
@@ -425,7 +447,7 @@ def test_a_supervisor_is_not_made_up(small: Machine, how: str) -> None:
         assert found.status_code == 403 and said in found.text
         with pytest.raises(Refused, match=f"{name} was .*: somebody else seals the lots"):
             office.parts.lots.seal(
-                people.Person(name, "supervisor"), number, version(office, number), digest)
+                roles.Person(name, "supervisor"), number, version(office, number), digest)
         assert office.parts.draws.get(number).state == "lots"
         if how == "added":
             sealed(office, number)
@@ -451,7 +473,7 @@ def test_who_sealed_the_lots_reads_who_confirms(tmp_path: pathlib.Path) -> None:
         for name, said in (("sup", "sup sealed the lots. Somebody else confirms it."),
                            ("hal", "hal began round 1. Somebody else confirms it."),
                            ("jane", "")):
-            flask.g.person = people.Person(name, "officer")
+            flask.g.person = roles.Person(name, "officer")
             assert draws_page.why_not(draw, "confirmed", register) == said
 
 
@@ -515,7 +537,7 @@ def stored(office: Site) -> None:
     """Stores the application of child 6."""
     rows = "child,name,east,north,looked_after,flags,siblings,day,preferences\n6,Fay,0,450,no"
     imported = office.parts.desk.send_import(
-        people.Person("jane", "officer"), f"{rows},,,2024-10-31,OAK\n".encode())
+        roles.Person("jane", "officer"), f"{rows},,,2024-10-31,OAK\n".encode())
     assert imported.is_done, imported
 
 
@@ -575,11 +597,12 @@ def test_the_second_person_reads_all_of_it_before_the_button(small: Machine) -> 
             "The independent audit, a second program, works out the same outcome",
             "Round 1 was cancelled before, after lots were entered.",
             "No school offers more places than it has.",
-            "2 changes since the applications were stored can move a criterion, a distance or a"
-            " limit. 1 of them was made by you.",
+            "2 changes since the applications were added to the register can move a criterion, a"
+            " distance or a limit. 1 of them was made by you.",
             "Round 1, cancelled Begun on ", "cancelled after the lots were sealed",
             "by hal and jane",
             "admission number of ELM raised to 10 you", "entered an EHC plan that names OAK pat",
+            "You may confirm even if you added applications or made changes yourself.",
             "Confirming gives no place yet: round 1 is run next, by hal, and then its letters are"
             " made.")]
         assert places == sorted(places) and "Run round 1" not in page.text
@@ -590,6 +613,46 @@ def test_the_second_person_reads_all_of_it_before_the_button(small: Machine) -> 
         names = [it[0] for it in Page(hal.browser.get("/draws/").text).tables[
             "Rounds and offers from waiting lists"][1:]]
         assert names == ["Round 1", "Round 1, cancelled"]
+
+
+def test_who_can_confirm_does_so_on_the_first_screen(small: Machine) -> None:
+    """Which has all that the page of the round has before the button, and the outcome in numbers;
+    and for nobody else.
+    """
+    with small.office() as office:
+        hal, jane = office_of_two(office)
+        first = begun(office)
+        brought(office, first, "sealed")
+        given_up(office, first)
+        stored(office)
+        for who, command in CHANGES[2:]:
+            office.record(who, command)
+        number = begun(office)
+        brought(office, number, "rehearsed")
+        home, own = (Page(jane.browser.get(it).text) for it in ("/", f"/draws/{number}"))
+        for part in ("to-look-at", "before", "changed"):
+            assert home.by_id[part].split() == own.by_id[part].split(), part
+        at, card = home.text.index(">Confirm round 1</button>"), home.text.index('id="next"')
+        said = html.unescape(" ".join(re.sub("<[^>]*>", " ", home.text[card:at]).split()))
+        places = [said.index(it) for it in (
+            "Your decision: round 1", "Two people are needed", "Offered a place 4 of 5 children",
+            "The independent audit, a second program, works out the same outcome",
+            "2 changes since the applications were added to the register can move",
+            "by hal and jane",
+            "Confirming gives no place yet: round 1 is run next, by hal")]
+        assert places == sorted(places)
+        assert home.text.count(">Confirm round 1<") == 1
+        # (its links lead to the page of the round)
+        links = set(re.findall(r'href="([^"]*)"', home.text[card:at]))
+        assert {f"/draws/{number}", f"/draws/{number}#schools", "#before", "#changed"} <= links
+        assert not any(it.startswith("?") for it in links)
+        for other in (hal.browser, office.browser("rita", "reader")):
+            assert 'id="next"' not in other.get("/").text
+        found = press(jane.browser, "/", home, "Confirm round 1")
+        assert (found.status_code, found.location) == (303, f"/draws/{number}")
+        assert office.parts.draws.get(number).who("confirmed") == "jane"
+        assert 'id="next"' not in jane.browser.get("/").text
+        assert press(jane.browser, "/", home, "Confirm round 1").status_code == 409
 
 
 def test_a_step_that_is_sent_again_after_a_session_is_named(small: Machine) -> None:

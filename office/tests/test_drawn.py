@@ -4,7 +4,7 @@ import random
 import re
 import xml.etree.ElementTree as ET
 
-from office.web.lists import home
+from office.web.home import tasks as home
 from office.web.machinery import pictures
 from office.web.machinery.pictures import LEAST, SIDE, Circle, Home, Places, Span
 

@@ -28,12 +28,12 @@ from pages import Page, tasks
 from register_files import Refused
 from served import do_over
 
-from office.core import days, kinds
+from office.core import command_kinds, days
 from office.core.model import Pair
 from office.web.copies import copies
-from office.web.frame import people
+from office.web.people import roles as people_roles
 from office.web.register import desk
-from office.web.rounds import checks as draws_checks
+from office.web.rounds import before_pause
 from office.web.rounds import outcome as draws_outcome
 from office.web.rounds.rehearsal import Rehearsal
 from office.web.rounds.terms import Terms
@@ -171,7 +171,7 @@ def test_a_round_by_five_hands(machine: Machine, town: Town) -> None:
         page = hal.browser.get("/draws/1").text
         assert "Monday 3 March 2025." in page and "Is this right?" not in page
         assert "from then on until the register is open again. All can still read" in page
-        assert f"{len(lots)} pairs of 40 children and 4 schools." in page
+        assert f"{len(lots)} lots, of 40 children at 4 schools." in page
         page = sup.get("/lots/")
         assert page.status_code == 200 and "Round 1" not in page.text
         assert tasks(sup.get("/").text)["Not yet"][0][2] == "Soon"
@@ -205,7 +205,8 @@ def test_a_round_by_five_hands(machine: Machine, town: Town) -> None:
         # (the rehearsal follows)
         page = jane.browser.get("/").text
         assert '<a href="/draws/1"' in page
-        assert ">A second person has to confirm it.<" in page
+        assert "A second person has to confirm it." in page
+        assert ">Confirm round 1</button>" in page
         wanted = town.allotted(lots)
         shown = hal.browser.get("/draws/1").text
         placed = sum(it is not None for it in wanted.values())
@@ -364,7 +365,7 @@ def test_a_draw_is_not_said_to_be_missing_while_the_register_is_away(small: Mach
         assert "closed, and run; not audited yet" in page
         assert "Next: audit round 1" in page and "Audit round 1</button>" in page
         small.stop()
-        # (what was read within two seconds is shown as it was)
+        # (what was read within a minute is shown as it was)
         office.parts.desk.copy = None
         page = hal.get(f"/draws/{number}").text
         assert "The register does not answer now." in page
@@ -403,13 +404,13 @@ def test_three_fills_in_one_closure(small: Machine) -> None:
             [2, 3, "ELM", "OAK"], [3, 2, "ELM", "OAK"], [4, 4, "ELM", "OAK"]]
         command = {"cmd": "fill", "draw": 3, "school": "OAK", "day": "2025-04-07",
                    "lots": [8, 1, 2]}
-        assert kinds.is_done(register, command)
+        assert command_kinds.is_done(register, command)
         others: list[dict[str, Any]] = [
             {"school": "ELM"}, {"day": "2025-04-08"}, {"lots": [8, 2, 1]}, {"draw": 5}]
         for other in others:
-            assert not kinds.is_done(register, {**command, **other}), other
+            assert not command_kinds.is_done(register, {**command, **other}), other
         whole = {name: it for name, it in command.items() if name != "school"}
-        assert not kinds.is_done(register, {**whole, "cmd": "round"})
+        assert not command_kinds.is_done(register, {**whole, "cmd": "round"})
 
 
 def test_nobody_else_records_while_it_is_closed(
@@ -528,7 +529,7 @@ def test_a_stale_page_does_nothing(small: Machine) -> None:
         given_up(office, number)
         found = jane.press(number, seen, "confirm")
         assert found.status_code == 409
-        assert re.search("jane changed it at .+, and it is in the state &#39;given up&#39;",
+        assert re.search(r"Round 1 has changed since .+ jane changed it at .+ \(cancelled\)\.",
                          found.text)
         other = begun(office)
         brought(office, other, "rehearsed")
@@ -582,7 +583,7 @@ def test_what_is_wrong_is_said_without_a_path(
                     "The register cannot be read: the server answered")
         stand_in = small.folder / "broken"
         for what, said in (
-            ("do", "The draw cannot be rehearsed: no good: the copy"),
+            ("do", "It cannot be rehearsed: no good: the copy"),
             ("show", "The copy is no register, or it is damaged: no good: the copy"),
         ):
             stand_in.write_text(
@@ -786,8 +787,8 @@ def test_a_difference_of_the_audit_stops_it(
 # what is done to a register after its draws, and what the comparison of the copies says
 SPOILED = {
     "UPDATE school SET pan = pan + 1 WHERE code = 'ELM'": "a row of school of AFTER was not in",
-    "UPDATE lot SET lot = lot + 500 WHERE draw = 3": "the lots of draw 3 are not those",
-    "UPDATE lot SET lot = lot + 500 WHERE draw = 4": "the lots of draw 4 are not those",
+    "UPDATE lot SET lot = lot + 500 WHERE draw = 3": "the lots of place 2 are not those",
+    "UPDATE lot SET lot = lot + 500 WHERE draw = 4": "the lots of place 3 are not those",
     "UPDATE offer SET child = 5 WHERE draw = 3": "not the first: child 3 is, and child 5 OAK",
     "UPDATE place SET kind = 2, day = NULL WHERE child = 3": "by BEFORE and the fill, and not in",
     "UPDATE child SET name = 'Another' WHERE child = 1": "a row of child of AFTER was not in",
@@ -864,11 +865,11 @@ def test_a_restore_is_taken_back(small: Machine) -> None:
         brought(office, number, "sending")
         office.parts.draws.ask_restore(HAL, number, version(office, number))
         for step in (office.parts.draws.send, office.parts.draws.audit):
-            with pytest.raises(Refused, match="hal has asked to restore|in which this cannot"):
+            with pytest.raises(Refused, match="hal has asked to restore|this cannot be done"):
                 step(HAL, number, version(office, number))
         office.parts.draws.keep(HAL, number, version(office, number))
         brought(office, number, "opened")
-        with pytest.raises(Refused, match="in which this cannot be done"):
+        with pytest.raises(Refused, match=r"this cannot be done with round 1 now \(complete\)"):
             office.parts.draws.ask_restore(HAL, number, version(office, number))
 
 
@@ -903,8 +904,9 @@ def test_a_draw_is_given_up_before_it_is_sent_alone(small: Machine) -> None:
             brought(office, number, state)
             given_up(office, number)
             draw = office.parts.draws.get(number)
-            digest = f" Digest of the lots {draw.digest}." if draw.digest else ""
-            assert draw.done[-1].said == f"In the state '{state}'.{digest}"
+            digest = f" Fingerprint of the lots {draw.digest}." if draw.digest else ""
+            assert draw.done[-1].said == (
+                f"Before that: {draw.states.in_short(state)}.{digest}")
             assert bool(digest) == (state in ("sealed", "rehearsed", "confirmed"))
             assert office.parts.desk.closed() == ""
         number = begun(office)
@@ -912,7 +914,7 @@ def test_a_draw_is_given_up_before_it_is_sent_alone(small: Machine) -> None:
         for name in ("give-up", "ask-give-up", "confirm-give-up"):
             seen = str(office.parts.draws.get(number).version)
             found = Person(office, "hal", "head").press(number, seen, name, reason=MISTYPED)
-            assert found.status_code == 409 and "in which this cannot be done" in found.text
+            assert found.status_code == 409 and "This cannot be done with round 1 now" in found.text
 
 
 def test_two_give_up_a_draw_whose_lots_are_sealed(small: Machine) -> None:
@@ -932,13 +934,13 @@ def test_two_give_up_a_draw_whose_lots_are_sealed(small: Machine) -> None:
         assert ">Cancel round 1</button>" not in page
         assert f"The fingerprint of its lots stays on record: <code>{digest}</code>" in page
         found = hal.step(number, "give-up")
-        assert found.status_code == 409 and "in which this cannot be done" in found.text
+        assert found.status_code == 409 and "This cannot be done with round 1 now" in found.text
         found = jane.step(number, "confirm-give-up")
         assert found.status_code == 409 and "Nobody has asked to cancel round 1." in found.text
         seen = Fields(jane.browser.get(f"/draws/{number}").text).values["seen"]
         assert hal.step(number, "ask-give-up", reason=MISTYPED).status_code == 303
         stale = jane.press(number, seen, "confirm").text
-        assert re.search("hal changed it at .+, and it is in the state &#39;rehearsed&#39;", stale)
+        assert re.search(r"hal changed it at .+ \(waits for a second person\)", stale)
         page = hal.browser.get(f"/draws/{number}").text
         assert "hal has asked to cancel round 1" in page and ">Confirm round 1<" not in page
         page = hal.browser.get(f"/draws/{number}/cancel").text
@@ -959,7 +961,7 @@ def test_two_give_up_a_draw_whose_lots_are_sealed(small: Machine) -> None:
         assert (last.who, last.what, last.about["lots"]) == ("jane", "gave up", digest)
         assert last.about["reason"] == MISTYPED
         page = jane.browser.get(f"/draws/{number}").text
-        assert f"Digest of the lots {digest}." in page
+        assert f"Fingerprint of the lots {digest}." in page
 
 
 def test_a_draw_whose_lots_are_sealed_is_given_up_for_a_reason(small: Machine) -> None:
@@ -1025,7 +1027,7 @@ def test_a_second_person_is_not_made_up(small: Machine, how: str) -> None:
         drawn = re.findall(r'<code id="secret">([^<]{24})</code>', page.text)
         assert len(drawn) == (how != "another role")
         if drawn:
-            office.parts.people.set_password(people.Person("pat", "head"), drawn[0], PAT)
+            office.parts.people.set_password(people_roles.Person("pat", "head"), drawn[0], PAT)
             office.passwords["pat"] = PAT
         pat = Person(office, "pat", "head")
 
@@ -1066,8 +1068,9 @@ def test_what_looks_wrong_is_read_before_it_closes(small: Machine) -> None:
         hal = Person(office, "hal", "head")
         number = begun(office, day="2025-03-08")
         page = hal.browser.get(f"/draws/{number}").text
-        for said in ("It is not right for a first round: the offer day is 3 March 2025.",
-                     "It is 5 days after today.", "It is a Saturday.", "Saturday 8 March 2025."):
+        for said in ("The day, 8 March 2025, is not right for a first round: the offer day is"
+                     " 3 March 2025.", "The day, 8 March 2025, is 5 days away.",
+                     "The day, 8 March 2025, is a Saturday.", "Saturday 8 March 2025."):
             assert said in page, said
         found = hal.step(number, "close")
         assert found.status_code == 409 and "something looks wrong" in found.text.lower()
@@ -1076,7 +1079,7 @@ def test_what_looks_wrong_is_read_before_it_closes(small: Machine) -> None:
         # (what was not there when the page was read was not agreed to)
         office.parts.draws.today = lambda: datetime.date(2025, 3, 2)
         found = hal.step(number, "close", agreed=read)
-        assert found.status_code == 409 and "It is 6 days after today." in found.text
+        assert found.status_code == 409 and "is 6 days away." in found.text
         first_day(office)
         assert hal.step(number, "close", agreed="yes").status_code == 409
         assert office.parts.desk.closed() == ""
@@ -1084,13 +1087,14 @@ def test_what_looks_wrong_is_read_before_it_closes(small: Machine) -> None:
         assert office.parts.draws.get(number).state == "lots"
         entries = office.parts.history.entries
         about = [it.about for it in entries if it.what == "closed the register"]
-        assert len(about) == 1 and "It is a Saturday." in about[0]["agreed"]
+        assert len(about) == 1 and any(
+            it.endswith(" is a Saturday.") for it in about[0]["agreed"])
         # (who confirms it is asked the same, and finds what is to be done before the long tables)
         brought(office, number, "rehearsed")
         page = Page(Person(office, "jane", "officer").browser.get(f"/draws/{number}").text)
         doubts = " ".join(page.by_id["to-look-at"].split())
-        assert "Is this right? When hal closed the register, this looked wrong: " in doubts
-        assert "It is 5 days after today." in doubts and "It is a Saturday." in doubts
+        assert "Is this right? When hal paused recording, this looked wrong: " in doubts
+        assert " is 5 days away." in doubts and " is a Saturday." in doubts
         assert doubts.index("Agrees") < doubts.index("hal said that it is right.")
         at = page.text.index(">Confirm round 1</button>")
         assert page.text.index('id="to-look-at"') < at
@@ -1102,19 +1106,19 @@ def test_the_checks_have_all_that_a_file_is_asked(small: Machine) -> None:
     """Days, holidays, who takes part, offers without an answer, and the vacancies of a fill."""
     with small.office() as office:
         after_round(small, office)
-        found = {(it.title, it.is_risk): it.said for it in draws_checks.checks(
+        found = {(it.title, it.is_risk): it.said for it in before_pause.checks(
             office.parts.desk.now(), Terms(2, "OAK", 4, datetime.date(2025, 4, 7)),
             datetime.date(2025, 4, 7))}
         assert found == {
             ("Day", False): "Monday 7 April 2025.",
-            ("Before it", False): "The register has 1 round and 0 fills.",
+            ("Before it", False): "The register has 1 round and 0 offers from waiting lists.",
             ("Season", False): "Applications closed on 31 October 2024; the offer day is 3 March"
                                " 2025; the lists end on 31 December 2025.",
             ("Holidays", False): "None.",
             ("School", False): "OAK OAK School has 3 vacancies, and 4 children on its waiting"
                                " list.",
             ("School", True): "There are fewer vacancies than 4.",
-            ("Lots", False): "4 pairs of 4 children and 1 school, 4 lots for each.",
+            ("Lots", False): "4 lots for each place, of 4 children at 1 school.",
             ("Offers", False): "5 offers have no answer yet; of these none had a reminder.",
         }
 
@@ -1127,12 +1131,13 @@ def test_a_holiday_and_late_applications_are_named(small: Machine) -> None:
         for holidays, is_risk, said in (((day, other), True, "3 March 2025 and 25 December 2025."),
                                         ((other,), False, "25 December 2025.")):
             register = dataclasses.replace(office.parts.desk.now(), holidays=holidays)
-            found = draws_checks.checks(register, Terms(1, None, 1, day), day)
+            found = before_pause.checks(register, Terms(1, None, 1, day), day)
             assert [it.said for it in found if it.title == "Holidays"] == [said]
             assert [it.said for it in found if it.is_risk] == (
-                ["It is a holiday of this season."] if is_risk else [])
+                ["The national offer day, 3 March 2025, is a holiday of this season."]
+                if is_risk else [])
             assert [it.said for it in found if it.title in ("Late", "Lots")] == [
-                "10 pairs of 5 children and 2 schools.",
+                "10 lots, of 5 children at 2 schools.",
                 "1 late application takes no part in this round."]
 
 
@@ -1141,13 +1146,13 @@ def test_a_draw_that_the_register_refuses_gets_no_lots(small: Machine) -> None:
     with small.office() as office:
         number = begun(office, day="2025-03-01")
         brought(office, number, "copied")
-        with pytest.raises(Refused, match="the register refuses draw 1: .*TooSoon"):
+        with pytest.raises(Refused, match="the register refuses the round: .*TooSoon"):
             office.parts.draws.give(HAL, number, version(office, number))
         office.parts.draws.give_up(HAL, number, version(office, number))
         after_round(small, office)
         number = begun(office, "OAK", 4, "2025-04-07")
         brought(office, number, "copied")
-        with pytest.raises(Refused, match="the register refuses draw 5: .*NoVacancy"):
+        with pytest.raises(Refused, match="the register refuses place 4: .*NoVacancy"):
             office.parts.draws.give(HAL, number, version(office, number))
 
 

@@ -291,6 +291,6 @@ def test_the_season_of_the_page_has_each_command_error_and_request() -> None:
     assert typed | {"serve"} == set(re.findall(r"(?m)admissions ([a-z-]+) FILE", FORMATS))
     routes = re.findall(r"(?m)^\| ((?:GET|POST) `[^`]+`) \|", FORMATS)
     forms = [re.sub(r"\{\w+\}", "[A-Z0-9]+", it.replace("`", "")) for it in routes]
-    assert len(forms) == 11
+    assert len(forms) == 13
     for form in forms:
         assert any(re.fullmatch(form, it.first) for it in SENT), form

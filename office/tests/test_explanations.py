@@ -139,7 +139,7 @@ def test_a_round_without_its_copy_is_explained_by_the_data_of_now(office: Site) 
     os.rename(path, path.with_suffix(".away"))
     try:
         found = Page(rita.get("/children/3/why/1/office").text)
-        assert found.by_id["note"].startswith("The copy of the register from before this draw is")
+        assert found.by_id["note"].startswith("The copy of the register from before it is not")
         assert "note" not in with_copy.by_id
         assert found.by_id["school-A"] == with_copy.by_id["school-A"]
         page = rita.get("/children/3").text
@@ -163,7 +163,7 @@ def test_data_of_now_may_give_no_reason(tmp_path: pathlib.Path) -> None:
         page = Page(jane.get("/children/3/why/1/family").text)
         assert f"Your child: {WORDS}, 300 metres." in page.text and "/pdf" in page.text
         assert "part=positions#kept" in page.text
-        assert "The data of your child were changed after the draw" in page.text
+        assert "The data of your child were changed since" in page.text
         os.remove(path)
         page = Page(jane.get("/children/3/why/1/family").text)
         said = "There is no reason: the data that the register has now give no reason"

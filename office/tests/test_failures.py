@@ -10,8 +10,9 @@ from collections.abc import Iterator
 import pytest
 from applications import ORIGIN, ROUND, Browser, Site, office_over, town
 
-from office.web.frame import attempts, failures, journal
+from office.web.frame import failures, journal
 from office.web.frame.failures import Failures
+from office.web.people import attempts
 
 
 @pytest.fixture(name="office")

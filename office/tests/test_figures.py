@@ -20,9 +20,10 @@ from files import register_of, write
 from register_files import Refused
 
 from office.files import charts
-from office.work import figure_counts, rounds
-from office.work import figures as published
-from office.work.withheld import withheld
+from office.web.figures import counts as figure_counts
+from office.web.figures import page as published
+from office.web.figures.withheld import withheld
+from office.web.rounds import held_draw
 
 
 @pytest.mark.parametrize(
@@ -56,7 +57,7 @@ def figures_of(
 
 def counted(path: Path, number: int | None = None) -> figure_counts.Figures:
     """The counts of a register's round, by the data that it has now."""
-    return figure_counts.count(rounds.of_register(register_of(path, path.name), number))
+    return figure_counts.count(held_draw.of_register(register_of(path, path.name), number))
 
 
 def test_counts_are_those_of_the_model(season: Path) -> None:
@@ -182,7 +183,7 @@ def test_a_plan_since_is_never_counted_wrongly(tmp_path: Path) -> None:
         )
         with pytest.raises(Refused, match=said):
             counted(tmp_path / "reg.db")
-        seen = rounds.held_again(
+        seen = held_draw.held_again(
             register_of(tmp_path / "before.db"), register_of(tmp_path / "reg.db")
         )
         assert figure_counts.count(seen) == first

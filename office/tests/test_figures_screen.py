@@ -15,8 +15,8 @@ from applications import Browser, Site, office_over
 from conftest import apply, child, do, make, school
 from test_figures import move
 
-from office.web.explain import figures
-from office.web.explain.figures import MOST, FiguresStore
+from office.web.figures import publication
+from office.web.figures.publication import MOST, FiguresStore
 from office.web.register.store import Store
 
 # OAK has 7 places and ELM 2, and 10 children live ever farther from both. All want OAK first but
@@ -108,16 +108,16 @@ def test_the_figures_of_a_round_are_made_and_looked_at(office: Site, browser: Br
     assert met[1:] == [["first preference", "[c]", "[c]"], ["no place", "[c]", "[c]"]]
     rows = {(it[0], it[1]): it[2:] for it in found.tables[next(
         it for it in found.tables if it.endswith("withheld"))][1:]}
-    assert rows["", "children with no place"] == ["1", figures.SMALL]
-    assert rows["", "children with first preference"] == ["9", figures.BESIDE]
-    assert rows["ELM", "offers"] == ["2", figures.SMALL]
+    assert rows["", "children with no place"] == ["1", publication.SMALL]
+    assert rows["", "children with first preference"] == ["9", publication.BESIDE]
+    assert rows["ELM", "offers"] == ["2", publication.SMALL]
     assert rows["OAK", "offers to children looked after, or previously looked after"] == [
-        "1", figures.SMALL]
+        "1", publication.SMALL]
     # (the sum of all offers is withheld beside them, or one of OAK's is)
     assert ("OAK", "distance of the last offer") not in rows
-    assert rows["", "homes on the map"][1] == figures.BLANK
-    assert all(0 < int(it[0]) < 5 for it in rows.values() if it[1] == figures.SMALL)
-    assert all(not 0 < int(it[0]) < 5 for it in rows.values() if it[1] == figures.BESIDE)
+    assert rows["", "homes on the map"][1] == publication.BLANK
+    assert all(0 < int(it[0]) < 5 for it in rows.values() if it[1] == publication.SMALL)
+    assert all(not 0 < int(it[0]) < 5 for it in rows.values() if it[1] == publication.BESIDE)
     entry = office.parts.history.entries[-1]
     assert entry.what == "made figures" and entry.who == "otto"
 
@@ -213,7 +213,7 @@ def test_what_changed_since_needs_the_copy(tmp_path: pathlib.Path) -> None:
         assert done.status_code == 303
         about = json.loads(it.parts.store.rows("SELECT about FROM figures")[0][0])
         assert about["children"] == 10 and about["is_of_copy"]
-        assert ["", "children with first preference", "9", figures.BESIDE] in about["withheld"]
+        assert ["", "children with first preference", "9", publication.BESIDE] in about["withheld"]
 
 
 def test_what_was_taken_is_kept_and_of_the_rest_the_last(tmp_path: pathlib.Path) -> None:

@@ -12,7 +12,7 @@ from conftest import apply, child, school
 from pages import Page
 
 from office.core import texts
-from office.web.frame.people import Person
+from office.web.people.roles import Person
 
 HAL = Person("hal", "head")
 ZOE = "Zoë Abel"

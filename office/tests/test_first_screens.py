@@ -11,8 +11,8 @@ from applications import ROUND, Site, office_over, town
 from pages import Page, press, tasks
 
 from office.core import days
-from office.web.frame.people import Person
-from office.web.lists.views import season
+from office.web.home import views as season
+from office.web.people.roles import Person
 
 HAL = Person("hal", "head")
 
@@ -95,7 +95,13 @@ def test_an_administrator_sees_who_cannot_sign_in(office: Site) -> None:
     assert numbers(text) == {"People": "3", "Programs": "1", "Signed in now": "1",
                              "Not signed in yet": "1", "Locked": "1"}
     assert [it[1] for it in tasks(text)["When you are ready"]] == [
+        "The supervisor draws the lots of each round.",
+        "A head or an officer who did not begin a round confirms it.",
         "Not signed in yet: newcomer.", "Locked: gone."]
+    office.add("sue", "supervisor")
+    office.add("hal", "head")
+    assert [it[0] for it in tasks(ada.get("/").text)["When you are ready"]] == [
+        "Help colleagues to sign in", "Look at locked accounts"]
     assert {it for it in Page(text).stops if it.startswith("/people")} == {
         "/people/", "/people/#roles"}
     assert "Ada Abel" not in text and "Alpha" not in text and "/find" not in text

@@ -13,7 +13,7 @@ from test_plain_words import texts_of
 
 from office.core import rules, wording
 from office.web.frame import topics
-from office.web.frame.people import Person
+from office.web.people.roles import Person
 
 # views that are no page of the application: their answers are read by programs, or are a page of
 # their own without the frame
@@ -104,7 +104,7 @@ def test_each_button_and_link_that_a_topic_names_is_on_a_screen() -> None:
         *folder.rglob("*.py"), *folder.rglob("*.html")) for text in texts_of(path)).lower()
     named = [(it.name, " ".join("".join(words).split())) for it in topics.topics().values()
              for words in PRESSED.findall(it.text)]
-    assert len(named) > 60
+    assert len(named) > 50
     for name, words in named:
         for part in NAMES.split(words.lower()):
             assert part.strip(" .:?") in shown, (name, words)

@@ -19,10 +19,10 @@ from letter_site import (
 from pages import Page, press
 from test_letter_templates import number_of, own
 
-from office.web.letters import back as letters_back
+from office.web.letters import taken_back
+from office.web.letters import pdf as letter_pdf
 from office.web.letters.examples import ADDRESS, DAY, OFFERED, SENDER
 from office.web.register.history import ANSWER, SENDS, History
-from office.work import letter_pdf
 
 
 @pytest.fixture(name="address", scope="module")
@@ -252,6 +252,18 @@ def test_addresses_are_shown_before_they_are_stored(office: Site) -> None:
     assert stored.all() == {2: ["2 Low St", "Bee", "B"], 4: ["1 High St", "Ayton", "AA1 1AA"]}
 
 
+def test_an_address_with_half_of_a_character_is_not_stored(office: Site) -> None:
+    """Half of a pair of surrogates in the rows that a form has kept: no page could show it."""
+    jane = office.browser("jane")
+    data = io.BytesIO(b"child,street\n1,1 High Street\n")
+    found = jane.post("/letters/addresses/", {"way": "child", "file": (data, "a.csv")})
+    page = Page(found.text)
+    rows = r'[[1, ["child", "street"]], [2, ["1", "\ud800 High Street"]]]'
+    found = press(jane, "", page, "Store 1 address", rows=rows)
+    assert found.status_code == 422 and "choose the file once more" in found.text
+    assert office.parts.letters.addresses.all() == {}
+
+
 def test_what_was_recorded_before_the_letters_does_not_rest_on_them(
     tmp_path: pathlib.Path,
 ) -> None:
@@ -261,12 +273,12 @@ def test_what_was_recorded_before_the_letters_does_not_rest_on_them(
         sent = record.add("jane", SENDS, {"command": {"cmd": name, "child": number}})
         record.add("jane", ANSWER, {"of": sent.number, "answer": {"done": True}})
     before, after = "2025-03-17T09:00", "2025-03-17T11:00"
-    assert letters_back.noticed(record, {1, 2}, before) == (
+    assert taken_back.noticed(record, {1, 2}, before) == (
         "a reminder was recorded for child 1 since")
-    assert letters_back.noticed(record, {3}, before) == (
+    assert taken_back.noticed(record, {3}, before) == (
         "a withdrawal of the offer was recorded for child 3 since")
-    assert letters_back.noticed(record, {2, 4}, before) == ""
-    assert letters_back.noticed(record, {1, 3}, after) == ""
+    assert taken_back.noticed(record, {2, 4}, before) == ""
+    assert taken_back.noticed(record, {1, 3}, after) == ""
     record.close()
 
 

@@ -23,12 +23,12 @@ from pages import Page, press, tasks
 from register_files import Refused
 from served import do_over, served
 
-from office.web.frame.people import Person
+from office.web.letters import proved_texts
 from office.web.letters import whom as letters_whom
 from office.web.letters.sets import Asked
 from office.web.letters.views import letters as screen
 from office.web.machinery import choices
-from office.work import printed
+from office.web.people.roles import Person
 
 
 @pytest.fixture(name="address", scope="module")
@@ -308,14 +308,14 @@ def test_letters_of_a_register_that_changes_meanwhile_are_not_made(
 ) -> None:
     """All letters of a set are of one state, also where another program changes it meanwhile."""
     with after_round(tmp_path) as address, audited(tmp_path, address) as office:
-        jane, real = office.browser("jane"), printed.served
+        jane, real = office.browser("jane"), proved_texts.served
 
         def late(*given: Any) -> Any:
             do_over(address, [{"cmd": "decline", "child": 5, "school": "ELM"}])
             return real(*given)
 
         form = asked(jane, "offers", "1", child=["1", "2"])
-        monkeypatch.setattr(printed, "served", late)
+        monkeypatch.setattr(proved_texts, "served", late)
         page = waited(jane, jane.post("/letters/make", form).location)
         assert "the register was changed while its letters were read" in page
 

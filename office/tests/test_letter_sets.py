@@ -21,23 +21,23 @@ from register_files import Refused
 
 from office import audit
 from office.core.model import Draw
-from office.web.frame import people
+from office.web.letters import apart as letters_apart
 from office.web.letters import audits as letters_audits
 from office.web.letters import sets as letters_sets
 from office.web.letters import whom as letters_whom
+from office.web.letters.apart import Running
 from office.web.letters.audits import Audits
 from office.web.letters.sets import Asked, Sets
 from office.web.letters.whom import Lists, Whom
 from office.web.machinery.jobs import Jobs
+from office.web.people import roles
 from office.web.register.history import History, now
 from office.web.register.store import Store
 from office.web.rounds import rehearsal
 from office.web.rounds.store import DrawStore
 from office.web.rounds.terms import AUDITED
-from office.work import letters_apart
-from office.work.letters_apart import Running
 
-JANE = people.Person("jane", "officer")
+JANE = roles.Person("jane", "officer")
 ASKED = Asked("Offers", [1, 2], 1, 1, "2025-03-03", "pdf")
 # long ago, of a set that nobody looks for
 BEFORE = "2025-03-03T09:00:00.000+00:00"
@@ -338,7 +338,8 @@ def test_an_audit_passes_over_a_copy_that_is_gone(office: Office) -> None:
             mock.patch.object(rehearsal, "rows_of", read.append)), (
             mock.patch.object(audit, "audit", lambda *_: (["agrees"], True))):
         found = Audits(office.store, mock.MagicMock(), copies)
-        assert found.audit(JANE, mock.Mock(), 3) == (True, "agrees")
+        now = mock.Mock(draws=[mock.Mock(round=1)] * 3)
+        assert found.audit(JANE, now, 3) == (True, "agrees")
     assert read == ["3", "6"]
 
 

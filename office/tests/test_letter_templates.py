@@ -14,9 +14,9 @@ from applications import ROUND, Browser, Site, office_over, town
 from letter_site import asked, count, letter_pages, made, pages
 from register_files import Refused
 
+from office.web.letters import apart as letters_apart
 from office.web.letters import versions as letters_templates
-from office.work import letters_apart
-from office.work.letters_apart import Source
+from office.web.letters.apart import Source
 
 GOOD = "<h1>{{ letter.name }}</h1>\n<p>{{ date }}</p>\n"
 LOOP = ("<p>x</p>\n{% for a in range(99999) %}{% for b in range(99999) %}\n"
@@ -112,10 +112,8 @@ def test_an_operation_that_does_not_return_is_ended_with_its_line(
 ) -> None:
     """As a long operation within a library, which no error interrupts."""
     monkeypatch.setattr(letters_apart, "BEGIN", letters_apart.BEGIN.replace(
-        "letters_apart.main()", "letters_apart.SECONDS = 3; letter_pdf.see_product = stuck;"
-        " letters_apart.main()").replace(
-        "from office.work import letters_apart;",
-        "from office.work import letters_apart, letter_pdf;"
+        "apart.main()", "apart.SECONDS = 3; pdf.see_product = stuck; apart.main()").replace(
+        "from office.web.letters import apart;", "from office.web.letters import apart, pdf;"
         " stuck = lambda *_: (signal.signal(signal.SIGPROF, signal.SIG_IGN), 9 ** 99999999);"
         " import signal;"))
     monkeypatch.setattr(letters_apart, "SECONDS", 3)

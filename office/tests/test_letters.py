@@ -18,8 +18,10 @@ from files import register_of
 from register_files import Refused
 
 from office.core import model
-from office.work import letter_fields, letter_pdf, printed
-from office.work.letter_fields import Letter
+from office.web.letters import proved_texts
+from office.web.letters import fields as letter_fields
+from office.web.letters import pdf as letter_pdf
+from office.web.letters.fields import Letter
 
 # a picture of one point
 RED_PNG = (
@@ -79,7 +81,7 @@ def made(
     writer = letter_fields.Writer(
         register, register_of(before) if before else None, flags, datetime.date.fromisoformat(day))
     found = {it: writer.letter(it) for it in register.children}
-    printed.compare(found.values(), {it: letter_of(reg, it) for it in found})
+    proved_texts.compare(found.values(), {it: letter_of(reg, it) for it in found})
     return found
 
 
@@ -390,7 +392,7 @@ def test_a_letter_that_is_not_the_programs_is_refused(tmp_path: Path) -> None:
     letters, proved = made(reg), {it: letter_of(reg, it) for it in NAMES}
     other = {**proved, 3: proved[3].replace(b"position 2 of", b"position 1 of")}
     with pytest.raises(Refused, match="the letter of child 3 is not what the program prints"):
-        printed.compare(letters.values(), other)
+        proved_texts.compare(letters.values(), other)
 
 
 # what is changed in the document of the register for child 3, which waits at Oak at position 2 of 3
@@ -424,7 +426,7 @@ def test_a_register_that_is_shown_otherwise(tmp_path: Path, change: str) -> None
     register = model.of_document(register_of(reg).source, found)
     letter = letter_fields.Writer(register).letter(3)
     with pytest.raises(Refused, match="the letter of child 3 is not what the program prints"):
-        printed.compare([letter], {3: letter_of(reg, 3)})
+        proved_texts.compare([letter], {3: letter_of(reg, 3)})
 
 
 @pytest.mark.parametrize("name, played", [

@@ -12,8 +12,9 @@ from register_files import Refused
 from office.core import run
 from office.files import processes as apart
 from office.web.applications import points
-from office.work import letters_apart, pdf_apart
-from office.work.letters_apart import Form, Source
+from office.web.explain import pdf_apart
+from office.web.letters import apart as letters_apart
+from office.web.letters.apart import Form, Source
 
 HOW = "which is not here: apt-get install admissions-pdf"
 EACH = """
@@ -45,7 +46,7 @@ def test_each_module_loads_without_them() -> None:
                           text=True, check=False)
     assert done.returncode == 0, done.stderr
     found = set(done.stdout.split())
-    assert {"office.work.worklists", "office.web.app", "machine.verbs.setup"} <= found
+    assert {"office.web.lists.worklists", "office.web.app", "machine.verbs.setup"} <= found
 
 
 def test_excel_files_need_no_numpy(tmp_path: pathlib.Path) -> None:

@@ -10,8 +10,8 @@ import pytest
 from applications import ORIGIN, ROUND, Browser, Site, child, town
 from explained import after_round
 
-from office.web.frame.people import Person
-from office.web.lists.views import season
+from office.web.home import views as season
+from office.web.people.roles import Person
 
 ROLES = ("head", "officer", "reader", "supervisor", "administrator", "school-A")
 # what differs in a list by its options is one page here

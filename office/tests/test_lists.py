@@ -22,9 +22,9 @@ from pages import Page, press
 from office.core import texts
 from office.files import book
 from office.web.lists import choice as list_choice
+from office.web.lists.register_rows import Rows
 from office.web.machinery import tables
 from office.web.schools import flags
-from office.work.register_lists import Rows
 
 # A has two places and B one: the nearest two have A, the third B, and the fourth none
 ADA, BEN, CYD, DAI = "Ada Abel", "Ben Bell", "Cyd <b>Cole</b>", "Dai O'Dare"

@@ -12,7 +12,7 @@ from register_files import Refused
 from seasons import Town, file_of
 
 from office.core.model import Pair
-from office.work import lot_sheets
+from office.web.rounds import lot_sheets
 
 PAIRS: list[Pair] = [("A", 1), ("A", 2), ("B", 1), ("B", 2), ("B", 3)]
 LOTS = {("A", 1): 10, ("A", 2): 20, ("B", 1): 10, ("B", 2): 20, ("B", 3): 30}
@@ -74,7 +74,8 @@ WRONG = [
     (b"A;1;1,5\n", None), (b"A,1,4294967296\n", "row 1 has a lot above 4294967295: 4294967296"),
     (b"A,1,10\nB,1,10\nA,2,010\n", "row 3 has a lot that row 1 has at A: 010"),
     (b"A,1,10,20\n", "row 1 has not the three fields code, number and lot: A 1 10 20"),
-    (b"Code,Child,Lot\nA,1,10\nA,2,20\nB,1,10\nA,3,20\n", "row 5 is for no lot of this draw: A 3"),
+    (b"Code,Child,Lot\nA,1,10\nA,2,20\nB,1,10\nA,3,20\n",
+     "row 5 is for no lot that is drawn here: A 3"),
     (b"A,1,10\nA,2,20\nB,1,10\n\nA,2,21\n", "row 5 is for the school and child of row 2: A 2"),
     (b"%PDF-1.4", None), (b"A,1,\xff\n", None), (b"A,1,\x00\n", None),
 ]

@@ -211,7 +211,8 @@ BY_KINDS: list[tuple[str, tuple[str, str], str, str, tuple[str, str]]] = [
      "Replace Oak Schol by OAK in all 2 rows", ("OAK;ELM", "OAK")),
     ("east", ("1000.5", "2000.49"), "Homes with a fraction of a metre", "Round all to whole metres",
      ("1001", "2000")),
-    ("looked_after", ("none", "None"), 'Looked after: "none"', 'Read "none" as no in all 2 rows',
+    ("looked_after", ("none", "None"), 'Looked after: "none"',
+     'Take "none" as no in all 2 rows: not looked after',
      ("no", "no")),
     ("flags", ("medical need", "Medical  need"), "There is no reason medical need",
      'Read "medical need" as 2 in all 2 rows', ("2", "2")),
@@ -220,6 +221,18 @@ BY_KINDS: list[tuple[str, tuple[str, str], str, str, tuple[str, str]]] = [
     ("child", ("", ""), "Numbers that are missing", "Give each the next free number, 8 to 9",
      ("8", "9")),
 ]
+
+
+def test_a_button_says_what_it_decides(screens: Screens) -> None:
+    """Who is looked after comes first at each school: nobody decides that by a spelling."""
+    screens.add(("a.csv", lines(row(101, "Ada Abbot", looked_after="perhaps"),
+                                row(102, "Ben Brook", looked_after=""),
+                                row(103, "Cleo Carver", looked_after=""))))
+    seen = screens.see("")
+    assert {'Take "perhaps" as yes: looked after', 'Take "perhaps" as no: not looked after',
+            "Take an empty cell as no in all 2 rows: not looked after"} <= set(seen.buttons)
+    done = screens.press("Take an empty cell as no in all 2 rows: not looked after")
+    assert done.texts["answer"] == "An empty cell taken as no in 2 rows."
 
 
 @pytest.mark.parametrize("column, given, title, button, after", BY_KINDS)

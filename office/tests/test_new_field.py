@@ -61,12 +61,16 @@ def register(name):
 """
 ALL = BEGIN + """
 import datetime
-from office.work import figures, letter_fields, rounds, why, worklists
-from office.work.trial_registers import Program
+from office.web.figures import page as figures
+from office.web.letters import fields as letter_fields
+from office.web.rounds import held_draw
+from office.web.explain import why
+from office.web.lists import worklists
+from office.web.trials.registers import Program
 before, after = map(register, given)
 options = {"day": datetime.date(2025, 3, 20), "child": 1, "draw": 1, "round": 1, "text": "child"}
 writer = letter_fields.Writer(after, before)
-held = rounds.held_again(before, after, program=Program(program))
+held = held_draw.held_again(before, after, program=Program(program))
 found = figures.figures_of(after, before, None, "it")
 explained = why.explain_again(held, before, after, 4)
 print(json.dumps({
@@ -78,30 +82,32 @@ print(json.dumps({
 }, default=str))
 """
 AMEND = BEGIN + """
-from office.core import persons
-print(json.dumps(persons.command_of("amend", register(given[0]).children[1])))
+from office.core import child_fields
+print(json.dumps(child_fields.command_of("amend", register(given[0]).children[1])))
 """
 TRIAL = BEGIN + """
-from office.work import trial
-from office.work.trial_registers import Program
+from office.web.trials import trial
+from office.web.trials.registers import Program
 before, after = map(register, given)
 schools, _ = trial.changed_schools(before, [("OAK", 2)])
 found = trial.Trial(before, after, schools, {}, Program(program))
 print(json.dumps(len(found.plain.outcomes[1])))
 """
 TABLE = BEGIN + """
-from office.work import check; from office.core import fields; from office.files import sheet
-from office.web.applications import check as staging_check, files as staging_files
+from office.web.applications import row_check
+from office.core import fields
+from office.files import sheet
+from office.web.applications import table_check, files as staging_files
 from office.web.applications.rows import OPEN, Staged
 read = staging_files.rows_of("it", sheet.of_bytes("it", open(given[0], "rb").read(), None, ""))
 rows = [Staged(at, 1, "it", False, False, it.number, it.cells, it.others, it.notes, OPEN, 1, "",
                "", "", "", None) for at, it in enumerate(read.rows, 1)]
 words = dict.fromkeys(range(16), "a reason")
-table = staging_check.Checker(lambda: words).table(rows, register(given[1]))
+table = table_check.Checker(lambda: words).table(rows, register(given[1]))
 print(json.dumps({
-    "found": [[table.rows[at].staged.number, it.column, it.kind, staging_check.said(it)]
+    "found": [[table.rows[at].staged.number, it.column, it.kind, table_check.said(it)]
               for at, them in table.findings.items() for it in them],
-    "rows": [list(fields.COLUMNS), *(check.values_of(it.row) for it in table.rows.values())],
+    "rows": [list(fields.COLUMNS), *(row_check.values_of(it.row) for it in table.rows.values())],
 }))
 """
 

@@ -16,7 +16,7 @@ from pages import Page, press
 from register_files import Refused
 
 from office.web.children import notes
-from office.web.frame.people import Person
+from office.web.people.roles import Person
 from office.web.register.schema import STEPS
 from office.web.register.store import Store
 

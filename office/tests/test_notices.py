@@ -16,6 +16,7 @@ from draw_site import JANE
 from letter_site import (
     NAMES, after_round, asked, audited, beside, count, hidden, letter_pages, made, waited,
 )
+from pages import Page, press
 from register_files import Refused
 
 from office.core.senders import Ended
@@ -23,8 +24,8 @@ from office.web.answers import notices
 from office.web.answers.entries import Meant
 from office.web.answers.notice_marks import Marks
 from office.web.answers.views import notices as screen
-from office.web.frame.people import Person
 from office.web.machinery import choices
+from office.web.people.roles import Person
 
 
 @pytest.fixture(name="address", scope="function")
@@ -357,6 +358,38 @@ def test_who_may_have_answered_is_not_ticked_at_first(office: Site) -> None:
     path, ticks = "/notices/remind?day=18 March 2025", r'name="child" value="(.)"[^>]* checked'
     assert re.findall(ticks, jane.get(path).text) == list("1345")
     assert re.findall(ticks, jane.get(f"{path}&tick=all").text) == list("12345")
+
+
+def test_reminders_of_all_who_are_due_lead_straight_to_their_question(
+    office: Site, monkeypatch: pytest.MonkeyPatch,
+) -> None:
+    """Which has what the list has beside each, and a way to the list. Not where somebody's answer
+    waits in a batch, nor where nobody is due; and withdrawals never.
+    """
+    monkeypatch.setattr(screen, "today", lambda: datetime.date(2025, 3, 18))
+    jane, bo = office.browser("jane"), office.browser("bo")
+    office.parts.notes.add(Person("bo", "officer"), 4, NAMES[4], "Abroad until 20 March.")
+    found = jane.get("/notices/remind")
+    assert found.status_code == 303 and found.location.startswith("/notices/remind/")
+    question = jane.get(found.location)
+    page = Page(question.text)
+    assert page.buttons() == ["Record 5 reminders of 18 March 2025"]
+    assert re.findall(r"<li>child ([0-9]+),", question.text) == list("12345")
+    assert "/children/4?part=notes#kept" in page.stops
+    ticks = r'name="child" value="(.)"[^>]* checked'
+    assert "/notices/remind?page=1" in page.stops
+    assert re.findall(ticks, jane.get("/notices/remind?page=1").text) == list("12345")
+    assert jane.get("/notices/lapse").status_code == 200
+    bo.get("/answers/")
+    assert bo.post("/answers/", {"entry": "2"}).status_code == 303
+    assert re.findall(ticks, jane.get("/notices/remind").text) == list("1345")
+    assert confirmed(jane, question).status_code == 409
+    page = Page(bo.get("/answers/").text)
+    assert press(bo, "/answers/remove", page, "Remove 2").status_code == 303
+    row = jane.get(confirmed(jane, question).location)
+    assert "5 of 5 reminders recorded." in row.text
+    found = jane.get("/notices/remind")
+    assert found.status_code == 200 and 'name="child"' not in found.text
 
 
 def test_a_row_that_runs_says_so_while_the_register_is_away(

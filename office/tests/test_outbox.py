@@ -8,17 +8,18 @@ from typing import Any, cast
 
 import pytest
 from conftest import make
+from register_files import Refused
 from served import served
 from test_desk import APPLIED, CHILDREN, JANE, ROUND, ROW, ROWS, SCHOOLS, about
 
-from office.core import kinds, senders
+from office.core import command_kinds, senders
 from office.web.applications.commit import Imports
 from office.web.applications.rows import COMMITTED, OPEN
 from office.web.applications.staging import Staging
 from office.web.copies.copies import Copies
-from office.web.frame.people import Person
 from office.web.machinery.jobs import Jobs
 from office.web.machinery.outbox import DONE, FAILED, WAITS, Item, Outbox
+from office.web.people.roles import Person
 from office.web.register import desk
 from office.web.register.desk import Command
 from office.web.register.history import ANSWER, History
@@ -145,9 +146,22 @@ def test_each_command_is_sent_once_whenever_the_application_is_killed(
         register, found = box.desk.now(), box.of(BATCH)
         assert [it.state for it in found] == [DONE, DONE] and lives > 5
         assert lines == [desk.line_of(it) for it in (command, other)]
-        assert all(kinds.is_done(register, it) for it in (command, other))
+        assert all(command_kinds.is_done(register, it) for it in (command, other))
         assert [box.desk.history.entries[(it.sent or 0) - 1].about for it in found] == [
             {"command": command}, {"command": other}]
+
+
+def test_a_text_that_no_file_takes_is_not_kept(address: str, tmp_path: pathlib.Path) -> None:
+    """Half of a pair of surrogates: each page that shows it would fail."""
+    with alive(tmp_path, address, Life()) as box:
+        wrong, right = {"name": "\ud800 Reed"}, {"name": "\U0001f600 Reed"}
+        with pytest.raises(Refused, match="type it again"):
+            box.put(BATCH, 0, wrong)
+        assert box.of(BATCH) == []
+        box.put(BATCH, 0, right)
+        with pytest.raises(Refused, match="type it again"):
+            box.revise(box.of(BATCH)[0], wrong)
+        assert [it.about for it in box.of(BATCH)] == [right]
 
 
 def moments() -> Iterator[tuple[int, bool]]:
@@ -178,7 +192,7 @@ def test_each_school_of_a_draft_is_stored_once_whenever_the_application_is_kille
         register = box.desk.now()
         assert at > 5 and box.of(DRAFT) == []
         assert lines == [desk.line_of(it) for it in wanted if it] and len(lines) == 2
-        assert all(it and kinds.is_done(register, it) for it in wanted)
+        assert all(it and command_kinds.is_done(register, it) for it in wanted)
 
 
 def test_the_rows_of_an_import_are_stored_once_whenever_the_application_is_killed(

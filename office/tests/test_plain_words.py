@@ -25,13 +25,14 @@ from werkzeug.datastructures import FileStorage
 
 from office.core import plain
 from office.web.copies import copies
-from office.web.explain import held_again, trials
-from office.web.explain.trials import Asked, Run
+from office.web.explain import held_again
 from office.web.frame import uploads
-from office.web.frame.people import Person
+from office.web.people.roles import Person
 from office.web.register import entry_words
 from office.web.rounds import rehearsal
 from office.web.rounds.terms import GIVEN_UP
+from office.web.trials import runs as trials
+from office.web.trials.runs import Asked, Run
 
 # what no text for an officer has
 FORBIDDEN = re.compile(
@@ -49,6 +50,10 @@ OLD = {
     "Points of homes": "Homes to locate", r"\b[Ff]lags?\b(?!:)": "Verified reasons",
     "Correct the data": "Correct the details", r"\bpairs?\b": "lots",
     r"\b[Hh]olds? (round|the (first )?(round|draw))\b": "Run",
+    r"\b[Ff]ills?\b(?! (what|the draft|of \())": "offer from the waiting list",
+    r"\b(a|the|this|each|last|next|later|such|no) [Dd]raws?\b(?! number)|\bDraws\b":
+        "round or offer",
+    r"\bapplications? (is|are|was|were) (not )?stored\b": "added to the register",
 }
 # the texts within what a template computes, and the texts of attributes that are read out
 QUOTED = re.compile(r"\"([^\"]*)\"")
@@ -284,8 +289,10 @@ def test_no_text_of_people_is_taken_for_markup() -> None:
     """
     found = [path.name for path in (ROOT / "office" / "web").rglob("*")
              if path.suffix in (".html", ".py")
-             and re.search(r"\|\s*safe\b|autoescape|Markup\(", path.read_text("utf-8"))]
-    assert sorted(found) == ["help.py", "pictures.py"]
+             and re.search(r"\|\s*safe\b|autoescape(?!=True)|Markup\(",
+                           path.read_text("utf-8"))]
+    # (template_faults has the names of what a template can begin)
+    assert sorted(found) == ["help.py", "pictures.py", "template_faults.py"]
 
 
 def test_no_screen_has_a_word_that_was_replaced() -> None:
@@ -294,7 +301,8 @@ def test_no_screen_has_a_word_that_was_replaced() -> None:
     """
     folder = ROOT / "office" / "web"
     paths = [it for it in (*folder.rglob("*.py"), *folder.glob("*/templates/*.html"))
-             if it.name != "archive.py"]
+             # (the last two have what is wrong in what the program itself prints)
+             if it.name not in ("archive.py", "held_draw.py", "lot_sheets.py")]
     assert len(paths) > 200
     found = [f"{path.name}: {text.strip()[:90]!r}: say {new}" for path in paths
              for text in texts_of(path) for part in text.split("\n")

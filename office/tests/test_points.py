@@ -102,6 +102,18 @@ def do(browser: Browser, found: Staged, what: str, **given: str) -> Page:
     return Page(answer.text)
 
 
+def test_a_home_that_is_only_written_wrong_is_corrected_at_its_cell(
+        office: Site, jane: Browser) -> None:
+    """And is none of those to locate: as many are counted as have no point."""
+    screens = Screens(jane)
+    rows = [row(201, "Hal", '"430,100"', "210200"), row(202, "Ivy", "430100.4", "210200"),
+            row(203, "Jo", "430100"), row(204, "Kim", "east", "210200")]
+    assert screens.add(("a.csv", csv_of(HEAD, *rows))).status_code == 303
+    assert len(staged(office)) == 4 and to_see(jane).keys() == {"Jo", "Kim"}
+    assert "Homes to locate (2)" in screens.see().text
+    assert "2 homes to locate, of 4 rows" in Page(jane.get(PATH).text).by_id["counts"]
+
+
 def test_rows_get_their_points_which_are_stored_with_their_sources(
         office: Site, jane: Browser) -> None:
     """By the property number first, else by the postcode, of columns that are chosen once. A point

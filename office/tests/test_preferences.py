@@ -96,7 +96,7 @@ def test_a_late_application_waits_after_the_round(after: Site) -> None:
     jane = after.browser("jane")
     page = typed(jane, **{"preference-1": "A", "day": "17/3/2025"})
     assert page.by_id["becomes"].startswith("It is late") and "waits" in page.by_id["becomes"]
-    assert "What was held stays as it is." in page.by_id["becomes"]
+    assert "Places that are offered or held stay." in page.by_id["becomes"]
     found = press(jane, PATH, page, BUTTON)
     listed = Page(jane.get(found.location).text).tables["list"][1:]
     assert [it[:2] for it in listed] == [["1. A Alpha", "Waiting list: 1 of 3"]]
@@ -143,7 +143,7 @@ def test_an_application_that_is_stored_is_not_changed_and_the_ways_are_said(
     assert "The family wants other schools" in Page(jane.get("/children/3").text).text
     page = Page(jane.get("/children/3/application").text)
     assert [it[0] for it in page.tables["list"][1:]] == ["1. A Alpha", "2. B Beta"]
-    assert "keeps it as it was stored" in page.by_id["why-not"]
+    assert "keeps it as it was added" in page.by_id["why-not"]
     assert "restore" in page.text and "after the closing day" in page.text
     assert page.buttons() == []
     answer = before.program("portal").command(

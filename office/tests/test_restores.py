@@ -21,7 +21,7 @@ import pytest
 from applications import Browser, Site, site
 from conftest import HEADER, apply, child
 from draw_site import (
-    HAL, JANE, OFFER_DAY, SUP, Machine, begun, brought, given_up, version,
+    HAL, JANE, OFFER_DAY, SUP, Machine, begun, brought, given_up, lot_of, typed, version,
 )
 from pages import Page, press
 from register_files import Refused
@@ -31,9 +31,9 @@ from office.core.senders import Ended
 from office.web.answers.entries import Meant
 from office.web.copies import copies, restores
 from office.web.copies.terms import Restore
-from office.web.frame import people
 from office.web.machinery.steps import Done
 from office.web.parts import Parts
+from office.web.people import roles
 from office.web.register import lineage
 from office.web.register.desk import Result
 from office.web.register.history import RESTORED, Entry, History, now
@@ -170,7 +170,7 @@ def test_a_copy_is_restored_and_what_is_ticked_is_sent_again(small: Machine) -> 
         listed = text_of(page, "since")
         for it in ("jane child 1 Ada =1+1 <b>: corrected the details",
                    "hal raised the admission number of OAK to 2",
-                   "jane child 6 Fay: added the child", "1 application stored from files"):
+                   "jane child 6 Fay: added the child", "1 application added from files"):
             assert it in listed, listed
         lost = text_of(page, "lost")
         for it in ("School OAK Admission number 2 1", "Child 6 Fay in the register not in the copy",
@@ -801,11 +801,62 @@ def test_an_answer_to_an_undone_offer_waits_until_the_draw_is_held_again(small: 
         assert not room.now().places[3].kind == "accepted"
         page = Page(room.hal.get(f"/draws/{number}").text)
         assert "1 entry that came after it was run first" in page.by_id["unsent"]
+        assert ">Record again what came after round 1</a>" in room.hal.get("/").text
+        assert "Record again what came after" not in room.jane.get("/").text
         assert f"{path}#since" in page.stops
         page = Page(room.hal.get(path).text)
         assert press(room.hal, path, page, "Send what is ticked").status_code == 303
         assert room.now().places[3].kind == "accepted"
         assert "unsent" not in Page(room.hal.get(f"/draws/{number}").text).by_id
+        assert "Record again what came after" not in room.hal.get("/").text
+
+
+def undone(room: Room, number: int) -> None:
+    """Restores the copy from before a draw, by two people."""
+    restore = room.begin(room.office.parts.draws.get(number).before or 0, draw=number)
+    assert room.press(room.hal, restore, "ask").status_code == 303
+    assert room.press(room.jane, restore, "confirm").status_code == 303
+    assert room.state(restore) == "opened" and room.now().draws == []
+
+
+def sealed_by(office: Site, number: int, who: roles.Person) -> None:
+    """Brings a draw whose lots stay to its rehearsal, with the seal of another supervisor."""
+    brought(office, number, "lots")
+    digest = office.parts.lots.sheet(number)[1].digest()
+    office.parts.lots.seal(who, number, version(office, number), digest)
+    brought(office, number, "rehearsed")
+
+
+def test_who_sealed_the_lots_of_an_undone_draw_does_not_confirm_the_next(small: Machine) -> None:
+    """The lots stay, and whoever sealed them first has a part in the draw, however often it was
+    undone, and whoever seals them again; but not where all lots are entered anew.
+    """
+    with small.office() as office:
+        room, draws = Room(office), office.parts.draws
+        # (who seals may be an officer by then)
+        browsers = {it: office.browser(it, "officer") for it in ("sup", "sue")}
+        number = begun(office)
+        brought(office, number, "opened")
+        others = dict[str, str]()
+        for first, then in (("sup", "sue"), ("sue", "tom")):
+            undone(room, number)
+            number = begun(office)
+            sealed_by(office, number, roles.Person(then, "supervisor"))
+            others[first] = f"{first} sealed the lots of round 1 before it was undone"
+            for name, said in others.items():
+                with pytest.raises(Refused, match=f"^{said}: somebody else confirms it"):
+                    draws.confirm(roles.Person(name, "officer"), number, version(office, number))
+                page = Page(browsers[name].get(f"/draws/{number}").text)
+                assert "Confirm round 1" not in page.buttons()
+                assert said in page.by_id["next"] and said in page.by_id["not-second"]
+            if then == "sue":
+                brought(office, number, "opened")
+        given_up(office, number)
+        number = draws.begin(HAL, None, 1, datetime.date(2025, 3, 4), "two lots were typed wrong")
+        brought(office, number, "lots")
+        typed(office, number, lot_of)
+        sealed_by(office, number, roles.Person("tom", "supervisor"))
+        draws.confirm(roles.Person("sue", "officer"), number, version(office, number))
 
 
 def held_again(room: Room, lots: dict[tuple[str, int], list[int]]) -> None:
@@ -853,7 +904,7 @@ def restored_by_it(small: Machine, night: pathlib.Path, since: datetime.datetime
     name = "office-000099-2025-03-03T023000.db"
     shutil.copy(night, small.copies / name)
     parts = Parts(small.config())
-    support = people.Person("administrator of the machine", "")
+    support = roles.Person("administrator of the machine", "")
     copy = parts.copies.next_number("of the night", support.name)
     parts.restores.bring(support, copy, name, since, "Since then people also added a note (1).")
     found = parts.restores.present()

@@ -16,7 +16,7 @@ from applications import ORIGIN, ROUND, Answer, Browser, Program, Site, office_o
 from draw_site import HAL, MISTYPED, SUP, Machine, begun, brought, typed
 
 from office.core import days
-from office.web.frame import guard
+from office.web.people import guard
 
 HEAD, OFFICER, SUPERVISOR, READER = "head", "officer", "supervisor", "reader"
 ADMINISTRATOR, SCHOOL = "administrator", "school-A"
@@ -111,7 +111,7 @@ def kept(office: Site) -> list[Any]:
             for table in ("person", "staged_file", "staged_row", "school_draft", "answer", "draw",
                           "draw_step", "lot", "setting", "note", "child_file", "list_view",
                           "figures")]
-    return [office.parts.desk.read(True)[1], rows]
+    return [office.parts.desk.whole().document, rows]
 
 
 def test_each_role_tries_what_is_not_its_own_at_once(office: Site) -> None:
@@ -155,8 +155,8 @@ def test_each_role_sees_what_is_its_own(office: Site) -> None:
 
 # what is for programs with a token, by their roles
 OF_PROGRAMS = {
-    **dict.fromkeys(("register.register", "register.draw", "register.read", "register.pairs",
-                     "register.question"), READS),
+    **dict.fromkeys(("register.register", "register.draw", "register.read", "register.school",
+                     "register.pairs", "register.question"), READS),
     "register.waiting": READS | {SCHOOL}, "register.command": RECORDS, "register.rows": RECORDS,
 }
 # what nobody needs a sign-in for
@@ -172,8 +172,13 @@ def test_a_program_gets_the_answers_of_the_register_alone(office: Site) -> None:
         assert sent(portal, method, path).status_code == 403, (method, path)
         tried += 1
     assert tried > 60 and kept(office) == before
-    for path in ("/register", "/draw/1", "/pairs", "/child/1", "/round/1", "/school/A/waiting"):
+    for path in ("/register", "/register/child/1", "/register/school/A", "/draw/1", "/pairs",
+                 "/child/1", "/round/1", "/school/A/waiting"):
         assert portal.get(path).status_code == 200, path
+    whole = portal.get("/register").json or {}
+    for place, entry in (("children", portal.get("/register/child/1").json),
+                         ("schools", portal.get("/register/school/A").json)):
+        assert entry in whole[place]
     assert portal.get("/signed-in").status_code == 204
 
 
@@ -208,8 +213,10 @@ def test_files_of_several_children_are_on_record(office: Site) -> None:
         for _ in range(2):
             assert get(path).status_code == 200, path
     assert alpha.get("/schools/A/workbook").status_code == 200
-    # (of one child nothing is on record, nor of a round that is not there)
-    assert portal.get("/child/1").status_code == 200 and portal.get("/round/9").status_code == 404
+    # (of one child or school nothing is on record, nor of a round that is not there)
+    for path in ("/child/1", "/register/child/1", "/register/school/A"):
+        assert portal.get(path).status_code == 200, path
+    assert portal.get("/round/9").status_code == 404
     assert jane.get("/lists/children").status_code == 200
     found = [(it.who, it.about["of"]) for it in office.parts.history.entries
              if it.what == "took a file"]
@@ -252,13 +259,14 @@ def test_lists_that_are_read_while_a_draw_is_sent_are_not_shown(
 ) -> None:
     """The draw is sent after it was looked whether they are shown, and before they are read."""
     alpha, program = office.browser("alpha", SCHOOL), office.program("of.alpha", SCHOOL)
-    present, sent = list[None](), types.SimpleNamespace(state="sending")
+    present, sent = list[None](), types.SimpleNamespace(
+        state="sending", name="round 2")
     monkeypatch.setattr(office.parts.draws, "present", lambda: present.pop() if present else sent)
     for get, path in ((alpha.get, "/schools/A/waiting"), (alpha.get, "/schools/A/workbook"),
                       (program.get, "/school/A/waiting")):
         present.append(None)
         answer = get(path)
-        assert answer.status_code == 403 and "once the draw is audited" in answer.text, path
+        assert answer.status_code == 403 and "once round 2 is audited" in answer.text, path
     assert "took a file" not in [it.what for it in office.parts.history.entries]
 
 

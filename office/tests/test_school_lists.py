@@ -84,6 +84,14 @@ def test_a_waiting_list_is_searched(rita: Browser) -> None:
     assert "<b>" not in page and "No child of the list is like this." in page
 
 
+def test_a_head_of_a_school_cannot_choose_by_places_elsewhere(office: Site) -> None:
+    """Whose list has no column of them."""
+    lee = office.browser("lee", "school-OAK")
+    every = list(range(3, MANY + 1))
+    for asked in ("elsewhere", "none"):
+        assert numbers(lee, f"waiting?place={asked}&page=all") == every
+
+
 def test_a_waiting_list_says_which_place_a_child_has_now(rita: Browser) -> None:
     """So that a fill can be decided there; sorted by it, those without one come last."""
     found = {int(it[1]): it[5] for it in rows(rita, "waiting?page=all")}

@@ -21,7 +21,7 @@ from register_files import Refused
 from served import served
 
 from office.core.model import Register
-from office.web.frame.people import Person
+from office.web.people.roles import Person
 from office.web.schools import flags
 from office.web.schools import rows as schools
 from office.web.schools.drafts import Draft, digest, seen_line

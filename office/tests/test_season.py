@@ -10,18 +10,20 @@ from typing import Any
 
 import openpyxl
 import pytest
-from applications import ROUND, Site, office_over, town
+from applications import ROUND, Browser, Site, office_over, town
 from pages import Page, plain, press, tasks
 
 from office.core import wording
 from office.core.model import OFFERED, Place
+from office.web.figures.publication import FiguresStore
 from office.web.frame import navigation as frame
-from office.web.frame.people import Person
-from office.web.lists import home, worklists
-from office.web.lists.views import lists, season
+from office.web.home import tasks as home
+from office.web.home import views as season
+from office.web.lists import on_screen, worklists
+from office.web.lists import views as lists
+from office.web.lists.register_rows import Rows, lapse_due, remind_due
+from office.web.people.roles import Person
 from office.web.rounds.terms import IN_ORDER, Draw, Terms
-from office.work import worklists as office_worklists
-from office.work.register_lists import Rows, lapse_due, remind_due
 
 REMIND = {"cmd": "remind", "child": 1, "school": "A", "day": "2025-03-18"}
 HAL = Person("hal", "head")
@@ -131,6 +133,56 @@ def test_a_season_goes_step_by_step(
         assert found("2026-01-02") == {"Due now": [(end, "Due")], "Done": done}
 
 
+def test_what_is_to_be_done_beside_the_round_is_named(
+    tmp_path: pathlib.Path, monkeypatch: pytest.MonkeyPatch,
+) -> None:
+    """In its time, for who does it, and until it is done."""
+    with office_over(tmp_path, town()) as office:
+        hal, jane = office.browser("hal", "head"), office.browser("jane")
+        rita = office.browser("rita", "reader")
+
+        def found(browser: Browser, day: str) -> dict[str, str]:
+            on(monkeypatch, day)
+            return {title: state for group, rows in tasks(browser.get("/").text).items()
+                    for title, _, state in rows if group != "Done"}
+
+        plans, addresses = "Record the EHC plans", "Add addresses for letters"
+        assert plans not in found(jane, "2024-10-31")
+        assert found(jane, "2024-11-01") == {
+            plans: "0 so far", addresses: "4 missing",
+            "Run the first round": "Offer day in 122 days"}
+        head = found(hal, "2024-11-01")
+        assert head["Add a supervisor"] == "Nobody yet" and "Add a second person" not in head
+        assert head["Type the office’s name and address"] == "Missing"
+        office.add("sup", "supervisor")
+        office.parts.people.lock("jane", True)
+        head = found(hal, "2024-11-01")
+        assert head["Add a second person"] == "Nobody yet" and "Add a supervisor" not in head
+        office.parts.people.lock("jane", False)
+        assert office.parts.desk.send(HAL, ROUND, draw=True).is_done
+        jane = office.browser("jane")
+        after = {
+            addresses: "4 missing", "Record answers as they come in": "3 open",
+            "Find a school for each child without a place": "1 child",
+            "Publish the figures of round 1": "Not downloaded"}
+        shown = found(jane, "2025-03-03")
+        assert {it: shown[it] for it in after} == after and plans not in shown
+        assert not {*after} & {*found(rita, "2025-03-03")}
+        assert "Publish the figures of round 1" not in found(jane, "2025-03-02")
+        figures = FiguresStore(office.parts.store)
+        figures.take("jane", figures.add("jane", b"", {"round": 1}))
+        rows = {it: ["1 Low Street"] for it in range(1, 5)}
+        letters = office.parts.letters.addresses
+        assert letters.save(Person("jane", "officer"), rows, False, letters.digest())
+        assert {*shown} - {*found(jane, "2025-03-03")} == {
+            addresses, "Publish the figures of round 1"}
+        terms = Terms(2, "A", 1, datetime.date(2025, 4, 1))
+        undone = Draw(2, "the offer of 1 place at Alpha", terms, "restored", 1, None, None, "ab",
+                      {}, {}, "", "", "", "", (), None, "")
+        assert [it.title for it in home.of_undone([undone], office.parts.desk.now())] == [
+            "Run the offer of 1 place at Alpha again"]
+
+
 def test_nothing_is_due_on_a_day_on_which_a_family_may_answer() -> None:
     """An offer of 3 March and one that was reminded of on 20 March: the last days of their answers
     are 17 March and 3 April, and the lists and the screens begin after them.
@@ -160,7 +212,11 @@ def test_each_task_leads_to_its_screen(office: Site, monkeypatch: pytest.MonkeyP
         page = Page(browser.get("/").text)
         links = [it for it in page.stops if it.startswith("/")]
         for it in links:
-            assert browser.get(it).status_code == 200, it
+            found = browser.get(it)
+            # (where all who are due are ticked it leads to the question about them)
+            if it == "/notices/remind":
+                found = browser.get(found.location)
+            assert found.status_code == 200, it
         assert {"/lists/no-answer", "/lists/vacancies", "/lists/unplaced"} <= {*links}
         assert ("/notices/remind" in links) == (browser is jane)
 
@@ -231,12 +287,12 @@ def test_every_list_of_the_office_is_there(office: Site, monkeypatch: pytest.Mon
     """
     on(monkeypatch, "2025-03-20")
     rita = office.browser("rita", "reader")
-    assert set(worklists.NAMES) == set(office_worklists.WORKLISTS) - {"amend"}
-    assert set(worklists.TITLES) == set(worklists.NAMES)
+    assert set(on_screen.NAMES) == set(worklists.WORKLISTS) - {"amend"}
+    assert set(on_screen.TITLES) == set(on_screen.NAMES)
     page = rita.get("/lists/").text
     given = {"lots": "?draw=1", "moved": "?draw=1", "round-report": "?round=1",
              "child": "?child=1", "find": "?text=Ada"}
-    for name in worklists.NAMES:
+    for name in on_screen.NAMES:
         assert f'href="/lists/{name}"' in page
         found = rita.get(f"/lists/{name}{given.get(name, '')}")
         assert found.status_code == 200 and "--" not in plain(found.text), name

@@ -30,17 +30,17 @@ from served import served
 
 from office.core import days
 from office.web.copies.copies import Copies
-from office.web.explain.trials import Run
-from office.web.frame import people
 from office.web.letters import sets as letters_sets
 from office.web.parts import Config, Parts
+from office.web.people import roles
 from office.web.register import history
 from office.web.register.store import Store
 from office.web.rounds.terms import Terms
 from office.web.season_end import archive
 from office.web.season_end import end as season_end
 from office.web.season_end.end import End, SeasonEnd
-from office.work.trial_registers import Program
+from office.web.trials.registers import Program
+from office.web.trials.runs import Run
 
 TODAY = datetime.date(2026, 1, 10)
 DAY = TODAY + days.DELETION_NOTICE
@@ -139,17 +139,18 @@ def test_what_is_open_is_read_before_the_last_copy(
         assert office.copied == ["last copy of the season"]
         assert office.parts.end.get().copied_by == "hal"
         office.parts.draws.begin(
-            people.Person("hal", "head"), "A", 1, datetime.date(2025, 12, 30))
+            roles.Person("hal", "head"), "A", 1, datetime.date(2025, 12, 30))
         found = season_end.still_open(office.parts, register, office.parts.end.today())
-        assert found[0].is_stop and found[0].title == "A draw in progress"
+        assert found[0].is_stop and found[0].title == "A round or offer in progress"
         refused = head.press("copy", 409)
-        assert "A draw in progress: the offer of 1 place at Alpha: it must" in refused.text
+        assert ("A round or offer in progress: the offer of 1 place at Alpha: it must"
+                in refused.text)
         assert len(office.copied) == 1
         office.parts.history.add("hal", history.SENDS, {
             "command": {"cmd": "accept", "child": 1, "school": "A"}})
         found = season_end.still_open(office.parts, register, office.parts.end.today())
         assert [it.title for it in found if it.is_stop] == [
-            "A draw in progress", "Requests without a known answer"]
+            "A round or offer in progress", "Requests without a known answer"]
 
 
 def test_the_office_has_a_rule_for_how_long_it_keeps(tmp_path: pathlib.Path) -> None:
@@ -247,7 +248,7 @@ def test_a_season_is_ended(small: Machine, monkeypatch: pytest.MonkeyPatch) -> N
         assert "The season secondary-2025 was deleted" in page and "hal asked for it" in page
         assert "backup@away:/copies/secondary-2025" in page and "rule 4.2 &amp; the head" in page
         accept = {"cmd": "accept", "child": 1, "school": "OAK"}
-        sent = office.parts.desk.send(people.Person("jane", "officer"), accept)
+        sent = office.parts.desk.send(roles.Person("jane", "officer"), accept)
         assert (sent.outcome, sent.said) == (
             "unsent", "The season is deleted: nothing can be recorded.")
         assert "The season is deleted: nothing can be recorded." in jane.browser.get("/").text
@@ -777,7 +778,7 @@ def test_nobody_is_one_of_two_whom_the_other_has_made(
         def confirmed(name: str = "jane", role: str = "officer") -> None:
             end = office.parts.end
             shown = season_end.read_counts(end.counts())
-            end.confirm(people.Person(name, role), end.get().version, NAME, shown)
+            end.confirm(roles.Person(name, role), end.get().version, NAME, shown)
 
         with pytest.raises(Refused, match="hal has asked to delete the season: somebody else"):
             confirmed("hal", "head")

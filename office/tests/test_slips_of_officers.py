@@ -43,7 +43,7 @@ from applications import Browser, Site, office_over
 from offers import PAGE, enter, offered, pile, record, sent, shown
 from pages import Page, press
 
-from office.web.frame import guard
+from office.web.people import guard
 
 
 @pytest.fixture(name="office", scope="module")
@@ -133,7 +133,7 @@ def test_what_was_typed_into_the_day_is_said_at_the_day(office: Site) -> None:
     assert "A; B" in jane.get("/applications/").text
     assert press(jane, "/applications/", Page(jane.get("/applications/").text),
                  "Set aside").status_code == 303
-    assert "All rows are set aside" in jane.get("/applications/").text
+    assert "Nothing is left to add" in jane.get("/applications/").text
     assert 42 not in office.parts.desk.now().children
 
 

@@ -28,15 +28,15 @@ from office.core.model import Register
 from office.core.senders import Ended
 from office.files import inputs, sheet, sheet_apart
 from office.files import processes as apart
-from office.web.applications import check as staging_check
+from office.web.applications import table_check
 from office.web.applications import commit as staging_commit
 from office.web.applications import form as staging_form
 from office.web.applications import tools as staging_tools
 from office.web.applications.rows import COMMITTED, OPEN, SENDING, WITHDRAWN
 from office.web.frame import uploads
-from office.web.frame.people import Person
+from office.web.people.roles import Person
 from office.web.register import schema, store
-from office.web.rounds import sheet as draws_sheet
+from office.web.rounds import lot_sheets_apart
 
 TOWN = [school("OAK", name="Oak School"), school("ELM", name="Elm School", east=500),
         child(7, name="Old Hand", east=9000), apply(7, ["ELM"])]
@@ -399,7 +399,7 @@ def test_a_sheet_waits_for_others_and_not_for_ever(monkeypatch: pytest.MonkeyPat
         turns.SERVES.set("jane")
         reads: list[Callable[[], object]] = [
             lambda: sheet_apart.read("a.csv", csv_of(), None, ""),
-            lambda: draws_sheet.rows_of(b"OAK,1,5\n"),
+            lambda: lot_sheets_apart.rows_of(b"OAK,1,5\n"),
             lambda: uploads.register_of(FileStorage(io.BytesIO(uploads.REGISTER), "a.db"))]
         for read in reads:
             with pytest.raises(turns.Busy, match="other files are being read: try again"):
@@ -560,7 +560,7 @@ def test_what_is_said_of_a_cell_fits_the_register(tmp_path: pathlib.Path) -> Non
         row = seen.row("row 2 of a.csv")
         assert seen.said(row, "preferences") == "There is no school ELM."
         assert {"Replace ELM by ELMS", "ELMS ELMS School"} <= set(seen.buttons)
-        assert seen.said(row, "day") == "Late: the first round was held."
+        assert seen.said(row, "day") == "Late: the first round was run."
 
 
 def test_a_letter_that_was_lost_is_looked_for(screens: Screens) -> None:
@@ -748,6 +748,20 @@ def test_rows_that_the_register_has(office: Site, screens: Screens) -> None:
     assert screens.see().rows() == []
 
 
+def test_an_empty_table_is_no_error(office: Site, screens: Screens) -> None:
+    """On the page that adds rows, and in the table once all others of it are added."""
+    seen = screens.see("commit/")
+    assert seen.texts["verdict"] == "There is nothing to add: no row is in the table."
+    assert "banner bad" not in screens.browser.get("/applications/commit/").text
+    assert "question" not in seen.texts and screens.store("").status_code == 409
+    screens.add(("a.csv", lines(GOOD[:3])))
+    screens.withdraw(screens.see().row("row 3 of a.csv"))
+    assert screens.store().status_code == 303 and len(imports(office)) == 1
+    said = " ".join(screens.see("").texts["next"].split())
+    assert said == ("Next: add them to the register Nothing is left to add. 1 row is set aside:"
+                    " this child takes no part in a round until the row is put back.")
+
+
 def test_a_child_without_an_application_differs(office: Site, screens: Screens) -> None:
     """An import would refuse it: it was added by a command."""
     office.record("bo", child(9, name="No Form", east=77))
@@ -768,7 +782,7 @@ def test_a_row_that_the_register_refuses_is_named(
     found = screens.store()
     assert found.status_code == 409
     seen = Seen(found.text)
-    assert "Nothing was stored: the register does not take row 3 of a.csv" in seen.texts["answer"]
+    assert "Nothing was added: the register does not take row 3 of a.csv" in seen.texts["answer"]
     assert "is no whole number" in seen.texts["answer"] and "Ben Brook" in seen.text
     assert office.parts.desk.now().children.keys() == {7} and states(office) == {OPEN: 3}
     row = screens.see().row("row 3 of a.csv")
@@ -800,7 +814,7 @@ def test_two_officers_store_at_once(office: Site, screens: Screens) -> None:
         it.join()
     assert sorted(it.status_code for it in came) == [303, 409]
     told = next(it for it in came if it.status_code == 409)
-    assert "has changed since it was shown, and nothing was stored" in told.text
+    assert "has changed since it was shown, and nothing was added" in told.text
     assert len(imports(office)) == 1 and has(office.parts.desk.now()) == expected(GOOD)
 
 
@@ -838,7 +852,7 @@ def test_a_copy_is_made_before_anything_is_stored(
     assert found.status_code == 409 and "there is no copy" in Seen(found.text).text
     assert (imports(office), states(office), office.copied) == ([], before, [])
     assert screens.store(digest).status_code == 303
-    assert (len(imports(office)), office.copied) == (1, ["before applications are stored"])
+    assert (len(imports(office)), office.copied) == (1, ["before applications are added"])
 
 
 def test_what_has_changed_is_not_stored(office: Site, screens: Screens) -> None:
@@ -994,7 +1008,7 @@ def test_what_became_of_it_is_not_known(
     found = screens.store(digest)
     assert found.status_code == 409 and "There was no certain answer" in found.text
     assert states(office) == {SENDING: 2}
-    assert "are stored is not known yet" in screens.browser.get("/applications/").text
+    assert "are in the register is not known yet" in screens.browser.get("/applications/").text
     monkeypatch.setattr(sender, "ask", real_ask)
     monkeypatch.setattr(sender, "imported", real_import)
     assert screens.see().rows() == [] and states(office) == {COMMITTED: 2}
@@ -1161,7 +1175,7 @@ def test_a_table_that_cannot_be_written(
     monkeypatch.setattr(office.parts.store, "writing", full)
     found = screens.store(digest)
     assert found.status_code == 409 and not imports(office)
-    assert "Nothing was stored: the table cannot be written: database or disk is full" in found.text
+    assert "Nothing was added: the table cannot be written: database or disk is full" in found.text
     monkeypatch.setattr(office.parts.store, "writing", real)
     change = tools.committing.imports.change
 
@@ -1269,13 +1283,13 @@ def test_one_row_is_checked_where_one_was_changed(
     """The others are as they were; another school means that all are checked."""
     screens.add(("a.csv", lines(GOOD)))
     read: list[int] = []
-    real = staging_check.checked
+    real = table_check.checked
 
     def counted(it: Any, *beside: Any) -> Any:
         read.append(it.id)
         return real(it, *beside)
 
-    monkeypatch.setattr(staging_check, "checked", counted)
+    monkeypatch.setattr(table_check, "checked", counted)
     rows = screens.see().rows()
     assert len(read) in (0, 12)
     read.clear()

@@ -15,8 +15,8 @@ import pytest
 from applications import ROUND, SCHOOLS, Browser, Site, child, office_over, town
 from pages import Page, press
 
-from office.web.frame.people import Person
 from office.web.machinery.outbox import Outbox
+from office.web.people.roles import Person
 from office.web.register import history
 from office.web.register.schema import IN_LINES, OF_CHILD, OF_NOBODY, TABLES
 from office.web.register.store import Store

@@ -28,7 +28,8 @@ from office.core import turns
 from office.files import book, inputs
 from office.web import serve
 from office.web.children import subject
-from office.web.frame import authority, guard, people, uploads
+from office.web.frame import uploads
+from office.web.people import authority, guard, people, roles
 from office.web.register.store import Store
 
 # more than are served at once, and more than the application has threads; and people each of whom
@@ -110,9 +111,9 @@ def serving(
     (folder / "office").mkdir()
     store = Store(str(folder / "office" / "office.db"))
     found = people.People(store)
-    for name, role in (("hal", people.HEAD), *((it, people.READER) for it in READERS)):
+    for name, role in (("hal", roles.HEAD), *((it, roles.READER) for it in READERS)):
         found.set_password(
-            people.Person(name, role), found.add(name, role), f"{name} of the office")
+            roles.Person(name, role), found.add(name, role), f"{name} of the office")
     setting(store)
     store.close()
     with served(folder / "reg.db") as (door, _):

@@ -14,8 +14,8 @@ from conftest import PROGRAM, apply, child, make, school
 from files import register_of
 from register_files import Refused
 
-from office.work import trial
-from office.work.trial_registers import Program
+from office.web.trials import trial
+from office.web.trials.registers import Program
 
 # what is changed of each school: the field, and its value
 Changes = Mapping[str, tuple[str, Any]]

@@ -18,9 +18,10 @@ from pages import Page, press
 from register_files import Refused
 
 from office.core import turns
-from office.web.explain import held_again, trials
-from office.web.explain.trials import Run
-from office.work import trial
+from office.web.explain import held_again
+from office.web.trials import trial
+from office.web.trials import runs as trials
+from office.web.trials.runs import Run
 
 # Alpha has two places and Beta one; all want Alpha first, and then Beta. By distance children 1
 # and 2 have Alpha, 3 has Beta and 4 has nothing. Child 5 lives nearest of all, and was late.
@@ -46,7 +47,7 @@ def office_fixture(tmp_path_factory: pytest.TempPathFactory) -> Iterator[Site]:
 
 def register(office: Site) -> bytes:
     """The document of the register."""
-    found: bytes = office.parts.desk.read(True)[1]
+    found: bytes = office.parts.desk.whole().document
     return found
 
 
@@ -154,7 +155,7 @@ def test_one_trial_at_a_time_can_be_ended(
         return begun(*given)
 
     monkeypatch.setattr(trials, "Trial", slow)
-    monkeypatch.setattr("office.web.explain.views.trials.WAIT_SECONDS", 0.01)
+    monkeypatch.setattr("office.web.trials.views.WAIT_SECONDS", 0.01)
     jane = office.browser("jane")
     first = tried(jane, **{"pan-A": "3"})
     page = Page(jane.get(first.location).text)

@@ -203,7 +203,7 @@ def test_a_change_is_seen(tmp_path: pathlib.Path) -> None:
             shutil.copytree(path, tree / name, symlinks=True)
         else:
             shutil.copy(path, tree / name)
-    templates, style = tree / "office/web/lists/templates", tree / "deploy/site/ui.css"
+    templates, style = tree / "office/web/home/templates", tree / "deploy/site/ui.css"
     with tried(tmp_path / "room", "AT=applications", "RELOAD=1", tree=tree) as found:
         officer, page = found.signed_in(ROLES[1])
         assert "a new heading" not in page

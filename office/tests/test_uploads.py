@@ -1,5 +1,5 @@
-"""How long a file may be that a browser sends, in bytes: the numbers are stated here, and not taken
-from the application.
+"""How long a file may be that a browser sends, in bytes, and what a form may have around it: the
+numbers are stated here, and not taken from the application.
 """
 import io
 import pathlib
@@ -121,3 +121,72 @@ def test_a_body_that_is_too_long_is_refused(
             path, base_url=ORIGIN, headers={"Origin": ORIGIN}, data=bytes(length),
             content_type="multipart/form-data; boundary=x")
         assert (found.status_code == 413) is is_too_much, (path, length)
+
+
+BLANKS = " " * 7_700
+UNREADABLE = "the form cannot be read: send it again by a page of this site"
+
+
+def part(headers: str) -> bytes:
+    """A form of one part."""
+    return f"--B\r\n{headers}\r\n\r\nx\r\n--B--\r\n".encode()
+
+
+@pytest.mark.parametrize("name, value", [
+    ("CONTENT_TYPE", f"multipart/form-data;{BLANKS}="), ("HTTP_COOKIE", f"a=b{BLANKS}x"),
+    ("HTTP_IF_NONE_MATCH", f"a{BLANKS}x"), ("HTTP_IF_NONE_MATCH", '"a,' * 1_000),
+    ("HTTP_RANGE", "1,2," * 1_000),
+    ("CONTENT_TYPE", "multipart/form-data;\u00a0\t ="),
+    ("CONTENT_TYPE", "multipart/form-data; boundary*=nocodec''B")],
+    ids=["kind", "cookie", "mark", "marks", "range", "blanks", "encoding"])
+@pytest.mark.parametrize("path", ["/sign-in", "/healthz", "/ui.css", "/people/", "/no-page"])
+def test_a_header_that_no_browser_sends_is_refused_unread(
+    office: Site, path: str, name: str, value: str
+) -> None:
+    """The library would take seconds, in which nobody else is answered, or fail."""
+    for method in ("GET", "POST"):
+        found = office.app.test_client(use_cookies=False).open(
+            path, method=method, base_url=ORIGIN, headers={"Origin": ORIGIN},
+            environ_overrides={name: value})
+        assert found.status_code == 400, (path, name, method)
+        assert "a header of the request cannot be read" in found.text
+        assert found.headers["X-Content-Type-Options"] == "nosniff"
+
+
+@pytest.mark.parametrize("headers", [
+    f"Content-Disposition: form-data;{' ' * 30_000}=", f"Content-Disposition: form-data;{BLANKS}=",
+    f"Content-Disposition: form-data; name=\"a{'b' * 2_000}\"",
+    f"Content-Disposition: form-data; name=\"a\"; filename=\"a{' ' * 20}.csv\"",
+    "Content-Disposition: form-data;" + "\r\n\t" * 20 + "=",
+    "Content-Disposition: form-data; name=\"a\"; filename*=nocodec''a.csv",
+    "Content-Disposition: form-data; name=\"a\"; filename*0 =unicode_escape''\\ud800.csv"],
+    ids=["longest", "long", "name", "file", "lines", "encoding", "other"])
+@pytest.mark.parametrize("path", ["/sign-in", "/people/", "/answers/several"])
+def test_a_part_with_headers_that_no_browser_sends_is_refused_unread(
+    office: Site, jane: Browser, path: str, headers: str
+) -> None:
+    """Nobody's, of which what was typed would be kept, and an officer's."""
+    for client in (office.app.test_client(), jane.client):
+        found = client.post(
+            path, base_url=ORIGIN, headers={"Origin": ORIGIN, "Accept": "text/html"},
+            data=part(headers), content_type="multipart/form-data; boundary=B")
+        assert found.status_code == 400, (path, headers[:40])
+        assert UNREADABLE in Page(found.text).text.lower()
+
+
+def test_a_file_of_a_long_name_with_blanks_is_taken(jane: Browser) -> None:
+    """Some blanks in a row are a name's own, and so are letters of several bytes."""
+    for name in (f"Year 7 {' ' * 15} final.pdf", f"{'é' * 40}.pdf"):
+        found = jane.post("/children/1/files", {"file": (io.BytesIO(name.encode()), name)})
+        assert found.status_code == 303, Page(found.text).said()
+
+
+def test_each_field_is_read_as_utf_8(office: Site) -> None:
+    """Whatever a part says of it: another encoding has characters that no file takes."""
+    headers = 'Content-Disposition: form-data; name="a"\r\nContent-Type: text/plain; charset='
+    for encoding in ("unicode_escape", "utf-16", "no-such-encoding"):
+        body = part(headers + encoding).replace(b"\r\nx\r\n", b"\r\nZo\xc3\xab \\ud800\r\n")
+        found = office.app.test_client().post(
+            "/people/", base_url=ORIGIN, headers={"Origin": ORIGIN, "Accept": "text/html"},
+            data=body, content_type="multipart/form-data; boundary=B")
+        assert (found.status_code, "Zo\xeb \\ud800" in found.text) == (401, True), encoding

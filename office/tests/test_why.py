@@ -17,16 +17,17 @@ from register_files import Refused
 
 from office.core import model
 from office.core.model import Pair, Register
-from office.work import rounds, why
+from office.web.explain import why
+from office.web.rounds import held_draw
 
 Draw = int | None
 
 
-def held_in(register: Register, draw: Draw) -> rounds.Held:
+def held_in(register: Register, draw: Draw) -> held_draw.Held:
     """A draw of a register, or its last round."""
     if draw is None:
-        return rounds.of_register(register)
-    return rounds.Held(register, register.draws[draw - 1])
+        return held_draw.of_register(register)
+    return held_draw.Held(register, register.draws[draw - 1])
 
 
 def lines_of(
@@ -50,7 +51,7 @@ def said(
         found = why.explain(held_in(after, draw), number)
     else:
         before = register_of(copy, copy.name)
-        found = why.explain_again(rounds.held_again(before, after), before, after, number)
+        found = why.explain_again(held_draw.held_again(before, after), before, after, number)
     return "".join(f"{it}\n" for it in lines_of(found, is_office, flags))
 
 
@@ -150,7 +151,7 @@ def test_random_rounds_beside_the_search(tmp_path: Path) -> None:
     for seed in range(ROUNDS):
         town, lot, has, before, after = one_round(questions, seed, tmp_path)
         held = held_in(after, None)
-        again = rounds.held_again(before, after) if seed % AGAIN < 2 else None
+        again = held_draw.held_again(before, after) if seed % AGAIN < 2 else None
         for number in town.children:
             found = why.explain(held, number)
             assert found.takes_part == (number in has)
@@ -316,7 +317,7 @@ def test_the_sentences_of_a_family(tmp_path: Path) -> None:
         draws=[("2025-03-03", has, lots, set(has))],
     )
     before, after = register_of(tmp_path / "b.db"), register_of(tmp_path / "a.db")
-    held = rounds.held_again(before, after)
+    held = held_draw.held_again(before, after)
     found = {it: why.explain_again(held, before, after, it) for it in children}
     lines = lines_of(found[3], is_office=True)
     assert lines == [
@@ -447,8 +448,7 @@ def test_what_was_changed_after_the_round(tmp_path: Path) -> None:
     do(tmp_path / "reg.db", [{**child(1, east=5000), "cmd": "amend"}])
     found = said(reg, 1, True, copy=before)
     changed = (
-        "The data of this child were changed after the draw: those that the draw saw are used"
-        " here.\n"
+        "The data of this child were changed since: the earlier ones, which decided, are used.\n"
     )
     assert found.count(changed) == 1 and found.replace(changed, "") == first
     assert "50 metres" in first
@@ -456,7 +456,7 @@ def test_what_was_changed_after_the_round(tmp_path: Path) -> None:
     do(tmp_path / "reg.db", [{**child(1, east=5), "cmd": "amend"}])
     assert said(reg, 1, True).endswith(
         "THERE IS NO REASON: the data that the register has now give no reason: those of this"
-        " child, or of one that was admitted, were changed after the draw.\n")
+        " child, or of one that was admitted, were changed since.\n")
     make(
         tmp_path / "other.db",
         [
@@ -660,7 +660,7 @@ def test_a_fill_is_explained(tmp_path: Path) -> None:
     found = said(reg, 3, True, 2)
     assert found.splitlines() == [
         "For the office alone: it has numbers that are not published",
-        "Admission 2025 secondary, fill of a vacancy at OAK School (OAK) of 14 April 2025, draw 2",
+        "Admission 2025 secondary, offer of a place at OAK School (OAK) of 14 April 2025 (draw 2)",
         "Child 3 Child 3",
         "",
         "The place at OAK School (OAK) was offered to another child.",
@@ -752,7 +752,7 @@ def test_the_example_season(
     )
     assert ran.returncode == 0
     after = register_of(season / second)
-    held = rounds.of_register(after, number)
+    held = held_draw.of_register(after, number)
     code, checked = None, 0
     found: dict[int, why.Why] = {}
     for line in ran.stdout.splitlines():

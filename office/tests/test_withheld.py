@@ -4,7 +4,7 @@ through all tables that could be behind them.
 import random
 from collections.abc import Mapping, Sequence
 
-from office.work.withheld import LEAST, is_small, withheld
+from office.web.figures.withheld import LEAST, is_small, withheld
 
 # what a count is of; and the counts of a sum, each with 1 or -1
 Name = tuple[str, int]

@@ -25,8 +25,8 @@ from seasons import Town, file_of
 from office.core import model
 from office.core.model import Register
 from office.files import book
-from office.work import worklists
-from office.work.register_lists import Rows
+from office.web.lists import worklists
+from office.web.lists.register_rows import Rows
 
 Row = list[object]
 Printed = list[list[str]]
@@ -114,8 +114,10 @@ def test_figures_beside_the_model(tmp_path: Path, seed: int) -> None:
     wanted = {
         "schools": 4, "admission numbers": sum(it["pan"] for it in season.schools.values()),
         "children": 40, "applications": len(season.lists), "rounds so far": 2,
-        "fills so far": len(season.draws) - 2, "day of the last round or fill": last[3],
-        "number of the next draw": last[0] + 1, "earliest day of the next draw": last[3],
+        "offers from waiting lists so far": len(season.draws) - 2,
+        "day of the last round or offer": last[3],
+        "number of the next round or offer": last[0] + 1,
+        "earliest day of the next round or offer": last[3],
     }
     assert {it: facts[it] for it in wanted} == {it: str(has) for it, has in wanted.items()}
     assert rows_in(reg, "vacancies") == list(csv.reader(season.places_of_schools()))[1:]
@@ -419,7 +421,8 @@ def test_the_days_of_a_season(
     days = ("closing date", "offer day", "last day of the lists")
     assert tuple(found[it] for it in days) == wanted
     assert found["public holidays"] == ";".join(holidays)
-    others = ("phase", "year of entry", "number of the next draw", "earliest day of the next draw")
+    others = ("phase", "year of entry", "number of the next round or offer",
+              "earliest day of the next round or offer")
     assert [found[it] for it in others] == [phase, str(year), "1", wanted[1]]
 
     def answer(day: str) -> str:

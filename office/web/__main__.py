@@ -13,8 +13,8 @@ import argparse
 import pathlib
 
 from . import serve
-from .frame import people
 from .parts import Config
+from .people import people, roles
 from .register.store import Store
 
 ROOT = pathlib.Path(__file__).resolve().parents[2]
@@ -34,7 +34,7 @@ def main() -> None:
     given.folder.mkdir(mode=0o700, exist_ok=True)
     if given.person:
         store = Store(str(given.folder / "office.db"))
-        print(f"{given.person}: {people.People(store).add(given.person, people.HEAD)}", flush=True)
+        print(f"{given.person}: {people.People(store).add(given.person, roles.HEAD)}", flush=True)
         store.close()
     folder = given.folder.resolve()
     serve.run(Config(given.name, given.origin, given.door, folder, folder / "copies",

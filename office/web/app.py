@@ -20,25 +20,30 @@ from .applications.views import files as applications_files
 from .applications.views import staging as applications
 from .children.views import child, find, notes, preferences, subject
 from .copies.views import copies, restores
-from .explain.views import figures, trials, why
-from .frame import authority, guard, uploads
+from .explain import views as why
+from .figures import views as figures
+from .frame import uploads
 from .frame import navigation as frame
-from .frame.guard import PUBLIC, needs
-from .frame.views import activity, health, help, people, signing
+from .frame.views import activity, health, help
 from .frame.views import programs as register
+from .home import views as season
 from .letters.views import letters
 from .letters.views import addresses as letter_addresses
 from .letters.views import sender as letter_sender
 from .letters.views import templates as letter_templates
-from .lists.views import lists, season
+from .lists import views as lists
 from .machinery import numbers, pictures
 from .parts import Config, Parts
+from .people import authority, guard
+from .people.guard import PUBLIC, needs
+from .people.views import people, signing
 from .rounds.views import draws, lots
 from .schools import flags
 from .schools.views import schools
 from .schools.views import flags as flag_screen
 from .schools.views import new as new_schools
 from .season_end import views as season_end
+from .trials import views as trials
 
 HERE = pathlib.Path(__file__).resolve().parent
 SCREENS = (

@@ -12,15 +12,14 @@ from .copies.copies import Copies
 from .copies.restores import Restores, Restoring
 from .copies.testing import CopyTests
 from .explain.held_again import HeldAgain
-from .explain.trials import Trials
 from .frame import journal
 from .frame.failures import Failures
-from .frame.people import People
 from .letters.sets import FOLDER, Sets
 from .letters.whom import Lists
 from .machinery.asked import Asked
 from .machinery.jobs import Jobs
 from .machinery.step_jobs import StepJobs
+from .people.people import People
 from .register.desk import Desk
 from .register.history import History
 from .register.store import Store
@@ -30,6 +29,7 @@ from .rounds.following import Following
 from .schools.drafts import Draft
 from .schools.moves import OfCopies
 from .season_end.end import SeasonEnd
+from .trials.runs import Trials
 
 
 @dataclasses.dataclass(frozen=True)

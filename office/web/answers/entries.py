@@ -8,7 +8,7 @@ from collections.abc import Iterable, Mapping
 from typing import Any
 
 from office.core import model, texts
-from office.core.kinds import KINDS
+from office.core.command_kinds import KINDS
 from office.core.model import Register
 from office.web.machinery.outbox import Item
 from office.web.register.desk import Desk, Seen

@@ -1,5 +1,5 @@
 """Whose batch of answers may be taken over, and by whom."""
-from office.web.frame.people import PEOPLE, RECORD, Person
+from office.web.people.roles import PEOPLE, RECORD, Person
 from office.web.register.store import Store
 
 from .piles import Piles

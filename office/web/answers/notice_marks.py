@@ -4,7 +4,7 @@ waits in a batch, and a reminder whose letter is not recorded as sent.
 import datetime
 
 from office.core import days
-from office.core.kinds import ANSWERS
+from office.core.command_kinds import ANSWERS
 from office.core.model import Register
 from office.web.letters.whom import Lists, about_of
 from office.web.machinery.outbox import DONE

@@ -12,21 +12,21 @@ from typing import Any
 
 from register_files import Refused
 
+from office.core.command_kinds import NOTICES
 from office.core.days import today
-from office.core.kinds import NOTICES
 from office.core.model import Register
 from office.web.copies.copies import Copies
 from office.web.copies.safeguard import copied
-from office.web.frame.people import Person
 from office.web.letters import rows as letters_rows
 from office.web.letters.sets import Sets
 from office.web.letters.whom import Lists
+from office.web.lists import worklists
 from office.web.machinery.jobs import Jobs
 from office.web.machinery.outbox import DONE, Item, Outbox
+from office.web.people.roles import Person
 from office.web.register.desk import Desk, seen_of
 from office.web.register.history import now
 from office.web.register.store import Store
-from office.work import worklists
 
 from .notice_marks import Marks, waiting
 
@@ -113,7 +113,7 @@ class Notices(Outbox[Item]):
         """A row."""
         row = self.store.row("SELECT * FROM notice_row WHERE id=?", number)
         if row is None:
-            raise Refused("there is no such row of reminders or withdrawals")
+            raise Refused("there is no such set of reminders or withdrawals")
         return self.of_row(row)
 
     def of_row(self, row: sqlite3.Row) -> Row:

@@ -13,9 +13,9 @@ from office.core.model import Register
 from office.core.wording import sentence
 from office.web.copies.copies import Copies
 from office.web.copies.safeguard import copied
-from office.web.frame.people import Person
 from office.web.machinery.jobs import Jobs
 from office.web.machinery.outbox import DONE, SENDING, WAITS, Outbox, Request
+from office.web.people.roles import Person
 from office.web.register.desk import Desk, Result, seen_of
 from office.web.register.store import Store
 

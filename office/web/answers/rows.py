@@ -9,7 +9,7 @@ from collections.abc import Iterable, Sequence
 from register_files import Refused
 
 from office.core import fields, texts
-from office.core.kinds import KINDS
+from office.core.command_kinds import KINDS
 from office.files import file_kinds
 from office.files.sheet import Row
 
@@ -32,7 +32,7 @@ MINUS = "-\u2212\u2013"
 BETWEEN = re.compile(r"[\t\r\n,;:]+")
 # signs and numbers that are no part of a name, unless the child's own has them; a minus at a word's
 # end is one
-SIGNS = re.compile(r"[^\w\s'’`.,-]|[-.,]+(?!\S)(?<!\w[.,])|(?<!\S)\d+(?!\S)")
+SIGNS = re.compile(r"[^\w\s'’`.,-]|(?<![-.,])[-.,]+(?!\S)(?<!\w[.,])|(?<!\S)\d+(?!\S)")
 # words beside an answer that turn it round, or leave it open
 NEGATION = re.compile(r"not?|nor|never|unable|cannot|\w+n['’`]t|(?:do|does|did|wo|ca|is|are)nt")
 PUNCTUATION = ".,;:!?()\""

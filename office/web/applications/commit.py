@@ -15,25 +15,25 @@ from collections.abc import Callable
 
 from register_files import Refused
 
-from office.core import commands, days, fields, persons, rules, texts
+from office.core import child_fields, commands, days, fields, rules, texts
 from office.core.model import PLAN, Register
 from office.files import sheet
-from office.web.frame.people import Person
 from office.web.machinery import outbox
 from office.web.machinery.jobs import Jobs
 from office.web.machinery.outbox import Item, Outbox, Request
+from office.web.people.roles import Person
 from office.web.register.desk import DONE, REFUSED, Desk, Result
 from office.web.register.history import SENDS, Entry
-from office.work.check import values_of
 
-from .check import Checked, Checker, Differences, Table, too_many
 from .files import Note
+from .row_check import values_of
 from .rows import COMMITTED, OPEN, SENDING, WITHDRAWN, Staged, packed_notes
 from .staging import Staging
+from .table_check import Checked, Checker, Differences, Table, too_many
 
 # what the copy is for that is made before rows are sent, and without which nothing is sent
-PURPOSE = "before applications are stored"
-CHANGED = "The table or the register has changed since it was shown, and nothing was stored."
+PURPOSE = "before applications are added"
+CHANGED = "The table or the register has changed since it was shown, and nothing was added."
 
 
 @dataclasses.dataclass(frozen=True)
@@ -80,9 +80,12 @@ class Commit:
         if self.wrong:
             these = texts.count(len(self.wrong), "row")
             return f"{these} must be corrected or set aside before anything is added"
-        if self.too_many:
-            return self.too_many
-        return "" if self.rows or self.equal else "there is nothing to add"
+        return self.too_many
+
+    @property
+    def is_empty(self) -> bool:
+        """Whether the table has no row."""
+        return not self.table.rows
 
     @property
     def counts(self) -> Counts:
@@ -120,7 +123,7 @@ def basis_of(register: Register) -> list[object]:
     """
     schools = [[it.code, it.name, it.pan, it.east, it.north, it.criteria]
                for it in register.schools.values()]
-    children = [persons.cells_of(it, register.applications.get(it.number))
+    children = [child_fields.cells_of(it, register.applications.get(it.number))
                 for it in register.children.values()]
     planned = sorted(child for child, it in register.places.items() if it.kind == PLAN)
     return [list(map(str, register.days)), schools, children, planned]
@@ -248,8 +251,9 @@ class Committing:
             found = self.found(self.desk.now())
             if found.digest != digest:
                 return Outcome(False, CHANGED)
-            if found.why_not:
-                return Outcome(False, f"Nothing was stored: {found.why_not}.")
+            if found.why_not or found.is_empty:
+                why = found.why_not or "the table has no row"
+                return Outcome(False, f"Nothing was added: {why}.")
             if not found.rows:
                 self.take_out(found.equal)
                 return Outcome(True, "", None, len(found.equal))
@@ -271,9 +275,9 @@ class Committing:
         value = commands.read(result.answer)
         row, why = refused_row(value, found.rows), why_refused(value)
         if row is None:
-            return Outcome(False, f"Nothing was stored: {why}.")
+            return Outcome(False, f"Nothing was added: {why}.")
         self.note(row, why)
-        return Outcome(False, f"Nothing was stored: the register does not take {row.where}:"
+        return Outcome(False, f"Nothing was added: the register does not take {row.where}:"
                        f" {why}.", row=row)
 
     def unknown(self) -> str:
@@ -287,8 +291,8 @@ class Committing:
                 try:
                     self.imports.settle(batch)
                 except Refused as error:
-                    return (f"Whether {self.sending()} of this table are stored is not known yet:"
-                            f" {error}.")
+                    return (f"Whether {self.sending()} of this table are in the register is not"
+                            f" known yet: {error}.")
         return ""
 
     def sending(self) -> str:

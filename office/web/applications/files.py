@@ -8,15 +8,15 @@ from register_files import Refused
 
 from office.core import fields, texts
 from office.files import header, sheet, sheet_apart
-from office.work.check import ERROR, FIXED, LOOK, Check, Finding
 
 from . import gazetteer_rows
+from .row_check import ERROR, FIXED, LOOK, Check, Finding
 
 MOST_NAME = 80
 # so many words of a file are asked about
 MOST_WORDS = 30
 ADVICE = "write the name of the one that is meant into the field Sheet"
-NO_COLUMN = "no column of an application: it is kept beside the rows, and not stored"
+NO_COLUMN = "no column of an application: it is kept beside the rows, and not added"
 LEFT_OVER = "left over"
 # the columns of a home's point
 POINT = ("east", "north")

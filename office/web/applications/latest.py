@@ -8,12 +8,12 @@ from werkzeug.datastructures import MultiDict
 
 from office.core import texts
 from office.web.machinery import numbers
-from office.work.check import ERROR
 
 from . import mends
-from .check import Table
 from .mends import Undoable
+from .row_check import ERROR
 from .staging import Staging
+from .table_check import Table
 
 Args = MultiDict[str, str]
 

@@ -7,12 +7,12 @@ from collections.abc import Iterator, Mapping, Sequence
 
 from office.core import days, fields, texts
 from office.core.fields import Likely
-from office.work.check import ERROR, FIXED, LOOK, Finding
 
 from . import sent
-from .check import Table, said
+from .row_check import ERROR, FIXED, LOOK, Finding
 from .rows import REMARK, WITHDRAWN, Staged
 from .sent import Refusal
+from .table_check import Table, said
 
 PAGE = 50
 MOST_CHANGES = 30

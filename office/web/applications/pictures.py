@@ -10,7 +10,7 @@ from markupsafe import Markup
 from office.core import days, texts
 from office.web.machinery import pictures
 
-from .check import Table
+from .table_check import Table
 
 DAY = datetime.timedelta(days=1)
 # a picture has as many days at most, the last ones

@@ -150,8 +150,12 @@ def findings(point: Point, cells: Mapping[str, str]) -> Iterator[str]:
 
 
 def needs_look(point: Point, cells: Mapping[str, str]) -> bool:
-    """Whether a person is to see to the point of a row."""
-    return not metres_of(cells) or any(findings(point, cells))
+    """Whether a person is to see to the point of a row. What is only written in a wrong way, as
+    1,250, is corrected at its cell.
+    """
+    read = (fields.metres(cells[it], LIMITS[it]) for it in ("east", "north"))
+    is_missing = any(it.expected and not it.likely for it in read)
+    return is_missing or any(findings(point, cells))
 
 
 def degrees_in(cells: Mapping[str, str]) -> str:

@@ -8,16 +8,16 @@ import flask
 from register_files import Refused
 
 from office.core.model import Register
-from office.web.frame.guard import parts
 from office.web.machinery import numbers
+from office.web.people.guard import parts
 from office.web.schools import flags
 
-from .check import Checker, Table
 from .commit import Committing, Imports
 from .gazetteer import Gazetteer
 from .row_points import Points
 from .rows import OPEN
 from .staging import Staging
+from .table_check import Checker, Table
 
 
 @dataclasses.dataclass(frozen=True)

@@ -8,10 +8,9 @@ from typing import Any
 
 from register_files import Refused
 
-from office.core import days, model, rules, texts, wording
-from office.core.kinds import ACTIONS, Kind
+from office.core import days, model, risks, rules, texts, wording
+from office.core.command_kinds import ACTIONS, Kind
 from office.core.model import Child, Place, Register
-from office.work import risks
 
 Command = dict[str, Any]
 
@@ -89,8 +88,8 @@ def stays(register: Register, number: int) -> str:
     if not names:
         return "The child is on no waiting list."
     lists = "list" if len(names) == 1 else "lists"
-    return (f"The child stays on the waiting {lists} of {texts.listed(names)}. If a later draw"
-            " offers a place there, this place ends; a family that does not want that leaves the"
+    return (f"The child stays on the waiting {lists} of {texts.listed(names)}. If a place is"
+            " offered there later, this place ends; a family that does not want that leaves the"
             f" {lists}.")
 
 

@@ -4,11 +4,10 @@ import json
 from collections.abc import Iterator, Mapping
 from typing import Any
 
-from office.core import fields, persons, rules, texts
+from office.core import child_fields, fields, risks, rules, texts
 from office.core.model import Child, Register, School
 from office.core.wording import label
 from office.web.applications.files import POINT
-from office.work import risks
 
 from .actions import FIELDS
 
@@ -39,7 +38,7 @@ def read(register: Register, number: int, cells: Cells) -> tuple[Command, dict[s
         if found.expected:
             wrong[it.name] = found.expected
         else:
-            command[it.name] = persons.value_of(it.kind, found.text)
+            command[it.name] = child_fields.value_of(it.kind, found.text)
     return command, wrong
 
 

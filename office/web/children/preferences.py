@@ -15,7 +15,7 @@ from office.web.applications.form import PREFERENCES
 from .actions import day_warnings
 
 Command = dict[str, Any]
-STAYS = ("An application that is stored cannot be changed: no school is added to it, and the order"
+STAYS = ("An application in the register cannot be changed: no school is added to it, and the order"
          " stays. A waiting list can be left later.")
 
 
@@ -71,13 +71,13 @@ def becomes(register: Register, day: datetime.date) -> list[str]:
     when = (f"It is in time: the closing day is {closing}." if register.is_in_time(day) else
             f"It is late: the closing day was {closing}.")
     if register.draws:
-        return [when, "What was held stays as it is. The child waits at each of these schools from"
-                " now on, where the criteria of the school put it, and takes part in the next"
-                " round or fill.", STAYS]
+        return [when, "Places that are offered or held stay. The child waits at each of these"
+                " schools from now on, where the criteria of the school put it, and takes part in"
+                " the next round, or offer from a waiting list.", STAYS]
     if register.is_in_time(day):
         return [when, "The child takes part in the first round.", STAYS]
     return [when, "The child takes no part in the first round. After it the child waits at each of"
-            " these schools, and takes part in later rounds and fills.", STAYS]
+            " these schools, and takes part in later rounds and offers from waiting lists.", STAYS]
 
 
 def warnings(
@@ -93,7 +93,7 @@ def why_not(register: Register, number: int) -> str:
     if place and place.kind == PLAN:
         return "The child has a place by a plan, and applies for no other."
     if number in register.applications:
-        return "The child has an application, and the register keeps it as it was stored."
+        return "The child has an application, and the register keeps it as it was added."
     if not register.schools:
         return "There is no school yet."
     return ""

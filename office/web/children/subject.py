@@ -25,7 +25,7 @@ ELSEWHERE = (
     " logs of an earlier version may have them.",
     "A row of an import is kept in the register's file as it was read, to know it again: it is"
     " the row that the history has, where the import came by the application.",
-    "Rows of applications that are not stored and have no number are on the screen Applications,"
+    "Rows of applications that are not added and have no number are on the screen Applications,"
     " by name.",
 )
 UNSEALED = {
@@ -349,7 +349,7 @@ def page_of(found: Mapping[str, Any]) -> Iterator[str]:
               for table, rows in found["office"].items()}
     history = [{**it, "about": shown(it["about"])} for it in found["history"]]
     register = {name: it for name, it in found["register"].items() if name != "data"}
-    yield pages.render("subject.html", {
+    yield pages.render("web/children/printed/subject.html", {
         "found": found, "data": {name: shown(it) for name, it in found["register"]["data"].items()},
         "register": {name: shown(it) for name, it in register.items()},
         "history": history, "tables": tables})

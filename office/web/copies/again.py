@@ -5,8 +5,8 @@ from collections.abc import Collection, Mapping
 
 from register_files import Refused
 
-from office.web.frame.people import Person
 from office.web.machinery.outbox import WAITS, Outbox, Request
+from office.web.people.roles import Person
 from office.web.register.desk import again_of
 from office.web.register.history import Entry
 

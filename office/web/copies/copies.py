@@ -262,6 +262,8 @@ class Copies:
         """The answer of the machine to a request, or a refusal."""
         answer, request = self.requests / f"{what}{DONE}", self.requests / what
         with self.desk.reading:
+            # (what was read before is shown to nobody any more)
+            self.desk.copy = None
             # (which an application before this one has asked for, and whose answer is not this one)
             self.wait(what, lambda: not self.is_begun(what))
             with readable():

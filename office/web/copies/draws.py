@@ -2,7 +2,7 @@
 that it has again are held.
 """
 from office.core.model import Register
-from office.web.frame.people import Person
+from office.web.people.roles import Person
 from office.web.register.store import Store
 from office.web.rounds.draws import Draws
 from office.web.rounds.lots import sheet_of

@@ -13,11 +13,11 @@ from office.core import plain, texts
 from office.core.model import Register
 from office.web.applications.commit import digest_of
 from office.web.applications.rows import COMMITTED, OPEN
-from office.web.frame.people import Person
 from office.web.machinery.jobs import Jobs
 from office.web.machinery.outbox import DONE, WAITS
 from office.web.machinery.step_jobs import StepJobs
 from office.web.machinery.steps import StepStore
+from office.web.people.roles import Person
 from office.web.register.desk import Desk, local
 from office.web.register.history import Entry, History
 from office.web.register.history import RESTORED as IS_COPY
@@ -45,7 +45,7 @@ IN_TABLE = "its applications are in the table of Applications again: store them 
 class Restores(StepStore[Restore]):
     """The restores of one application. One is in progress at most, and no draw beside it."""
 
-    table = "restore"
+    table, called = "restore", "a restore"
 
     def __init__(
         self, store: Store, record: History, desk: Desk, jobs: Jobs, copies: Copies, draws: Draws
@@ -205,7 +205,7 @@ class Restores(StepStore[Restore]):
                               " Rounds")
             tried = rehearsal.tried(self.copies.path(found.copy), entries)
             self.record(who, "asked to restore", found, entries=sorted(wanted))
-            said = f"{len(wanted)} of {texts.count(len(rows), 'entry', 'entries')} again."
+            said = f"{len(wanted):,} of {texts.count(len(rows), 'entry', 'entries')} again."
             with self.moving(found, who, ASKED, said):
                 self.sending.choose(found, tried)
 
@@ -260,7 +260,7 @@ class Restores(StepStore[Restore]):
             self.record(who, "sent again", found, done=done, chosen=all_of)
             if found.is_brought:
                 restores_draws.mark(self.draws, who, self.desk.now(), found.copy)
-            with self.moving(found, who, SENT, f"{done} of {all_of} stored."):
+            with self.moving(found, who, SENT, f"{done:,} of {all_of:,} recorded."):
                 pass
 
     def counts(self, rows: Iterable[Again]) -> tuple[int, int]:
@@ -275,7 +275,7 @@ class Restores(StepStore[Restore]):
             rows = self.sending.rows(found)
             done, all_of = self.counts(rows)
             self.record(who, "opened the register", found, done=done, chosen=all_of)
-            with self.moving(found, who, OPENED, f"{done} of {all_of} sent again.") as db:
+            with self.moving(found, who, OPENED, f"{done:,} of {all_of:,} sent again.") as db:
                 mark_staged(db, rows)
 
     def after(self, who: Person, number: int) -> None:
@@ -327,7 +327,7 @@ class Restores(StepStore[Restore]):
                 self.sending.choose_later(found, wanted)
             self.sending.send_chosen(who, found, False)
             done, _ = self.counts(self.sending.rows(found))
-            with self.moving(found, who, OPENED, f"{done} sent again.") as db:
+            with self.moving(found, who, OPENED, f"{done:,} sent again.") as db:
                 mark_staged(db, self.sending.rows(found))
 
     def later(self, restore: Restore) -> dict[int, str]:

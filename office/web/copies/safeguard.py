@@ -1,7 +1,7 @@
 """A copy of the register before what is final is stored: two people can restore it."""
 from register_files import Refused
 
-from office.web.frame.people import Person
+from office.web.people.roles import Person
 from office.web.register.desk import Desk
 
 from .copies import Copies

@@ -5,8 +5,8 @@ import collections
 import dataclasses
 from collections.abc import Iterator, Mapping
 
-from office.core import effects, persons, texts, wording
-from office.core.kinds import DRAWS
+from office.core import child_fields, effects, texts, wording
+from office.core.command_kinds import DRAWS
 from office.core.model import Register
 from office.web.register import lineage, records
 from office.web.register.history import SENDS, Entry, History, says_done
@@ -41,7 +41,7 @@ def in_words(entry: Entry, names: dict[int, str]) -> str:
     """What an entry recorded, with the child's name where it is known."""
     if "import" in entry.about:
         rows = len(effects.rows_of(entry.about["import"]))
-        return texts.count(rows, "application") + " stored from files"
+        return texts.count(rows, "application") + " added from files"
     if "line" in entry.about:
         return f"a line that is no command: {texts.visible(entry.about['line'])}"
     command = entry.about["command"]
@@ -72,7 +72,7 @@ def of_draws(now: Register, then: Register) -> Iterator[Difference]:
     for number in range(1, max(len(now.draws), len(then.draws)) + 1):
         one, other = (draw_in(it, number) for it in (now, then))
         if one != other:
-            yield Difference(f"Draw {number}", "", one or "none", other or "none")
+            yield Difference(f"Round or offer {number}", "", one or "none", other or "none")
 
 
 def draw_in(register: Register, number: int) -> str:
@@ -96,7 +96,7 @@ def facts_of_school(register: Register, code: str) -> dict[str, str]:
     found = register.schools.get(code)
     return {} if found is None else {
         wording.label(name): texts.cell_of(value)
-        for name, value in persons.command_of_school(found).items() if name != "cmd"}
+        for name, value in child_fields.command_of_school(found).items() if name != "cmd"}
 
 
 def of_children(now: Register, then: Register) -> Iterator[Difference]:
@@ -122,7 +122,7 @@ def facts_of_child(register: Register, number: int, left: Mapping[int, str]) -> 
     child = register.children.get(number)
     if child is None:
         return {}
-    cells = persons.cells_of(child, register.applications.get(number))
+    cells = child_fields.cells_of(child, register.applications.get(number))
     place = wording.place(register, register.places.get(number))
     return {**{wording.label(name): it for name, it in cells.items()},
             "Place": place.removeprefix("The child has ").removeprefix("The child ").rstrip("."),

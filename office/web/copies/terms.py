@@ -101,6 +101,11 @@ class Restore:
         return any(it.state == BROUGHT for it in self.done[:1])
 
     @property
+    def name(self) -> str:
+        """How an office names it within a sentence."""
+        return f"the restore of copy {self.copy}"
+
+    @property
     def states(self) -> States:
         """The states that it goes through."""
         return BROUGHT_STATES if self.is_brought else STATES

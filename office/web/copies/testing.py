@@ -10,19 +10,19 @@ from typing import Any
 import register_files as files
 from register_files import Refused
 
-from office.core import model
+from office.core import drills, model
 from office.core.model import Register
-from office.web.frame.people import Person
+from office.web.people.roles import Person
 from office.web.register.history import now
 from office.web.rounds.draws import Draws
 from office.web.rounds.rehearsal import audited, taken
 from office.web.rounds.terms import Draw
-from office.work import drills
 
 from .copies import COPY_NAME, Copies
 from .draws import is_held
 
-NO_DRAW = "No draw of it can be audited from here: there is none, or no copy from before it."
+NO_DRAW = ("No round or offer of it can be audited from here: there is none, or no copy from before"
+           " it.")
 
 
 class CopyTests:

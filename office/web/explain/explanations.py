@@ -10,18 +10,18 @@ from office.core import days, model, wording
 from office.core.model import Register
 from office.files import pages
 from office.web.parts import Parts
+from office.web.rounds.held_draw import Held
 from office.web.schools.flags import Words
-from office.work import pdf_apart, why
-from office.work.rounds import Held
-from office.work.why import Section
+
+from . import pdf_apart, why
+from .why import Section
 
 COPY = "the copy from before the round"
 FAMILY, OFFICE = "family", "office"
 READERS = {FAMILY: "For the family", OFFICE: "For the office"}
 NO_COPY = "the copy of the register from before this round is not kept here"
-OF_NOW = ("The copy of the register from before this draw is not kept here, so this is by the data"
-          " that the register has now. Where they were changed after the draw, it is not what the"
-          " draw saw.")
+OF_NOW = ("The copy of the register from before it is not kept here, so this is by the data that"
+          " the register has now. If they were changed since, earlier data decided.")
 NOT_THERE = "The child was not in the register when the {}."
 
 
@@ -133,6 +133,6 @@ def named(register: Register, number: int) -> str:
 
 def pdf_of(found: Explanation, authority: str, note: str) -> bytes:
     """An explanation on paper."""
-    page = pages.render("why.html", {"authority": authority, "sections": found.sections,
-                                     "child": found.child, "note": note})
+    page = pages.render("web/explain/printed/why.html", {
+        "authority": authority, "sections": found.sections, "child": found.child, "note": note})
     return pdf_apart.pdf_of(page, "the explanation")

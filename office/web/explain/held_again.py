@@ -7,9 +7,9 @@ from collections.abc import Iterator
 
 from office.core import plain, turns
 from office.core.model import Draw, Register
-from office.work import rounds
-from office.work.rounds import Held
-from office.work.trial_registers import Program
+from office.web.rounds import held_draw
+from office.web.rounds.held_draw import Held
+from office.web.trials.registers import Program
 
 # wall-clock seconds; a day in time of a late application holds two rounds anew
 MOST_SECONDS = 120
@@ -34,7 +34,7 @@ class HeldAgain:
         kept = self.kept
         if kept is None or kept[0] != before or not is_same(kept[1], after, draw):
             with turn() as program:
-                kept = self.kept = before, rounds.held_again(before, after, draw.number, program)
+                kept = self.kept = before, held_draw.held_again(before, after, draw.number, program)
         return kept[1]
 
 

@@ -11,11 +11,10 @@ from office.core.model import Child, Draw, Register
 from office.core.wording import NOT_A_DAY, day_of, weekday
 from office.web.machinery import numbers
 from office.web.parts import Parts
-from office.work import what_if
-from office.work.why import nth
 
-from . import explanations
+from . import explanations, other_outcomes
 from .held_again import turn
+from .why import nth
 
 
 class NotThere(Refused):
@@ -82,7 +81,7 @@ def typed(found: Setting, given: Mapping[str, str]) -> Typed:
 def by_list(found: Setting, codes: Sequence[str]) -> list[str]:
     """The answer to another list, in sentences."""
     with turn() as program:
-        school = what_if.by_list(program, found.before, found.after, found.child, codes)
+        school = other_outcomes.by_list(program, found.before, found.after, found.child, codes)
     had = found.after.outcomes[found.draw.number][found.child]
     listed = f"the list {', '.join(codes)}" if codes else "no school"
     said = [f"With {listed}: {found.got(school)}.",
@@ -99,7 +98,7 @@ def by_day(found: Setting, text: str) -> tuple[list[str], str]:
     if day is None:
         return [], NOT_A_DAY
     with turn() as program:
-        span = what_if.by_day(program, found.before, found.after, found.child, day)
+        span = other_outcomes.by_day(program, found.before, found.after, found.child, day)
     applied = found.before.applications[found.child].day
     said = [f"By an application of {weekday(day)}: {found.got(span.best)}."]
     if not found.before.is_in_time(day):
@@ -151,8 +150,8 @@ def with_details(child: Child, choice: str) -> Child:
 def by_criterion(found: Setting, choice: str, words: str) -> list[str]:
     """The answer to another criterion, in sentences."""
     with turn() as program:
-        school = what_if.by_details(program, found.before, found.after,
-                                    with_details(found.before.children[found.child], choice))
+        school = other_outcomes.by_details(program, found.before, found.after,
+                                           with_details(found.before.children[found.child], choice))
     had = found.after.outcomes[found.draw.number][found.child]
     return [f"With this criterion ({words}): {found.got(school)}.",
             f"With the child’s own details: {found.got(had)}."]

@@ -1,3 +1,4 @@
-"""The frame of all screens: who asks and whether they may, people and how they sign in, the
-journal, help, and what other programs read and send.
+"""The frame of all screens: groups of screens, help, the journal, files that a browser sends, and
+what other programs read and send. Who asks and whether they may is in web/people; the first screen
+is in web/home.
 """

@@ -9,11 +9,12 @@ import flask
 
 from office.core import wording
 from office.web.parts import Parts
+from office.web.people import guard
+from office.web.people.roles import CONFIRM, LISTS, NOTES, PEOPLE, READ, RECORD, Person
+from office.web.people.roles import LOTS as OF_LOTS
 from office.web.rounds.terms import CONFIRMED, LOTS, REHEARSED, Draw
 
-from . import guard, topics
-from .people import CONFIRM, LISTS, NOTES, PEOPLE, READ, RECORD, Person
-from .people import LOTS as OF_LOTS
+from . import topics
 
 
 @dataclasses.dataclass(frozen=True)

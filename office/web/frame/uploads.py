@@ -3,15 +3,18 @@ remains.
 """
 import io
 import pathlib
+import re
 import tempfile
 import threading
 from typing import IO, Any
 
 import flask
 from register_files import Refused
-from werkzeug.datastructures import FileStorage
-from werkzeug.exceptions import RequestEntityTooLarge
+from werkzeug import formparser
+from werkzeug.datastructures import FileStorage, Headers
+from werkzeug.exceptions import BadRequest, RequestEntityTooLarge
 from werkzeug.formparser import FormDataParser
+from werkzeug.sansio.multipart import MultipartDecoder
 
 from office.core import model, plain, turns
 from office.core.model import Register
@@ -19,8 +22,7 @@ from office.files import file_kinds, inputs, sheet_apart
 from office.files import processes as apart
 from office.files.sheet import Row
 from office.web.applications import gazetteer_rows
-
-from .people import LOTS, RECORD, Person
+from office.web.people.roles import LOTS, RECORD, Person
 
 # (what a browser says of its name is not needed, and may be anything)
 NAME = "the file"
@@ -39,11 +41,48 @@ LONG = turns.Turn(threading.BoundedSemaphore(2), "others have sent much")
 # somebody who is not signed in sends a name and a password, or what was typed in a session that
 # has ended
 NOBODY_BYTES, NOBODY_FIELDS = 100_000, 500
+# some versions of the library read a header in a time that grows with the square of a run of
+# blanks in it. These it reads, and no browser sends one so long (a cookie may be longer), or with
+# such a run
+SHORT = ("CONTENT_TYPE", "HTTP_RANGE", "HTTP_IF_RANGE", "HTTP_IF_MATCH", "HTTP_IF_NONE_MATCH",
+         "HTTP_IF_MODIFIED_SINCE", "HTTP_IF_UNMODIFIED_SINCE")
+COOKIES, MOST_HEADER, RUN = "HTTP_COOKIE", 200, re.compile(r"\s{3}")
+# nor one that names an encoding, of which the library may know none
+ENCODED = r"\*\d*\s*="
+# the headers of a part of a form: with the name of a file, which may have some blanks
+MOST_PART, PART_WRONG = 2_000, re.compile(rf"\s{{20}}|{ENCODED}")
+UNREADABLE = "the form cannot be read: send it again by a page of this site"
 
 
 def is_small(person: Person) -> bool:
     """Whether somebody sends no files and no long forms."""
     return not (person.is_program or person.may(RECORD) or person.may(LOTS))
+
+
+def wrong_headers(environ: dict[str, Any]) -> list[str]:
+    """The headers of a request that the library is not to read."""
+    given = {name: environ[name] for name in (*SHORT, COOKIES) if name in environ}
+    return [name for name, text in given.items()
+            if RUN.search(text) or name != COOKIES and (
+                len(text) > MOST_HEADER or re.search(ENCODED, text))]
+
+
+class Parts(MultipartDecoder):
+    """Takes a form with files apart, but for headers of a part that no browser sends. Each field is
+    read as UTF-8, whatever a part says of it.
+    """
+
+    def _parse_headers(self, data: bytes) -> Headers:
+        """The headers of a part."""
+        if len(data) > MOST_PART or PART_WRONG.search(data.decode("utf-8", "replace")):
+            raise BadRequest(UNREADABLE)
+        found: Headers = super()._parse_headers(data)
+        found.remove("Content-Type")
+        return found
+
+
+# (the library has no other way to name what takes a form apart)
+setattr(formparser, "MultipartDecoder", Parts)
 
 
 class Fields(FormDataParser):
@@ -76,6 +115,13 @@ class Request(flask.Request):
     """A request, whose body is bounded by who sends it, and where."""
 
     form_data_parser_class = Fields
+
+    def __init__(self, environ: dict[str, Any], *given: Any, **more: Any) -> None:
+        # (the session is read before anything can be refused)
+        self.wrong_headers = wrong_headers(environ)
+        for name in self.wrong_headers:
+            del environ[name]
+        super().__init__(environ, *given, **more)
 
     @property
     def most_fields(self) -> int:

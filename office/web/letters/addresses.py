@@ -8,11 +8,12 @@ from register_files import Refused
 
 from office.core import texts
 from office.files.sheet import Row
-from office.web.applications.check import LOST
-from office.web.frame.people import Person
+from office.web.applications.table_check import LOST
+from office.web.people.roles import Person
 from office.web.register.history import History, now
 from office.web.register.store import Store
-from office.work import letter_pdf
+
+from . import pdf
 
 # (more lines than a window of an envelope shows)
 MOST_LINES, MOST_CHARACTERS = 8, 100
@@ -21,7 +22,7 @@ NAME = "the file"
 
 def columns_of(rows: list[Row]) -> list[str]:
     """The columns of a sheet that may be lines of an address, in their order."""
-    return letter_pdf.addresses_in(NAME, rows)[0]
+    return pdf.addresses_in(NAME, rows)[0]
 
 
 def read(
@@ -30,8 +31,8 @@ def read(
     """The lines of a sheet by child: each child is one that the register has. `taken` are the
     places of the columns that are lines of an address, or None for all.
     """
-    _, cells = letter_pdf.addresses_in(NAME, rows)
-    found = {child: letter_pdf.lines_of(
+    _, cells = pdf.addresses_in(NAME, rows)
+    found = {child: pdf.lines_of(
         [it for at, it in enumerate(one) if taken is None or at in taken])
         for child, one in cells.items()}
     if not found:
@@ -55,7 +56,7 @@ def doubts(rows: list[Row], names: Mapping[int, str]) -> list[tuple[int, str]]:
     for number, name in names.items():
         named.setdefault(texts.folded(name), []).append(number)
     found = []
-    for child, cells in letter_pdf.addresses_in(NAME, rows)[1].items():
+    for child, cells in pdf.addresses_in(NAME, rows)[1].items():
         for cell in filter(None, cells):
             others = named.get(texts.folded(cell), [child])
             if child not in others:
@@ -76,7 +77,7 @@ def unpacked(text: str) -> list[Row]:
     try:
         found = [Row(number, cells) for number, cells in json.loads(text)]
         is_right = all(isinstance(it.number, int) and isinstance(it.cells, list) and
-                       all(isinstance(cell, str) for cell in it.cells) for it in found)
+                       all(texts.is_text(cell) for cell in it.cells) for it in found)
     except (ValueError, TypeError, RecursionError):
         is_right = False
     if not is_right:

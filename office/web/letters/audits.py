@@ -7,8 +7,9 @@ from register_files import Refused
 
 from office import audit
 from office.core.model import Register
+from office.core.wording import draw_in_words
 from office.web.copies.copies import Copies
-from office.web.frame.people import Person
+from office.web.people.roles import Person
 from office.web.register.history import now
 from office.web.register.store import Store
 from office.web.rounds import rehearsal
@@ -76,11 +77,11 @@ class Audits:
         """Audits a draw that was not held here: by a copy from before it and a copy made now.
         Whether it agrees, and what was found.
         """
-        before = self.before(number)
+        before, name = self.before(number), draw_in_words(register.draws[number - 1])
         if before is None:
-            raise Refused(f"there is no copy from before draw {number} here, so it cannot be"
-                          " audited: letters that announce it stay drafts")
-        after = self.copies.make(f"to audit draw {number}", who.name)
+            raise Refused(f"there is no copy from before {name} here, so it cannot be audited:"
+                          " letters that announce its result stay drafts")
+        after = self.copies.make(f"to audit {name}", who.name)
         one, other = (rehearsal.rows_of(str(self.copies.path(it))) for it in (before, after))
         try:
             lines, is_right = audit.audit(one, other, True, None)
@@ -90,9 +91,10 @@ class Audits:
         outcome = outcome_of(self.copies.register(after), number)
         said = "\n".join(lines)
         self.draws.history.add(who.name, "audited", {
-            "draw": number, "copies": [before, after], "wrong": [] if is_right else lines})
+            "for": name, "draw": number, "copies": [before, after],
+            "wrong": [] if is_right else lines})
         with self.store.writing() as db:
             db.execute("INSERT OR REPLACE INTO letter_audit VALUES (?, ?, ?, ?, ?, ?)",
                        (number, outcome, int(is_right), said, who.name, now()))
         return is_right, said if outcome == outcome_of(register, number) else (
-            f"draw {number} is not the one that was shown")
+            f"{name} is not the one that was shown")

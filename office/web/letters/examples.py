@@ -5,8 +5,9 @@ import dataclasses
 import datetime
 
 from office.core import days, model
-from office.work import letter_fields
-from office.work.letter_fields import DECLINED, Letter, Listed
+
+from . import fields
+from .fields import DECLINED, Letter, Listed
 
 OFFERED_ON, DAY = datetime.date(2025, 3, 3), datetime.date(2025, 3, 3)
 REMINDED_ON = days.due_from(OFFERED_ON)
@@ -24,7 +25,7 @@ OFFERED = Letter(
     listed=(WAITS, GONE), closing=datetime.date(2024, 10, 31), is_late=False,
     days_left=days.NOTICE.days)
 NONE = dataclasses.replace(
-    OFFERED, state=letter_fields.NONE, school=None, school_name=None, preference=None,
+    OFFERED, state=fields.NONE, school=None, school_name=None, preference=None,
     offered=None, answer_by=None, criterion=None, criterion_code=None, metres=None, criteria=(),
     days_left=None)
 EXAMPLES = {

@@ -3,7 +3,7 @@ recorded, as the same children have them in any case.
 """
 import datetime
 
-from office.web.frame.people import Person
+from office.web.people.roles import Person
 
 from . import sender as letters_sender
 from .sets import PDF, Asked, Set, Sets

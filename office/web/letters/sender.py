@@ -9,7 +9,7 @@ from collections.abc import Mapping
 from register_files import Refused
 
 from office.core import texts
-from office.web.frame.people import Person
+from office.web.people.roles import Person
 from office.web.register.history import History, now
 from office.web.register.store import Store
 

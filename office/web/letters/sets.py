@@ -23,22 +23,21 @@ from office.core import days, plain, texts
 from office.core.model import Register
 from office.files import inputs
 from office.web.copies.copies import Copies
-from office.web.frame.people import Person
 from office.web.machinery.jobs import Jobs
+from office.web.people.roles import Person
 from office.web.register.desk import Desk
 from office.web.register.history import History, now
 from office.web.register.rows import of_json
 from office.web.register.store import Store
 from office.web.rounds.draws import Draws
 from office.web.schools import flags
-from office.work import letter_fields, letters_apart, printed
-from office.work.letter_fields import Letter, Writer
-from office.work.letters_apart import Form, Running
 
-from . import whom
+from . import apart, fields, proved_texts, whom
 from . import sender as letters_sender
 from .addresses import Addresses
+from .apart import Form, Running
 from .audits import Audits, announced
+from .fields import Letter, Writer
 from .sender import Sender
 from .versions import Templates
 
@@ -301,8 +300,7 @@ class Sets:
             if found.state not in (MADE, GONE) or not found.made:
                 raise Refused("these letters are not made")
             if found.is_draft:
-                raise Refused("these letters are drafts: make them again once the audit of the draw"
-                              " agrees")
+                raise Refused("these letters are drafts: make them again once the audit agrees")
             if self.has_example(found):
                 raise Refused("these letters have the address of an example: have the office's own"
                               " typed, and make them again")
@@ -404,15 +402,15 @@ class Sets:
         if not path.is_file():
             with self.desk.lock:
                 self.desk.settle()
-                register, document = self.desk.read(True)
-                at = now()
+                copy = self.desk.whole()
+                at, register = now(), copy.register
                 made = self.letters(register, found.asked)
                 children = [it.child for it in made]
-                proved = dict(zip(children, printed.served(self.desk.sender, children)))
-                if self.desk.read(True)[1] != document:
+                proved = dict(zip(children, proved_texts.served(self.desk.sender, children)))
+                if self.desk.whole().document != copy.document:
                     raise Refused("the register was changed while its letters were read: make them"
                                   " again")
-            printed.compare(made, proved)
+            proved_texts.compare(made, proved)
             rows = self.rows(register, found.asked, made)
             draws = {announced(register, it) for it in children} - {None}
             is_draft = bool(draws - self.audits.agreed(register))
@@ -440,7 +438,7 @@ class Sets:
         addresses, found = self.addresses.all(), []
         for it in made:
             about = whom.about_of(register, it.child, day)
-            found.append([letter_fields.text_of(it), about.key, about.words,
+            found.append([fields.text_of(it), about.key, about.words,
                           *addresses.get(it.child, [])])
         return found
 
@@ -452,7 +450,7 @@ class Sets:
         parts = [self.part(found, at, rows[at:at + BATCH]) for at in range(0, len(rows), BATCH)]
         path = self.room(found.number) / FILES[PDF]
         new = self.fresh(path)
-        letters_apart.whole(parts, new, "Letters", self.running[found.number])
+        apart.whole(parts, new, "Letters", self.running[found.number])
         finish(new, path)
         for it in parts:
             os.unlink(it)
@@ -477,8 +475,8 @@ class Sets:
             self.templates.source(self.templates.get(found.asked.template, found.asked.version)),
             values=self.sender.values(found.asked.sender))
         new = self.fresh(path)
-        given = [(letter_fields.of_text(it[0]), it[3:]) for it in rows]
-        made = letters_apart.letters(
+        given = [(fields.of_text(it[0]), it[3:]) for it in rows]
+        made = apart.letters(
             source, given, found.asked.date, Form(found.is_draft, found.asked.is_double), new,
             self.running[found.number])
         finish(new, path)
@@ -496,19 +494,19 @@ class Sets:
 
     def write_merge(self, found: Set, rows: list[list[str]]) -> None:
         """Writes the Excel file of a mail merge: all cells are texts."""
-        made = [letter_fields.of_text(it[0]) for it in rows]
+        made = [fields.of_text(it[0]) for it in rows]
         lengths = range(1, max(len(it[3:]) for it in rows) + 1)
         addresses = {one.child: [*it[3:], *[""] * (len(lengths) - len(it[3:]))]
                      for one, it in zip(made, rows)}
-        header, *lines = letter_fields.merge_rows(
+        header, *lines = fields.merge_rows(
             made, [f"address_{it}" for it in lengths], addresses)
-        draft = letters_apart.DRAFT if found.is_draft else ""
+        draft = apart.DRAFT if found.is_draft else ""
         cells = [["draft", *header], *([draft, *it] for it in lines)]
-        purpose = f"{found.asked.words}; {letters_apart.DRAFT.lower()}, not to be sent" if (
+        purpose = f"{found.asked.words}; {apart.DRAFT.lower()}, not to be sent" if (
             found.is_draft) else found.asked.words
         path = self.room(found.number) / FILES[MERGE]
         new = self.fresh(path)
-        letters_apart.merge(cells, purpose, new, self.running[found.number])
+        apart.merge(cells, purpose, new, self.running[found.number])
         finish(new, path)
         self.keep(found, [(at, letter.child, row[1], row[2], row[0]) for at, (letter, row)
                           in enumerate(zip(made, rows))])
@@ -600,7 +598,7 @@ class Sets:
             raise Refused("there is no such letter")
         asked = found.asked
         source = self.templates.source(self.templates.get(asked.template, asked.version))
-        letters_apart.again(source, [found.html], Form(), path)
+        apart.again(source, [found.html], Form(), path)
         return found.child
 
 

@@ -13,13 +13,12 @@ import tempfile
 from register_files import Refused
 
 from office.core import texts
-from office.web.frame.people import Person
+from office.web.people.roles import Person
 from office.web.register.history import History, now
 from office.web.register.store import Store
-from office.work import letter_pdf, letters_apart
-from office.work.letters_apart import Form, Made, Source
 
-from . import sender
+from . import apart, pdf, sender
+from .apart import Form, Made, Source
 from .examples import ADDRESS, DAY, EXAMPLES, SENDER
 
 STANDARD = "Standard letter"
@@ -68,7 +67,7 @@ class Templates:
         """The number of the template that comes with the program; what another release has is
         another version.
         """
-        text = pathlib.Path(letter_pdf.TEMPLATE).read_text("utf-8")
+        text = pathlib.Path(pdf.TEMPLATE).read_text("utf-8")
         with self.store.writing() as db:
             db.execute("INSERT OR IGNORE INTO letter_template (name) VALUES (?)", (STANDARD,))
             row = db.execute("SELECT id FROM letter_template WHERE name=?", (STANDARD,)).fetchone()
@@ -189,7 +188,7 @@ def see_picture(name: str, data: bytes) -> None:
     if len(data) > MOST_PICTURE:
         raise Refused(f"the picture {shown} is too large: it has at most"
                       f" {MOST_PICTURE // 1_000_000} MB")
-    if not (letter_pdf.type_of(name, data) or "").startswith("image/"):
+    if not (pdf.type_of(name, data) or "").startswith("image/"):
         raise Refused(f"{shown} is no picture: PNG, JPEG, GIF, WebP or SVG")
 
 
@@ -202,5 +201,5 @@ def see_good(source: Source) -> None:
 def examples(source: Source, path: str) -> Made:
     """Makes the letters of all examples in a new file."""
     source = dataclasses.replace(source, values={sender.NAME: SENDER})
-    return letters_apart.letters(
+    return apart.letters(
         source, [(it, ADDRESS) for it in EXAMPLES.values()], DAY, Form(), path)

@@ -14,7 +14,7 @@ from office.core import days, model, texts
 from office.core.model import Register
 from office.core.wording import day_of, draw_in_words
 from office.core.wording import KINDS as KIND_WORDS
-from office.web.lists import worklists
+from office.web.lists import on_screen
 from office.web.lists import choice as list_choice
 from office.web.register.history import History
 from office.web.register.store import Store
@@ -29,8 +29,8 @@ REMINDED, WITHDRAWN, ROW, CHILDREN = "reminded", "withdrawn", "row", "children"
 LIST = "list"
 # what each kind is, and what its value is called on the form
 KINDS = {
-    OFFERS: ("All whom a draw offered a place", "draw"),
-    PART: ("All who took part in a draw, also without a place", "draw"),
+    OFFERS: ("All who were offered a place in a round or offer", "draw"),
+    PART: ("All who took part in a round or offer, also without a place", "draw"),
     UNANSWERED: ("All who have not answered their offer", ""),
     REMINDED: ("All who were reminded on a day", "day"),
     WITHDRAWN: ("All whose offer was withdrawn on a day", "day"),
@@ -127,7 +127,7 @@ class Lists:
         """A row of reminders or withdrawals, with the children for whom it was done."""
         row = self.store.row("SELECT * FROM notice_row WHERE id=?", number)
         if row is None:
-            raise Refused("there is no such row of reminders or withdrawals")
+            raise Refused("there is no such set of reminders or withdrawals")
         found = self.store.rows("SELECT child FROM notice WHERE row_id=? AND state='done'"
                                 " ORDER BY place", row["id"])
         return Notices(row["kind"], datetime.date.fromisoformat(row["day"]),
@@ -197,7 +197,7 @@ class Lists:
             day = days.in_words(datetime.date.fromisoformat(whom.value))
             return f"{whom.kind.capitalize()} on {day}"
         if whom.kind == LIST:
-            return worklists.title(whom.value.partition("?")[0])
+            return on_screen.title(whom.value.partition("?")[0])
         if whom.kind == UNANSWERED:
             return "Offers without an answer"
         return texts.count(len(numbers_in(whom.value)), "chosen child", "chosen children")
@@ -265,7 +265,7 @@ def of_draw(register: Register, whom: Whom) -> list[int]:
     """The children of a draw."""
     known = {str(it.number): it.number for it in register.draws}
     if whom.value not in known:
-        raise Refused("choose a draw of the list")
+        raise Refused("choose a round or offer of the list")
     number = known[whom.value]
     fresh = register.fresh[number]
     return [it for it in register.outcomes[number] if whom.kind == PART or fresh[it]]
@@ -274,20 +274,20 @@ def of_draw(register: Register, whom: Whom) -> list[int]:
 def of_list(register: Register, whom: Whom, words: Mapping[int, str]) -> list[int]:
     """The children of a list, each once."""
     name, _, options = whom.value.partition("?")
-    if name not in worklists.NAMES:
+    if name not in on_screen.NAMES:
         raise Refused("there is no such list")
     given = MultiDict(urllib.parse.parse_qsl(options))
-    found, values = worklists.options(register, name, given, days.today())
-    if not worklists.is_whole(name, found, values):
+    found, values = on_screen.options(register, name, given, days.today())
+    if not on_screen.is_whole(name, found, values):
         raise Refused("choose what the list is of first")
-    listed = worklists.rows_of(register, name, values, words)
+    listed = on_screen.rows_of(register, name, values, words)
     choice = dataclasses.replace(list_choice.of_address(given), columns=())
     if list_choice.wrong(choice, listed, register):
         raise Refused("the list does not have what was chosen of it: look at it again")
     header, *rows = list_choice.chosen(choice, listed, register)
-    if worklists.CHILD not in header:
+    if on_screen.CHILD not in header:
         raise Refused("this list has no children")
-    at = header.index(worklists.CHILD)
+    at = header.index(on_screen.CHILD)
     return list(dict.fromkeys(it for row in rows if isinstance(it := row[at], int)))
 
 
@@ -303,5 +303,5 @@ def about_of(register: Register, child: int, withdrawn: datetime.date | None) ->
     number = announced(register, child)
     key = f"draw {number} {place.school} {place.kind}" if place else f"draw {number} none"
     has = f"{place.school}, {KIND_WORDS[place.kind]}" if place else "no place"
-    words = f"result of {draw_in_words(register.draws[number - 1])}" if number else "no draw"
+    words = f"result of {draw_in_words(register.draws[number - 1])}" if number else "no round yet"
     return About(key, f"{words}: {has}")

@@ -10,9 +10,9 @@ from werkzeug.datastructures import MultiDict
 from office.core import texts
 from office.core.model import Register
 from office.web.machinery import tables
-from office.work.register_lists import Cell, Rows
 
-from . import worklists
+from . import on_screen
+from .register_rows import Cell, Rows
 
 # the columns that say in which state something is, and those that name schools one after another
 STATES, SEVERAL = ("place", "met", "came", "held", "kind"), ("preferences", "waiting")
@@ -83,7 +83,7 @@ def has_schools(rows: Rows) -> bool:
 def schools_in(header: Sequence[Cell], row: Sequence[Cell]) -> Iterator[str]:
     """The schools that a row names."""
     for name, cell in zip(header, row):
-        if isinstance(cell, str) and name in worklists.SCHOOLS:
+        if isinstance(cell, str) and name in on_screen.SCHOOLS:
             yield cell
         elif isinstance(cell, str) and name in SEVERAL:
             yield from cell.split(";")
@@ -141,7 +141,7 @@ def has_words(words: str, row: list[Cell], register: Register) -> bool:
 def text_of(row: list[Cell], register: Register) -> str:
     """What is looked for words in a row, which is made once where it is looked at often."""
     there = [str(it) for it in row if it is not None]
-    there += [worklists.in_words(it) for it in row if isinstance(it, str)]
+    there += [on_screen.in_words(it) for it in row if isinstance(it, str)]
     there += [register.schools[it].name for it in row
               if isinstance(it, str) and it in register.schools]
     # (once for all: a long list has many cells)

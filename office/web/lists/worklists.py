@@ -1,183 +1,125 @@
-"""The worklists as screens have them: their titles, what each says, and the options of its form."""
+"""The worklists: their names, what each says, the options that it takes, and its rows."""
+import csv
 import dataclasses
 import datetime
-import re
-from collections.abc import Mapping
+import io
+from collections.abc import Callable, Mapping
 from typing import Any
 
-from office.core import criteria, days, model
+from register_files import Refused
+
+from office.core import days, texts
 from office.core.model import Register
-from office.core.wording import NOT_A_DAY, day_of, draw_in_words, weekday
-from office.work import worklists
-from office.work.register_lists import Cell, Rows
+from office.files import book
 
-TITLES = {
-    "child": "Schools of one child", "children": "All children", "draws": "Rounds and fills",
-    "equal-at-limit": "Where only the lot decided", "find": "Children by name",
-    "interest": "What families want",
-    "lapse-due": "Offers that may be withdrawn", "last-offered": "Last offered",
-    "list": "Waiting lists", "lots": "Lots of a draw", "moved": "Whom a draw moved",
-    "no-answer": "Not answered", "preferences": "Preferences that were met",
-    "remind-due": "Reminders that are due", "round-report": "Result of a round",
-    "season": "Days and counts", "unplaced": "Children without a place",
-    "vacancies": "Places of each school",
+from . import draw_rows, register_rows
+from .register_rows import Rows
+
+# a worklist that takes one of these is of one child or one draw
+SINGLE = {"child", "draw", "round", "text"}
+
+
+@dataclasses.dataclass(frozen=True)
+class Worklist:
+    """What a worklist says; the options that it takes; what makes it of a register and their
+    values, in this order; and those options without which it cannot be made.
+    """
+
+    purpose: str
+    taken: tuple[str, ...]
+    rows: Callable[..., Rows]
+    required: tuple[str, ...] = ()
+
+
+WORKLISTS = {
+    "child": Worklist(
+        "what one child listed and has: each school of its list, how it ranks there and what became"
+        " of it", ("child",), register_rows.child, ("child",)),
+    "children": Worklist(
+        "all children: when they applied, and what they have", (), register_rows.children),
+    "draws": Worklist(
+        "the rounds and offers: their days, their lots, and how many children were offered a place,"
+        " kept theirs or have none", (), draw_rows.draws),
+    "equal-at-limit": Worklist(
+        "where only the lot decided: who was offered or refused a place with the class and distance"
+        " of the last that was offered", (), draw_rows.equal_at_limit),
+    "find": Worklist(
+        "the children whose names have each word, whatever capitals and accents; near names where"
+        " there is none", ("text",), register_rows.find, ("text",)),
+    "interest": Worklist(
+        "what families want: how many list each school, as which preference, how many of them"
+        " applied late, and how many need a lot in the next round", (), register_rows.interest),
+    "lapse-due": Worklist(
+        f"whose offer may lapse on a day: no answer by the end of the {days.NOTICE.days}th day"
+        " after the reminder", ("day",), register_rows.lapse_due),
+    "last-offered": Worklist(
+        "the last class, distance and lot that were offered at each school each time, and how many"
+        " were", (), draw_rows.last_offered),
+    "list": Worklist(
+        "the waiting lists, or that of one school: positions, names, criteria met and distances",
+        ("school",), register_rows.waiting),
+    "lots": Worklist(
+        "the lots of a round or offer beside the children, school by school, and what each was"
+        " allotted in it", ("draw",), draw_rows.lots, ("draw",)),
+    "moved": Worklist(
+        "whom a round or offer moved from which school to which", ("draw",), draw_rows.moved,
+        ("draw",)),
+    "no-answer": Worklist(
+        "who has not answered an offer, since when, and when they were reminded", (),
+        register_rows.no_answer),
+    "preferences": Worklist(
+        "how many children each round left with their first, second, .. preference, or with none",
+        (), draw_rows.preferences),
+    "remind-due": Worklist(
+        f"who is due for a reminder on a day: no answer by the end of the {days.NOTICE.days}th day"
+        " after the offer", ("day",), register_rows.remind_due),
+    "round-report": Worklist(
+        "the result of a round for each child that took part, with names", ("round",),
+        draw_rows.round_report, ("round",)),
+    "season": Worklist(
+        "the days of the season, and what the register has so far", (), register_rows.season),
+    "unplaced": Worklist(
+        "children without a place: when they applied, for what, and where they wait", (),
+        register_rows.unplaced),
+    "vacancies": Worklist(
+        "each school's places: its admission number, what is held by whom, what is vacant, and how"
+        " many wait", (), register_rows.vacancies),
 }
-NAMES = list(worklists.WORKLISTS)
-LABELS = {"day": "Day", "draw": "Draw", "round": "Round", "school": "School",
-          "child": "Number of the child", "text": "Name"}
-# the options that are typed, each with how it is
-TYPED = {"day": "as 17 March 2025 or 17/3/2025", "child": "", "text": "in any spelling of capitals"
-         " and accents"}
-# the columns whose cells lead to a child or to a school
-CHILD, SCHOOLS = "child", ("school", "from", "to", "allotted")
-# the column of a class at the school of a row, and the one after it that has it in words
-CLASS, SCHOOL, CRITERION = "class", "school", "criterion"
-# the columns whose heads on the screen are others than their names in files
-HEADS = {CLASS: "Criterion no.", CRITERION: "Criterion met", "metres": "Distance (m)",
-         "came": "Result", "pan": "Places"}
 
 
-@dataclasses.dataclass(frozen=True)
-class Option:
-    """An option of a list: its name and label, what it can be, each with its words, or none where a
-    day is typed; what was given, and in words; and what is wrong with it.
+def is_whole(name: str, options: Mapping[str, Any]) -> bool:
+    """Whether a worklist can be made of these options."""
+    return all(options.get(it) is not None for it in WORKLISTS[name].required)
+
+
+def see_day(register: Register, day: datetime.date) -> None:
+    """Refuses a day on which nobody can be due, because no offer was made by then: its year may be
+    wrong.
     """
-
-    name: str
-    label: str
-    choices: tuple[tuple[str, str], ...]
-    given: str
-    words: str = ""
-    wrong: str = ""
+    if register.draws and day < register.draws[0].day:
+        raise Refused(f"nobody had an offer on {days.in_words(day)}: the first round was on"
+                      f" {days.in_words(register.draws[0].day)}")
 
 
-def head(column: str) -> str:
-    """The head of a column on the screen."""
-    return HEADS.get(column) or column.capitalize()
+def rows_of(register: Register, name: str, options: Mapping[str, Any]) -> Rows:
+    """The rows of a worklist."""
+    found = WORKLISTS[name]
+    return found.rows(register, *(options.get(it) for it in found.taken))
 
 
-def title(name: str) -> str:
-    """The title of a list."""
-    return TITLES.get(name) or name.replace("-", " ").capitalize()
-
-
-def purpose(name: str) -> str:
-    """What a list says."""
-    return worklists.WORKLISTS[name].purpose
-
-
-def choices(register: Register, name: str) -> tuple[tuple[str, str], ...]:
-    """What an option can be."""
-    if name == "school":
-        return tuple((code, f"{code} {it.name}") for code, it in register.schools.items())
-    if name == "round":
-        return tuple((str(it.round), f"{draw_in_words(it)}, {days.in_words(it.day)}")
-                     for it in register.rounds)
-    if name == "draw":
-        return tuple((str(it.number), f"{draw_in_words(it)}, {days.in_words(it.day)}")
-                     for it in register.draws)
-    return ()
-
-
-def options(
-    register: Register, name: str, given: Mapping[str, str], today: datetime.date,
-) -> tuple[list[Option], dict[str, Any]]:
-    """The options of a list with what was given, and their values, which are not whole where an
-    option is wrong or is to be chosen yet.
+def csv_text(rows: Rows) -> str:
+    """Rows as CSV for a spreadsheet: with a byte order mark, by which it reads names as Tŷ, and an
+    apostrophe before a text that it would take for a formula.
     """
-    found: list[Option] = []
-    values: dict[str, Any] = {}
-    for it in worklists.WORKLISTS[name].taken:
-        text, can_be, wrong = given.get(it, "").strip(), choices(register, it), ""
-        words = dict(can_be).get(text, "")
-        if it == "day":
-            text = text or today.isoformat()
-            day = day_of(text)
-            values[it], words = day, weekday(day) if day else ""
-            wrong = "" if day else NOT_A_DAY
-        elif it == "child" and text:
-            values[it], wrong = child_of(register, text)
-            words = register.children[values[it]].name if not wrong else ""
-        elif it == "text" and text:
-            values[it] = words = text
-        elif text and not words:
-            wrong = "one of the list"
-        elif text:
-            values[it] = text if it == "school" else int(text)
-        found.append(Option(it, LABELS[it], can_be, text, words, wrong))
-    return found, values
+    out = io.StringIO()
+    csv.writer(out, lineterminator="\n").writerows(
+        [texts.for_spreadsheet(it) if isinstance(it, str) else it for it in row] for row in rows)
+    return "\ufeff" + out.getvalue()
 
 
-def child_of(register: Register, text: str) -> tuple[int, str]:
-    """The number of a child that is typed, or what is wrong with it."""
-    is_number = text.isascii() and text.isdigit() and len(text) < 10
-    number = int(text) if is_number else 0
-    return number, "" if number in register.children else "the number of a child of the register"
-
-
-def is_whole(name: str, found: list[Option], values: Mapping[str, Any]) -> bool:
-    """Whether a list can be made of these values."""
-    return not any(it.wrong for it in found) and worklists.is_whole(name, values)
-
-
-def rows_of(
-    register: Register, name: str, values: Mapping[str, Any], flags: Mapping[int, str],
-) -> Rows:
-    """The rows of a list, of which the first is the header: with each class in words too."""
-    header, *rows = worklists.rows_of(register, name, values)
-    if name == "children":
-        return [[*header, "met"], *([*row, met(register, row[0])] for row in rows)]
-    if CLASS not in header:
-        return [header, *rows]
-    at, school = header.index(CLASS), header.index(SCHOOL)
-    found: Rows = [[*header[:at + 1], CRITERION, *header[at + 1:]]]
-    for row in rows:
-        number = row[at]
-        words = criteria.in_brief(register.schools[str(row[school])], number, flags) if (
-            isinstance(number, int)) else None
-        found.append([*row[:at + 1], words, *row[at + 1:]])
-    return found
-
-
-# which preference a place is; a place by a plan is on no list
-MET = ("first preference", "second preference", "third preference", "lower preference")
-
-
-def met(register: Register, child: Cell) -> str | None:
-    """Which of its preferences a child has today, if it has one of them."""
-    if not isinstance(child, int) or (place := register.places.get(child)) is None:
-        return None
-    application = register.applications.get(child)
-    if application is None or place.school not in application.preferences:
-        return place.kind if place.kind == model.PLAN else None
-    return MET[min(application.preferences.index(place.school), len(MET) - 1)]
-
-
-@dataclasses.dataclass(frozen=True)
-class Shown:
-    """A cell as a screen has it: its text, whether it is a number, and whose screen it leads to."""
-
-    text: str
-    is_figure: bool = False
-    child: int | None = None
-    school: str = ""
-
-
-def shown(header: list[Cell], row: list[Cell], register: Register) -> list[Shown]:
-    """The cells of a row."""
-    found = []
-    for name, value in zip(header, row):
-        if isinstance(value, int):
-            is_child = name == CHILD and value in register.children
-            text = str(value) if name in (CHILD, "lot") else f"{value:,}"
-            found.append(Shown(text, True, value if is_child else None))
-        else:
-            code = value if name in SCHOOLS and value in register.schools else ""
-            found.append(Shown("" if value is None else in_words(value), school=code or ""))
-    return found
-
-
-def in_words(text: str) -> str:
-    """A text of a cell; a day in words."""
-    day = re.fullmatch(r"[0-9]{4}-[0-9]{2}-[0-9]{2}", text) and day_of(text)
-    return days.in_words(day) if day else text
+def pages(register: Register, day: datetime.date) -> list[book.Page]:
+    """The worklists of a register on a day as sheets, the season first, each with what it says."""
+    names = [name for name, it in WORKLISTS.items() if not SINGLE & set(it.taken)]
+    names.sort(key=lambda it: it != "season")
+    return [book.Page(name, WORKLISTS[name].purpose, rows_of(register, name, {"day": day}))
+            for name in names]

@@ -1,1 +1,3 @@
-"""What recurs: rows of requests, steps of several people, long work, forms and tables."""
+"""What recurs: rows of requests, steps of several people, long work, forms, tables, and the shapes
+of pictures, whose colours are in deploy/site/ui.css.
+"""

@@ -8,7 +8,7 @@ import threading
 
 from werkzeug.datastructures import MultiDict
 
-from office.web.frame.people import Person
+from office.web.people.roles import Person
 
 Typed = MultiDict[str, str]
 # so many are kept, of so many characters each: the ticks of a long list are the most

@@ -7,8 +7,11 @@ import sqlite3
 from collections.abc import Iterable, Mapping
 from typing import Any, Generic, TypeVar
 
+from register_files import Refused
+
+from office.core import texts
 from office.core.wording import sentence
-from office.web.frame.people import Person
+from office.web.people.roles import Person
 from office.web.register.desk import LOST, UNSENT, Desk, Result, Seen
 from office.web.register.history import ANSWER, SENDS, Entry
 from office.web.register.records import came_of, ends_of
@@ -45,6 +48,13 @@ class Item:
 
 
 It = TypeVar("It", bound=Item)
+
+
+def packed(about: Mapping[str, Any]) -> str:
+    """What a request is about, as it is kept."""
+    if not texts.is_text(json.dumps(about, ensure_ascii=False)):
+        raise Refused("a text has a character that cannot be stored: type it again")
+    return json.dumps(about)
 
 
 class Outbox(Generic[It]):
@@ -102,7 +112,7 @@ class Outbox(Generic[It]):
         with self.store.writing() as db:
             db.execute("INSERT INTO sending (kind, batch, place, about, seen, state, said)"
                        " VALUES (?, ?, ?, ?, ?, ?, ?)",
-                       (self.kind, str(batch), place, json.dumps(about), seen, state, said))
+                       (self.kind, str(batch), place, packed(about), seen, state, said))
 
     def revise(self, it: It, about: Mapping[str, Any], seen: str | None = None) -> bool:
         """Gives a request that waits another meaning; whether it was done."""
@@ -110,7 +120,7 @@ class Outbox(Generic[It]):
             return db.execute(
                 "UPDATE sending SET about=?, seen=?, said='' WHERE number=? AND batch=?"
                 " AND state=?",
-                (json.dumps(about), seen, it.number, it.batch, WAITS)).rowcount > 0
+                (packed(about), seen, it.number, it.batch, WAITS)).rowcount > 0
 
     def is_running(self, batch: object) -> bool:
         """Whether a batch is being sent."""

@@ -87,7 +87,7 @@ def authority_map(
             x, y = ground.at(east, north + SIDE)
             shade = min(1 + int(4 * many / top), 4)
             side = SIDE * ground.scale
-            parts.append(rect(x, y, side, side, f"shade s{shade}", f"{many} homes"))
+            parts.append(rect(x, y, side, side, f"shade s{shade}", f"{many:,} homes"))
     for it in schools:
         parts.append(ring(ground, it))
     parts.append(ground.scale_bar())
@@ -430,5 +430,5 @@ def ribbons(
                     f'<path class="ribbon {right[j][1]}" stroke-width="{max(thick, 0.6):.1f}"'
                     f' d="M{x1:g} {y1:.1f}C{half:.0f} {y1:.1f} {half:.0f} {y2:.1f} {x2:g}'
                     f' {y2:.1f}">'
-                    f"<title>{escape(left[i])} to {escape(right[j][0].lower())}: {many}</title>"
+                    f"<title>{escape(left[i])} to {escape(right[j][0].lower())}: {many:,}</title>"
                     "</path>")

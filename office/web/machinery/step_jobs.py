@@ -5,7 +5,7 @@ from collections.abc import Callable
 
 from register_files import Refused
 
-from office.web.frame.people import Person
+from office.web.people.roles import Person
 from office.web.register.desk import local
 
 from .jobs import Job, Jobs

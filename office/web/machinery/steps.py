@@ -12,7 +12,7 @@ from register_files import Refused
 
 from office.core import turns
 from office.core.wording import moment, sentence
-from office.web.frame.people import Person
+from office.web.people.roles import Person
 from office.web.register.desk import local
 from office.web.register.history import History, now
 from office.web.register.store import Store
@@ -63,6 +63,12 @@ class States:
     def __getitem__(self, name: str) -> State:
         return self.all[name]
 
+    def in_short(self, name: str) -> str:
+        """A state as an office calls it, within a sentence."""
+        it = self.all.get(name)
+        said = (it.tag or it.words) if it else name
+        return said[:1].lower() + said[1:]
+
     def next(self, name: str) -> State | None:
         """The state to which the next step leads, if there is one."""
         names = list(self.all)
@@ -97,10 +103,11 @@ def shown(
     return found
 
 
-def history(done: Sequence[Done]) -> list[dict[str, str]]:
+def history(states: States, done: Sequence[Done]) -> list[dict[str, str]]:
     """All that was done, in order, as a screen shows it."""
-    return [{"at": it.at, "when": moment(it.at), "who": it.who, "what": sentence(it.state),
-             "more": it.said, "kind": ""} for it in done]
+    return [{"at": it.at, "when": moment(it.at), "who": it.who,
+             "what": sentence(states.in_short(it.state)), "more": it.said, "kind": ""}
+            for it in done]
 
 
 class Stepped(Protocol):
@@ -109,6 +116,14 @@ class Stepped(Protocol):
     @property
     def number(self) -> int:
         """Its number in the store."""
+
+    @property
+    def name(self) -> str:
+        """How an office names it within a sentence."""
+
+    @property
+    def states(self) -> States:
+        """The states that it goes through."""
 
     @property
     def state(self) -> str:
@@ -127,13 +142,16 @@ One = TypeVar("One", bound=Stepped)
 
 
 class StepStore(Generic[One]):
-    """All of one kind, in the table of its name; the steps are in the table NAME_step."""
+    """All of one kind, in a table; the steps are in the table TABLE_step. And what an office calls
+    one of them.
+    """
 
     table: str
+    called: str
 
     def __init__(self, store: Store, record: History) -> None:
         self.store, self.history = store, record
-        self.lock = turns.Turn(threading.RLock(), f"a step of a {self.table} is under way")
+        self.lock = turns.Turn(threading.RLock(), f"a step of {self.called} is under way")
 
     def get(self, number: int) -> One:
         """One by its number, or a refusal."""
@@ -154,12 +172,12 @@ class StepStore(Generic[One]):
             found = self.get(number)
             if found.version != seen:
                 last = found.done[-1]
-                raise Refused(f"the {self.table} has changed since this page was shown: {last.who}"
-                              f" changed it at {local(last.at)}, and it is in the state"
-                              f" '{found.state}'. Nothing was done")
+                raise Refused(f"{found.name} has changed since this page was shown: {last.who}"
+                              f" changed it at {local(last.at)}"
+                              f" ({found.states.in_short(found.state)}). Nothing was done")
             if found.state not in states:
-                raise Refused(f"the {self.table} is in the state '{found.state}', in which this"
-                              " cannot be done")
+                raise Refused(f"this cannot be done with {found.name} now"
+                              f" ({found.states.in_short(found.state)})")
             yield found
 
     @contextlib.contextmanager
@@ -173,7 +191,7 @@ class StepStore(Generic[One]):
             version = found.version + 1
             if not db.execute(query, (state, version, *columns.values(), found.number,
                                       found.version)).rowcount:
-                raise Refused(f"the {self.table} has changed meanwhile. Nothing was done")
+                raise Refused(f"{found.name} has changed meanwhile. Nothing was done")
             db.execute(f"INSERT INTO {self.table}_step VALUES (?, ?, ?, ?, ?, ?)",
                        (found.number, version, now(), who.name, state, said))
             yield db

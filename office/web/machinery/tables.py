@@ -18,7 +18,7 @@ Row = TypeVar("Row")
 UP, DOWN = "ascending", "descending"
 NUMBER = re.compile(r"[0-9]{1,15}(?:\.[0-9]{1,6})?")
 # so many rows are on a page of the screen, or fewer beside other things; on paper all of them are
-PAGE, SHORT = 500, 25
+PAGE, SHORT = 200, 25
 
 
 @dataclasses.dataclass(frozen=True)

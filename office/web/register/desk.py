@@ -1,36 +1,39 @@
 """The way to the register: requests one after another, each compared just before with what the
-register says now, and on record before it is sent.
+register says now, and on record before it is sent. As it is the only way, it knows what each may
+have changed: that is read again, and the whole after a while, or where it is not known.
 """
 import contextlib
 import dataclasses
 import datetime
 import gc
 import json
-import math
 import threading
 import time
-from collections.abc import Callable, Iterator
-from typing import Any
+from collections.abc import Callable, Iterable, Iterator
+from typing import Any, NamedTuple
 
 from register_files import Refused
 
-from office.core import commands, days, effects, kinds, model, senders, turns
-from office.core.kinds import DRAWS, KINDS
+from office.core import command_kinds, commands, days, effects, entries, model, senders, turns
+from office.core.command_kinds import DRAWS, KINDS
+from office.core.entries import Subject
 from office.core.model import Members, Register
-from office.web.frame.people import Person
+from office.web.people.roles import Person
 
 from .history import ANSWER, SENDS, SETTLED, Entry, History
 
 Command = dict[str, Any]
-# for so long a copy of the register is shown as it is, where nothing was sent since
-FRESH_SECONDS = 2.0
+# for so long the register is shown as it was read wholly, but for what was sent since; later what
+# came to it past the application, by a hand on the machine, is shown too
+WHOLE_SECONDS = 60.0
 # a request that had no answer is looked for once more after this
 AGAIN_SECONDS = 1.0
 # so many characters of a line that is no command are on record
 MOST_LINE = 1000
-# the child or the school that a request is about, by the name of its field; or any of them
-Subject = tuple[str, int | str]
+# what a request is about that may have changed any child and any school
 ANY: Subject = ("", "")
+# an answer has one of these where it is certain what a request came to
+CERTAIN = {"done", "refused", "fault"}
 DONE, REFUSED, DIFFERS, UNSENT, LOST = "done", "refused", "differs", "unsent", "not done"
 
 
@@ -81,7 +84,7 @@ def subject(about: dict[str, Any]) -> Subject:
     """
     command: Command = about.get("command", {})
     if command.get("cmd") not in DRAWS:
-        for name in ("child", "school"):
+        for name in (entries.CHILD, entries.SCHOOL):
             if name in command:
                 return name, command[name]
     return ANY
@@ -137,6 +140,17 @@ class Away(Refused):
     """The register does not answer."""
 
 
+class Copy(NamedTuple):
+    """The register as it was read: when it was read wholly, after how many requests it was read
+    last, and its document, or nothing where some of it is newer.
+    """
+
+    moment: float
+    sent: int
+    register: Register
+    document: bytes
+
+
 class Desk:
     """The register of one application."""
 
@@ -149,48 +163,68 @@ class Desk:
         self.lock = turns.Turn(threading.RLock(), "the register is being copied, or others send")
         self.reading = turns.Turn(
             threading.Lock(), "the register is being copied, or does not answer")
-        self.copy: tuple[float, Register, bytes] | None = None
-        # when something was sent last, before which no copy is of the present; and when about each
-        # child and school, and about any
-        self.sent = clock()
-        self.sent_about: dict[Subject, float] = {ANY: self.sent}
+        self.copy: Copy | None = None
+        # how many requests were begun, and what those that ended may have changed
+        self.begun, self.sent = 0, list[Subject]()
         # why nobody but a draw may send, or ""
         self.closed: Callable[[], str] = str
 
-    def read(
-        self, is_now: bool = False, command: Command | None = None
-    ) -> tuple[Register, bytes]:
-        """The register as it is, and its document; or as it was some seconds ago, if nothing was
-        sent since, or nothing by which what a command rests on has changed.
+    def register(self) -> Register:
+        """The register as it is with all that was sent through here."""
+        return self.present()
+
+    def present(self, *about: Subject) -> Register:
+        """The same, and in what is about these also with what came past here."""
+        with self.reading:
+            self.copy = self.kept_up(about) or self.read()
+            return self.copy.register
+
+    def kept_up(self, about: Iterable[Subject]) -> Copy | None:
+        """The copy, in which what was sent since and what is about these is read again. None if it
+        is old, if that may be anything or is much, or if something is being sent: of what is read
+        apart one thing could have the effect of that, and another could not.
         """
+        found, begun, ended = self.copy, self.begun, len(self.sent)
+        if found is None or found.moment <= self.clock() - WHOLE_SECONDS:
+            return None
+        touched = {*self.sent[found.sent:ended], *about}
+        if not touched:
+            return found
+        if ANY in touched or ended != begun:
+            return None
+        try:
+            register = entries.read_again(found.register, touched, self.part)
+        except Refused:
+            return None
+        if self.begun != begun:
+            return None
+        document = found.document if register is found.register else b""
+        return Copy(found.moment, ended, register, document)
+
+    def now(self) -> Register:
+        """The register as it is, read wholly."""
+        return self.whole().register
+
+    def whole(self) -> Copy:
+        """The register as it is with its document."""
         asked = self.clock()
         with self.reading:
-            sent = self.sent if command is None else self.sent_for(command)
-            since = asked if is_now else max(sent, asked - FRESH_SECONDS)
-            if self.copy and self.copy[0] >= since:
-                return self.copy[1:]
-            moment = self.clock()
-            document = self.document()
-            self.copy = moment, self.shown(document), document
-            return self.copy[1:]
+            if self.copy is None or self.copy.moment < asked or not self.copy.document:
+                self.copy = self.read()
+            return self.copy
+
+    def read(self) -> Copy:
+        """Reads the whole register."""
+        moment, sent = self.clock(), len(self.sent)
+        document = self.document()
+        return Copy(moment, sent, self.shown(document), document)
 
     def shown(self, document: bytes) -> Register:
         """The register of a document, which is made out once."""
-        if self.copy and self.copy[2] == document:
-            return self.copy[1].shown_again()
+        if self.copy and self.copy.document == document:
+            return self.copy.register.shown_again()
         with uncollected():
             return self.reader.register(document)
-
-    def sent_for(self, command: Command) -> float:
-        """When something was sent last by which what a command rests on may have changed."""
-        found = subject({"command": command})
-        if found == ANY:
-            return self.sent
-        return max(self.sent_about.get(it, -math.inf) for it in (found, ANY))
-
-    def mark(self, about: dict[str, Any]) -> None:
-        """Keeps the moment of a request, whatever came of it."""
-        self.sent = self.sent_about[subject(about)] = self.clock()
 
     def asked(self, path: str, question: bytes | None = None) -> tuple[int, bytes]:
         """The register's own answer to a path, or to a question that changes nothing."""
@@ -199,26 +233,21 @@ class Desk:
         except senders.Ended as error:
             raise Away(f"the register does not answer now: {error}") from error
 
-    def document(self) -> bytes:
-        """The document of the register."""
-        status, document = self.asked("/register")
+    def part(self, path: str) -> bytes | None:
+        """What the register has at a path now, or None where it has nothing there."""
+        status, found = self.asked(path)
+        if status == 404:
+            return None
         if status != 200:
             raise Away(f"the register cannot be read now: {senders.refusal(status)}")
-        return document
+        return found
 
-    def register(self) -> Register:
-        """The register as it is, or as it was some seconds ago if nothing was sent since."""
-        return self.read()[0]
-
-    def compared(self, command: Command) -> Register:
-        """The register as it is in what a command rests on. So in a row of commands about different
-        children not each one waits for all children to be read again.
-        """
-        return self.read(command=command)[0]
-
-    def now(self) -> Register:
-        """The register as it is."""
-        return self.read(True)[0]
+    def document(self) -> bytes:
+        """The document of the register."""
+        found = self.part("/register")
+        if found is None:
+            raise Away(f"the register cannot be read now: {senders.refusal(404)}")
+        return found
 
     def send(
         self, who: Person, command: Command, seen: Seen | None = None, draw: bool = False,
@@ -291,7 +320,7 @@ class Desk:
     def difference(self, command: Command, seen: Seen) -> str:
         """What has changed since a command was decided, or ""."""
         try:
-            said = self.changed(self.compared(command), command, seen)
+            said = self.changed(self.present(subject({"command": command})), command, seen)
         except Refused as error:
             return f"Nothing was recorded. {error}"
         return f"{said} Nothing was recorded now." if said else ""
@@ -316,13 +345,17 @@ class Desk:
             entry = self.history.add(who.name, SENDS, about)
         except Refused as error:
             return Result(UNSENT, f"Nothing was recorded: {error}")
+        touched = ANY
+        self.begun += 1
         try:
             answer = send()
+            value = commands.read(answer)
+            if isinstance(value, dict) and CERTAIN & value.keys():
+                touched = subject(about)
         except senders.Ended as error:
             return self.lost(entry, error)
         finally:
-            self.mark(about)
-        value = commands.read(answer)
+            self.sent.append(touched)
         if isinstance(value, dict) and value.get("failed"):
             # (stored wholly or not at all, and only a look at the register says which)
             found = self.looked(entry, commands.in_words(value, None))
@@ -339,7 +372,7 @@ class Desk:
 
     def plans(self) -> dict[int, str]:
         """The schools of the children that have a place by a plan, as of the last copy."""
-        places = self.copy[1].places.items() if self.copy else ()
+        places = self.copy.register.places.items() if self.copy else ()
         return {child: it.school for child, it in places if it.kind == model.PLAN}
 
     def lost(self, entry: Entry, error: senders.Ended) -> Result:
@@ -387,5 +420,5 @@ class Desk:
             return False
         register = self.now()
         if "command" in entry.about:
-            return kinds.is_done(register, entry.about["command"])
+            return command_kinds.is_done(register, entry.about["command"])
         return effects.is_imported(register, entry.about["import"])

@@ -3,14 +3,13 @@ recorded last, as where an older copy was put in its place by hand.
 """
 import csv
 import io
-from collections.abc import Callable
 
+from office.core.command_kinds import DRAWS, is_done
 from office.core.fields import trimmed
-from office.core.kinds import DRAWS, is_done
 from office.core.model import Register
 from office.web.parts import Parts
 
-from .desk import local
+from .desk import local, subject
 from .history import Entry
 
 LATER = "Record nothing, and tell IT support."
@@ -30,11 +29,12 @@ def has(register: Register, entry: Entry) -> bool:
     return is_done(register, command)
 
 
-def in_words(parts: Parts, read: Callable[[], Register]) -> tuple[Register, str]:
-    """The register as it is read now, and what speaks against it or the history, or ""."""
+def in_words(parts: Parts) -> tuple[Register, str]:
+    """The register, and what speaks against it or the history, or ""."""
     record = parts.history
     last = next(record.done(), None)
-    register = read()
+    about = [subject(last.about)] if last else []
+    register = parts.desk.present(*about)
     row = parts.store.row("SELECT number, position FROM copy ORDER BY position DESC LIMIT 1")
     if row and (row["position"] or 0) > len(record.entries):
         return register, (f"The history lacks entries: it ends before copy {row['number']} was"

@@ -7,13 +7,13 @@ from collections.abc import Iterable, Mapping
 from typing import Any
 
 from office.core import days, rules, texts
-from office.core.kinds import (
+from office.core.command_kinds import (
     APPLICATIONS, COPIES, KINDS, LETTERS, NOTES, OF_ANSWERS, OF_NOTICES, OTHERS, PEOPLE, REPORTS,
     ROUNDS, SCHOOLS,
 )
 from office.core.model import Register
 from office.core.wording import label
-from office.web.lists import worklists
+from office.web.lists import on_screen
 
 from .history import SENDS, Entry
 
@@ -142,6 +142,8 @@ LABELS = {
     "pairs": "Lots", "point": "Home", "remark": "Note", "why": "Reason", "wrong": "Wrong",
     "done_at": "Done on the machine", "before": "Before",
 }
+# the values that count something, and are no number of a child, a copy or a point
+COUNTS = ("answers", "chosen", "done", "pairs", "pan", "rows")
 # the steps that have the same values before and after them
 PAIRS = {"named flags": ("before", "words"), "changed the draft of schools": ("before", "now")}
 CHANGE = re.compile(r'"(.*)" to "(.*)"', re.DOTALL)
@@ -228,7 +230,7 @@ def filled(form: str, about: Mapping[str, Any], names: Names, of_child: bool) ->
     number = child_of(about)
     is_left_out = of_child or number is None
     form = re.sub(r"\[([^]]*)\]", "" if is_left_out else r"\1", form)
-    found = Filled({name: text_of(value) for name, value in about.items()
+    found = Filled({name: value_of(name, value) for name, value in about.items()
                     if f"{{{name}}}" in form})
     found["child"] = names.child(number)
     if "school" in found:
@@ -239,7 +241,7 @@ def filled(form: str, about: Mapping[str, Any], names: Names, of_child: bool) ->
     if str(about.get("of", "")).startswith("/"):
         found["of"] = file_of(about["of"], names)
     if "for" not in found and "draw" in about:
-        found["for"] = f"draw {about['draw']}"
+        found["for"] = f"round or offer {about['draw']}"
     return texts.visible(form.format_map(found)).strip()
 
 
@@ -255,10 +257,10 @@ def file_of(path: str, names: Names) -> str:
     """A file that somebody has downloaded, by its address."""
     first, *rest = path.strip("/").split("/")
     if first == "lists" and rest:
-        return f"the list ‘{worklists.title(rest[0])}’"
+        return f"the list ‘{on_screen.title(rest[0])}’"
     if first == "schools" and rest:
         return f"the lists of {names.school(rest[0])}"
-    return {"register": "the whole register", "activity": "the activity",
+    return {"register": "the whole register", "activity": "the activity", "lots": "a sheet of lots",
             "trials": "a trial"}.get(first, path)
 
 
@@ -276,6 +278,11 @@ def text_of(value: Any) -> str:
         return f"{found[1] or NONE} → {found[2] or NONE}"
     day = days.read(text)
     return days.in_words(day) if day else text
+
+
+def value_of(field: str, value: Any) -> str:
+    """The same of a field, of which some count."""
+    return f"{value:,}" if field in COUNTS and type(value) is int else text_of(value)
 
 
 def more_of(it: Entry, names: Names, before: Command | None) -> str:
@@ -305,7 +312,7 @@ def shown(field: str, value: Any, names: Names) -> str:
     """A value of an entry as the screen shows it, or "" if it is empty."""
     if field == "flags" and isinstance(value, list):
         return names.value(field, texts.cell_of(value)) if value else ""
-    return "" if value is False else text_of(value)
+    return "" if value is False else value_of(field, value)
 
 
 def changes(

@@ -7,7 +7,7 @@ from collections.abc import Mapping, Sequence
 from typing import Any
 
 from office.core import commands, days, effects
-from office.core.kinds import DRAWS, KINDS, NOTES, WHOLE, day_in
+from office.core.command_kinds import DRAWS, KINDS, NOTES, WHOLE, day_in
 from office.core.model import Register
 from office.core.wording import draw_in_words, moment, sentence
 

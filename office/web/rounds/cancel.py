@@ -9,8 +9,8 @@ from .terms import OPENED, SENT, UNSEALED, UNSENT_SEALED, Draw
 ALL = ("give-up", "ask-give-up", "keep-on", "confirm-give-up", "give-up-alone", "ask-restore",
        "keep", "restore", "restore-alone")
 NOTHING = "Nothing of it was recorded. Afterwards everybody can record again."
-LOTS = ("These lots are not taken over. If it begins again, the supervisor enters the lots"
-        " again, the same ones, with mistakes corrected.")
+LOTS = ("Keep the sheet and the seed of its lots. If {} is begun again, the supervisor enters the"
+        " same lots once more, and corrects only those that were wrong: no new lots are drawn.")
 BACK = ("The register becomes what it was before. As nobody else could record anything since,"
         " nothing else is lost.")
 TWO = "One person asks for it, and another one confirms it."
@@ -48,15 +48,16 @@ class Known:
 
 def way_of(draw: Draw, known: Known) -> Way | None:
     """The way for a person, if there is one."""
+    lots = LOTS.format(draw.name)
     if draw.state in UNSEALED:
-        said = (NOTHING, LOTS) if known.has_lots else (NOTHING,)
+        said = (NOTHING, lots) if known.has_lots else (NOTHING,)
         return Way(said, "give-up", f"Cancel {draw.name}", known.has_lots)
     if draw.state in UNSENT_SEALED:
-        return by_two((NOTHING, LOTS), draw.give_up_by, known, Way(
+        return by_two((NOTHING, lots), draw.give_up_by, known, Way(
             (), "give-up", f"Cancel {draw.name}", True, "keep-on", f"Go on with {draw.name}"))
     if draw.state in SENT:
         return by_two((BACK,), draw.restore_by, known, Way(
-            (), "restore", f"Undo {draw.name}", False, "keep", "Take that back"))
+            (), "restore", f"Undo {draw.name}", False, "keep", f"Keep {draw.name}"))
     return None
 
 

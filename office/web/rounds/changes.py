@@ -1,11 +1,11 @@
-"""What was changed since the applications were stored that moves a class, a distance or a limit of
-a draw: one person records it alone, and who confirms the draw reads it.
+"""What was changed since the applications were added to the register that moves a class, a distance
+or a limit of a draw: one person records it alone, and who confirms the draw reads it.
 """
 import dataclasses
 from collections.abc import Iterator
 
 from office.core import effects, rules
-from office.core.kinds import WHOLE
+from office.core.command_kinds import WHOLE
 from office.core.model import Register
 from office.web.register import entry_words, records
 from office.web.register.history import Entry, History

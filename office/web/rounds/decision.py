@@ -62,7 +62,8 @@ def decision(draw: Draw, known: Known) -> Decision:
         return Decision("Your decision", (
             "Two people are needed, so that nobody decides alone who gets a place:"
             f" {parties(draw)} cannot confirm {draw.name}, and you can.",), known.action,
-            known.button, then=f"Confirming gives no place yet: {draw.name} is run next, by"
+            known.button, then="You may confirm even if you added applications or made changes"
+            f" yourself. Confirming gives no place yet: {draw.name} is run next, by"
             f" {texts.one_of(heads) or 'a head of the office'}, and then its letters are made.")
     step = STATES[known.state] if known.state else None
     button = known.button or (step.title if step else "")

@@ -8,7 +8,7 @@ from register_files import Refused
 
 from office.core import texts
 from office.core.model import Pair
-from office.web.frame.people import Person
+from office.web.people.roles import Person
 
 from . import again
 from .draws import Draws, case_of
@@ -115,7 +115,7 @@ class Drafts:
                      for row in sheet.rows if not row.tie
                      for at, text in enumerate(row.typed) if not text}
             if said := collision(sheet, drawn):
-                raise Refused(f"{said}: take another seed")
+                raise Refused(f"{said}: use another seed")
             # (whoever reads the seed knows the lots: it is on record with the seal)
             self.put(who, draw, drawn, seed, {"lots": len(drawn), "by": "a seed"})
             return len(drawn)
@@ -134,7 +134,7 @@ class Drafts:
             if sheet.digest() != digest:
                 raise Refused("the lots have changed since this page was shown: read them again")
             self.draws.record(who, "sealed the lots", draw, digest=digest, seeds=sheet.seeds())
-            with self.draws.moving(draw, who, SEALED, f"Digest {digest}.", digest=digest):
+            with self.draws.moving(draw, who, SEALED, f"Fingerprint {digest}.", digest=digest):
                 pass
 
 

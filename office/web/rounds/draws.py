@@ -3,24 +3,23 @@ open for all again. Each step is on record before it is done, and a crash leaves
 before the step or after it.
 """
 import contextlib
+import dataclasses
 import datetime
 import json
 from collections.abc import Callable, Iterator
 
 from register_files import Refused
 
-from office.core import kinds, texts
+from office.core import command_kinds, texts
 from office.core.model import Pair, Register
 from office.web.copies.copies import Copies, is_same
-from office.web.frame.people import Person
+from office.web.people.roles import Person
 from office.web.register.desk import Desk
 from office.web.register.history import History
 from office.web.register.store import Store
-from office.work import lot_sheets
 
-from . import again, second, words
-from . import checks as draws_checks
-from .checks import Check
+from . import again, before_pause, lot_sheets, second, words
+from .before_pause import Check
 from .lots import sheet_of, ties_in
 from .rehearsal import Rehearsal, see_accepted
 from .second import Case
@@ -63,7 +62,7 @@ class Draws(DrawStore):
 
     def checks(self, draw: Draw) -> list[Check]:
         """What is to be read before it closes the register."""
-        return draws_checks.checks(self.desk.register(), draw.terms, self.today())
+        return before_pause.checks(self.desk.register(), draw.terms, self.today())
 
     def close(
         self, who: Person, number: int, seen: int, is_agreed: bool, read: str | None = None,
@@ -75,9 +74,9 @@ class Draws(DrawStore):
             self.desk.settle()
             register = self.desk.now()
             see_terms(register, draw.terms)
-            checks = draws_checks.checks(register, draw.terms, self.today())
+            checks = before_pause.checks(register, draw.terms, self.today())
             found = [it.said for it in checks if it.is_risk]
-            is_read = read is None or read == draws_checks.agreed_to(checks)
+            is_read = read is None or read == before_pause.agreed_to(checks)
             if found and not (is_agreed and is_read):
                 raise Refused("something looks wrong: read it, and say that it is right")
             self.record(who, "closed the register", draw, agreed=found)
@@ -104,7 +103,7 @@ class Draws(DrawStore):
                          {it: [at] * fills for at, it in enumerate(pairs, 1)})
             ties, kept = ties_in(register, pairs), again.kept(self, draw)
             self.record(who, "gave the pairs to the supervisor", draw, pairs=len(pairs))
-            said = f"{texts.count(len(pairs), 'pair')}."
+            said = f"{texts.count(len(pairs), 'lot')}."
             with self.moving(draw, who, LOTS, said) as db:
                 db.executemany(
                     "INSERT INTO lot VALUES (?, ?, ?, ?, ?, ?, ?)",
@@ -174,10 +173,24 @@ class Draws(DrawStore):
         """Confirms the rehearsed draw, as a second person."""
         with self.turn(number, seen, REHEARSED) as draw:
             see_goes_on(draw)
-            self.see_second(who, case_of(draw), "somebody else confirms it")
+            self.see_second(who, self.case_to_confirm(draw), "somebody else confirms it")
             self.record(who, "confirmed", draw, lots=draw.digest)
             with self.moving(draw, who, CONFIRMED):
                 pass
+
+    def case_to_confirm(self, draw: Draw) -> Case:
+        """What a second person confirms, and who has a part in it: also who saved lots for another
+        to seal. Where the lots stay from a draw that was undone, who saved and sealed them then
+        has one too.
+        """
+        case, before, sealed = case_of(draw), draw, dict[str, str]()
+        saved = dict.fromkeys(self.savers(draw), "saved lots")
+        while before.repeats and not before.other_lots:
+            before = self.get(before.repeats)
+            saved |= dict.fromkeys(
+                self.savers(before), f"saved lots of {draw.name} before it was undone")
+            sealed[before.who(SEALED)] = f"sealed the lots of {draw.name} before it was undone"
+        return dataclasses.replace(case, others={**saved, **sealed, **case.others})
 
     def held(self, draw: Draw, found: Rehearsal) -> int:
         """How many draws of the row are held, by a look at the register, which must be as it was
@@ -187,7 +200,7 @@ class Draws(DrawStore):
         count = held_in(register, draw)
         is_rehearsed = 0 <= count < len(found.registers) and (
             is_same(register, found.registers[count])) and (
-            all(kinds.is_done(register, it) for it in found.commands[:count]))
+            all(command_kinds.is_done(register, it) for it in found.commands[:count]))
         if not is_rehearsed:
             said = GIVE_UP if draw.state in UNSENT else RESTORE
             raise Differs(f"the register is not as it was rehearsed. {said}")
@@ -261,7 +274,7 @@ class Draws(DrawStore):
         with self.turn(number, seen, *UNSEALED) as draw:
             why = reason_to_give_up(why) if self.has_lots(draw) else ""
             self.record(who, "gave up", draw, reason=why)
-            said = f"In the state '{draw.state}'.{f' Reason: {why}' if why else ''}"
+            said = f"{before_end(draw)}{f' Reason: {why}' if why else ''}"
             with self.moving(draw, who, GIVEN_UP, said, give_up_by=who.name if why else None,
                              give_up_why=why):
                 pass
@@ -294,7 +307,7 @@ class Draws(DrawStore):
             self.see_second(who, Case(others={draw.give_up_by: f"has asked to cancel {draw.name}"}),
                             "somebody else confirms it")
             self.record(who, "gave up", draw, lots=draw.digest, reason=draw.give_up_why)
-            said = f"In the state '{draw.state}'. Digest of the lots {draw.digest}."
+            said = f"{before_end(draw)} Fingerprint of the lots {draw.digest}."
             with self.moving(draw, who, GIVEN_UP, said):
                 pass
 
@@ -305,8 +318,8 @@ class Draws(DrawStore):
         with self.turn(number, seen, *UNSENT_SEALED) as draw:
             alone, why = self.see_alone(who), reason_to_give_up(why)
             self.record(who, "gave up alone", draw, lots=draw.digest, why=alone, reason=why)
-            said = (f"Alone, in the state '{draw.state}': {alone}. Digest of the lots"
-                    f" {draw.digest}. Reason: {why}")
+            said = (f"{before_end(draw)} Alone: {alone}. Fingerprint of the lots {draw.digest}."
+                    f" Reason: {why}")
             with self.moving(draw, who, GIVEN_UP, said, give_up_by=who.name, give_up_why=why):
                 pass
 
@@ -365,10 +378,15 @@ class Draws(DrawStore):
 
 
 def case_of(draw: Draw) -> Case:
-    """What a second person confirms, and who has done what of it so far."""
-    found = {draw.who(SEALED): "sealed the lots", draw.who(CLOSED): "closed the register for it",
+    """What two people do with a draw, and who has done what of it so far."""
+    found = {draw.who(SEALED): "sealed the lots", draw.who(CLOSED): "paused recording for it",
              draw.who(BEGUN): f"began {draw.name}"}
     return Case(others={name: it for name, it in found.items() if name})
+
+
+def before_end(draw: Draw) -> str:
+    """Where a draw was before it is cancelled."""
+    return f"Before that: {STATES.in_short(draw.state)}."
 
 
 def reason_to_give_up(text: str) -> str:

@@ -9,9 +9,9 @@ from collections.abc import Callable
 
 from register_files import Refused
 
-from office.web.frame.people import Person
 from office.web.machinery.jobs import BROKEN, Jobs
 from office.web.machinery.step_jobs import StepJobs
+from office.web.people.roles import Person
 
 from .draws import Draws, held_in, see_goes_on
 from .terms import AUDITED, CLOSED, COPIED, FOLLOWED, SEALED, SENDING, Draw

@@ -8,8 +8,8 @@ from collections.abc import Iterable
 
 from office.core.model import Pair, Register
 from office.web.register.store import Store
-from office.work import lot_sheets
 
+from . import lot_sheets
 from .terms import Terms
 
 # a cell: a pair, and the place of the draw in the row of fills, from 0 on

@@ -8,17 +8,19 @@ from typing import Any
 from office.core import texts
 from office.core.model import Register
 from office.core.wording import moment, sentence
+from office.web.applications.rows import OPEN, WITHDRAWN
+from office.web.applications.tools import tools
 from office.web.copies import terms as restores_terms
 from office.web.explain import explanations
-from office.web.frame.guard import parts, person
-from office.web.frame.people import CONFIRM, DRAW, LOTS, NOTES, PERSON, Person
 from office.web.machinery import steps as step_store
 from office.web.machinery.jobs import Job
+from office.web.people.guard import parts, person
+from office.web.people.roles import CONFIRM, DRAW, LOTS, NOTES, PERSON, RECORD, Person
 from office.web.register.desk import local
 from office.web.register.history import ANSWER, SENDS, SETTLED
 from office.web.schools import flags
 
-from . import again, cancel, shown, verdict
+from . import again, before_confirmation, cancel, shown
 from . import changes as draws_changes
 from . import second as draws_second
 from .cancel import Way
@@ -92,8 +94,9 @@ def why_not(draw: Draw, state: str, register: Register | None) -> str:
         return "It is not decided whether it goes on."
     if state == SEALED:
         return "The supervisor does this, on the screen of lots."
-    said = draws_second.hindered(parts().history, who.name, case_of(draw)) if (
-        state == CONFIRMED and who.may(CONFIRM)) else ""
+    said = draws_second.hindered(
+        parts().history, who.name, parts().draws.case_to_confirm(draw)) if (
+            state == CONFIRMED and who.may(CONFIRM)) else ""
     if said:
         return f"{said}. Somebody else confirms it."
     action = action_of(draw, state)
@@ -109,9 +112,9 @@ def second_of(draw: Draw) -> Second | None:
     """
     if draw.state not in TO_CONFIRM:
         return None
-    case = case_of(draw)
+    case = parts().draws.case_to_confirm(draw)
     if draw.state == BEGUN and person().may(DRAW):
-        closes = {person().name: "would have closed the register for it"}
+        closes = {person().name: "would have paused recording for it"}
         case = dataclasses.replace(case, others={**closes, **case.others})
     return draws_second.second_of(parts().store, parts().history, case)
 
@@ -211,7 +214,7 @@ def shown_outcome(draw: Draw, register: Register, found: Whole) -> dict[str, Any
 
 
 def changes_of(draw: Draw, register: Register | None) -> list[Change] | None:
-    """What was changed between the storing of the applications and the close, for who reads it
+    """What was changed after the applications were added and before the close, for who reads it
     before the register is closed, and from the rehearsal on.
     """
     if register is None or draw.state not in (BEGUN, *CHECKED):
@@ -227,17 +230,37 @@ def changes_of(draw: Draw, register: Register | None) -> list[Change] | None:
 
 def verdicts_of(
     draw: Draw, register: Register | None, found: Whole | None, changes: list[Change] | None,
-) -> tuple[list[verdict.Verdict], list[verdict.Verdict]]:
+) -> tuple[list[before_confirmation.Verdict], list[before_confirmation.Verdict]]:
     """What is to be looked at, and the other checks: before it is confirmed, and from then on."""
     if draw.state not in CHECKED or found is None or register is None:
         return [], []
     same = parts().draws.made.of(
-        "same", (draw.number, draw.version), register, verdict.unchanged, parts().copies,
-        draw) if draw.state in COMPARED else None
-    known = verdict.Known(
-        found, again.given_up(parts().draws, draw), changes or [], same, person().name)
-    every = [*verdict.to_look_at(draw, known), *verdict.checked(draw, known, register)]
+        "same", (draw.number, draw.version), register, before_confirmation.unchanged,
+        parts().copies, draw) if draw.state in COMPARED else None
+    aside, to_add = (tools().staging.count(it) for it in (WITHDRAWN, OPEN)) if (
+        draw.state in COMPARED and not draw.terms.school and person().may(RECORD)) else (0, 0)
+    known = before_confirmation.Known(
+        found, again.given_up(parts().draws, draw), changes or [], same, person().name, aside,
+        to_add)
+    every = [*before_confirmation.to_look_at(draw, known),
+             *before_confirmation.checked(draw, known, register)]
     return (every, []) if draw.state == REHEARSED else ([], every)
+
+
+def to_confirm(found: Seen) -> dict[str, Any]:
+    """What the first screen of the person who can confirm a draw has of it: the decision, all that
+    is read before, and the outcome in numbers; and no decision for anybody else.
+    """
+    draw, register = found.draw, found.register
+    outcome = outcome_of(draw, register) if draw.state == REHEARSED else None
+    if register is None or outcome is None or not (decided := decision_of(found)).action:
+        return {"decision": None}
+    changes = changes_of(draw, register)
+    return {
+        "draw": draw, "decision": decided, "changes": changes,
+        "to_look_at": verdicts_of(draw, register, outcome, changes)[0],
+        "before": again.given_up(parts().draws, draw), "in_numbers": shown.figures(draw, outcome),
+    }
 
 
 # ------------------------------------------------------------------------------ what is beside it
@@ -330,7 +353,7 @@ def unsent_of(draw: Draw) -> tuple[int, int] | None:
 def taking_part(found: Seen) -> Mapping[str, str]:
     """Who did what of it, by what they did."""
     draw = found.draw
-    did = (("Began it", BEGUN), ("Closed the register", CLOSED), ("Sealed the lots", SEALED),
+    did = (("Began it", BEGUN), ("Paused recording", CLOSED), ("Sealed the lots", SEALED),
            ("Confirmed it", CONFIRMED), ("Ran it", SENDING))
     return {words: draw.who(state) for words, state in did if draw.who(state)}
 

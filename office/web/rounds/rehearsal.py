@@ -20,10 +20,12 @@ from office.core import commands, model, plain
 from office.core.model import Register
 from office.web.copies.copies import is_same
 from office.web.copies.copies import COPY_NAME as COPY
-from office.work import draw_lists, lot_sheets
+from office.web.lists import draw_rows
 
+from . import lot_sheets
 from .lots import Lots
 from .terms import Command, Terms
+from .words import kind_of
 
 # an outcome as numbers: the draw, the child, the school that it had, the one that it has, and
 # whether that is new
@@ -66,7 +68,7 @@ def taken(path: pathlib.Path, found: str) -> str:
         finally:
             os.close(fd)
     except OSError as error:
-        raise Refused(f"the copy cannot be taken for a rehearsal: {error.strerror}") from error
+        raise Refused(f"the copy cannot be used for a rehearsal: {error.strerror}") from error
     return found
 
 
@@ -152,7 +154,7 @@ class Rehearsal:
         answer = self.answer(file, command)
         if not commands.is_done(answer):
             said = commands.in_words(answer, command)
-            self.found.wrong.append(f"the register refuses draw {command['draw']}: {said}")
+            self.found.wrong.append(f"the register refuses {place_of(self.terms, at)}: {said}")
             return
         self.take(file, command, answer)
         if is_audited:
@@ -178,7 +180,7 @@ class Rehearsal:
             raise Refused(f"the program does not start: {error.strerror}") from error
         if not ran.stdout.endswith(b"\n"):
             said = plain.said(model.printed(ran).replace(file, COPY))
-            raise Refused(f"the draw cannot be rehearsed: {said}")
+            raise Refused(f"it cannot be rehearsed: {said}")
         return commands.read(ran.stdout.rstrip(b"\n"))
 
     def kept(self) -> dict[str, Any]:
@@ -225,7 +227,7 @@ class Rehearsal:
             last |= {code: [found.number, found.metres] for code, found in drawn.cutoffs.items()}
             for (code, child), by in drawn.refusals.items():
                 refused.setdefault(code, {}).setdefault(by or "", []).append(child)
-        lots = draw_lists.equal_at_limit(dataclasses.replace(register, draws=draws))[1:]
+        lots = draw_rows.equal_at_limit(dataclasses.replace(register, draws=draws))[1:]
         return {"last": last, "refused": refused, "by_lot": [[it[0], it[2]] for it in lots]}
 
     def has_outcome(self, kept: dict[str, Any]) -> bool:
@@ -244,11 +246,16 @@ class Rehearsal:
             found.add(*audited(self.files[at], file, at + 1 < len(self.commands)))
             wanted = dict(zip(self.terms.pairs_in(self.registers[at]), command["lots"]))
             if held.lots(command["draw"]) != wanted:
-                found.wrong.append(f"the lots of draw {command['draw']} are not those that were"
-                                   " sealed")
+                found.wrong.append(f"the lots of {place_of(self.terms, at)} are not those that"
+                                   " were sealed")
         if not is_same(held, self.registers[-1]):
             found.wrong.append("the register is not as it was rehearsed")
         return found
+
+
+def place_of(terms: Terms, at: int) -> str:
+    """Which one of an offer of several places, from 0 on, or what it is."""
+    return f"place {at + 1}" if terms.fills > 1 else f"the {kind_of(terms)}"
 
 
 def see_accepted(copy: pathlib.Path, terms: Terms, lots: Lots) -> None:

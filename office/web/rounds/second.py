@@ -8,7 +8,7 @@ from collections.abc import Mapping
 from register_files import Refused
 
 from office.core import texts
-from office.web.frame.people import CONFIRM, PERSON, Person
+from office.web.people.roles import CONFIRM, PERSON, Person
 from office.web.register.desk import local
 from office.web.register.history import Entry, History
 from office.web.register.store import Store

@@ -10,8 +10,8 @@ from markupsafe import Markup
 
 from office.core import texts
 from office.core.model import Register
+from office.web.home.tasks import RANKS, RANK_KINDS, share
 from office.web.lists import choice as list_choice
-from office.web.lists.home import RANKS, RANK_KINDS, share
 from office.web.machinery import pictures, tables
 from office.web.machinery.tables import Column
 
@@ -77,7 +77,8 @@ def figures(draw: Draw, whole: Whole) -> list[tuple[str, str, str, str, str]]:
     if whole.firsts:
         lower = [f"{words.lower()} {many:,}" for words, many in zip(RANKS[1:4], met[1:4]) if many]
         found.append((f"{met[0]:,}", "First preference", ", ".join((
-            share(met[0], every), *lower, f"none of theirs {met[4]:,}")),
+            f"{share(met[0], every)} of those who took part", *lower,
+            f"none of theirs {met[4]:,}")),
             address(draw, what="first"), ""))
     if counts[KEPT]:
         found.append((f"{counts[KEPT]:,}", "Keep their place", texts.count(
@@ -89,7 +90,8 @@ def figures(draw: Draw, whole: Whole) -> list[tuple[str, str, str, str, str]]:
     free = [it.vacancies for it in whole.schools if it.vacancies]
     if any(it.vacancies is not None for it in whole.schools):
         found.append((f"{sum(free):,}", "Places left free",
-                      f"at {texts.count(len(free), 'school')}", "#schools", ""))
+                      f"at {texts.count(len(free), 'school')}",
+                      flask.url_for("draws.one", number=draw.number, _anchor="schools"), ""))
     return found
 
 
@@ -106,7 +108,7 @@ def flow(register: Register, whole: Whole) -> dict[str, Any]:
         (f"{len(rows) - MOST_FLOW + 1} others", outcome.shares(
             it for _, it in rows[MOST_FLOW - 1:]))]
     sums = outcome.shares(whole.firsts.values())
-    says = f"{share(sums[0], sum(sums))} of the children have their first preference."
+    says = f"{share(sums[0], sum(sums))} of those who took part have their first preference."
     if missed := [it for it in rows if sum(it[1]) > it[1][0]]:
         most = max(missed, key=lambda it: sum(it[1]) - it[1][0])
         says += (f" Of the others {sum(most[1]) - most[1][0]:,} of {sum(sums) - sums[0]:,} had put"

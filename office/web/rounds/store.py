@@ -8,8 +8,8 @@ from collections.abc import Callable, Iterator
 from register_files import Refused
 
 from office.core import model
-from office.web.frame.people import Person
 from office.web.machinery.steps import StepStore
+from office.web.people.roles import Person
 from office.web.register.desk import local
 from office.web.register.history import History, now
 from office.web.register.store import Store
@@ -24,7 +24,7 @@ BEGAN, SAVED = "began a draw", "saved lots"
 class DrawStore(StepStore[Draw]):
     """The draws of one application. One is in progress at most."""
 
-    table = "draw"
+    table, called = "draw", "a round or offer"
 
     def __init__(self, store: Store, record: History) -> None:
         super().__init__(store, record)
@@ -37,7 +37,7 @@ class DrawStore(StepStore[Draw]):
         """A draw."""
         row = self.store.row("SELECT * FROM draw WHERE id=?", number)
         if row is None:
-            raise Refused("there is no such draw")
+            raise Refused("there is no such round or offer")
         return of_rows(row, self.steps_of(number))
 
     def listed(self) -> list[Draw]:
@@ -54,11 +54,15 @@ class DrawStore(StepStore[Draw]):
         """Whether a lot of a draw was ever saved: also where its cell is empty again, as somebody
         has seen it.
         """
-        if self.store.row("SELECT 1 FROM lot WHERE draw=? AND text<>''", draw.number):
-            return True
+        row = self.store.row("SELECT 1 FROM lot WHERE draw=? AND text<>''", draw.number)
+        return bool(row or self.savers(draw))
+
+    def savers(self, draw: Draw) -> list[str]:
+        """Who has saved lots of a draw."""
         with self.history.lock:
             entries = list(self.history.entries)
-        return any(it.what == SAVED and it.about.get("id") == draw.number for it in entries)
+        return list(dict.fromkeys(it.who for it in entries
+                                  if it.what == SAVED and it.about.get("id") == draw.number))
 
     def given_up_before(self, draw: Draw) -> list[Draw]:
         """The draws that were given up before it with lots, until one is held: those of the same

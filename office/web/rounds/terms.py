@@ -149,6 +149,11 @@ class Draw:
     other_lots: str
 
     @property
+    def states(self) -> States:
+        """The states that it goes through."""
+        return STATES
+
+    @property
     def in_words(self) -> str:
         """Its name, with how it has ended if not by being run."""
         return self.name + {GIVEN_UP: ", cancelled", RESTORED: ", undone"}.get(self.state, "")

@@ -12,9 +12,9 @@ from office.core.model import School
 from office.core.rules import LIMITS
 from office.web.copies.copies import Copies
 from office.web.copies.safeguard import copied
-from office.web.frame.people import Person
 from office.web.machinery.jobs import Jobs
 from office.web.machinery.outbox import WAITS, Item, Outbox, Request
+from office.web.people.roles import Person
 from office.web.register.desk import DIFFERS, DONE, Desk, Result
 from office.web.register.store import Store
 

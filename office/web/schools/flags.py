@@ -6,7 +6,7 @@ from register_files import Refused
 
 from office.core import texts
 from office.core.rules import LIMITS
-from office.web.frame import guard
+from office.web.people import guard
 from office.web.register.store import Store
 
 SETTING = "flags"

@@ -10,8 +10,8 @@ from office.core import criteria, model, texts
 from office.core.model import Register
 from office.core.wording import KINDS, draw_in_words
 from office.files.book import Page
-from office.work import draw_lists
-from office.work.register_lists import Cell, Rows
+from office.web.lists import draw_rows
+from office.web.lists.register_rows import Cell, Rows
 
 # whether a child that waits has another place meanwhile
 NONE, ELSEWHERE = "none", "elsewhere"
@@ -177,7 +177,7 @@ def last_offered(register: Register, code: str, words: Mapping[int, str]) -> lis
     """
     draws = [it for it in register.draws if it.school in (None, code)
              and code in register.outcomes[it.number].values()]
-    rows = draw_lists.last_offered(dataclasses.replace(register, draws=draws), code)
+    rows = draw_rows.last_offered(dataclasses.replace(register, draws=draws), code)
     school, said, found = register.schools[code], in_words(register, code, words), []
     for draw, day, _, offers, child, number, metres, lot in rows[1:]:
         name = draw_in_words(register.draws[int(draw or 0) - 1])
@@ -207,4 +207,4 @@ def pages(register: Register, code: str, words: Mapping[int, str]) -> list[Page]
              for it in last_offered(register, code, words)]
     return [Page("intake", f"who has a place at {name}", places),
             Page("waiting list", f"who waits at {name}, in order", lists),
-            Page("last offered", f"the last place that {name} was offered in each draw", last)]
+            Page("last offered", f"the last place that {name} has offered each time", last)]

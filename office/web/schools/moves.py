@@ -109,8 +109,9 @@ def draws_at(register: Register, store: DrawStore, code: str) -> Iterator[Draws]
             found, lambda it: it[1:] if any(it[1:]) else (0, it[0].number)):
         same = list(group)
         first, before, after = same[0]
-        many = f"{texts.count(len(same), 'fill')} of {code}, draws {first.number} to"
-        words = f"{many} {same[-1][0].number}" if len(same) > 1 else draw_in_words(first)
+        words = draw_in_words(first) if len(same) == 1 else (
+            f"offer of {len(same)} places at {code} (draws {first.number} to"
+            f" {same[-1][0].number})")
         offers = sum(intake.offered_in(register, it[0].number, code) for it in same)
         yield Draws(words, first.day, offers, before, after)
 
@@ -230,15 +231,16 @@ def says(found: Sequence[Moved], present: Positions) -> str:
     first = next((it for it in found if it.positions), None)
     after = first.positions if first else None
     if first is None or not after:
-        return "No copy from after a round or a fill says who waited then: nothing is known of it."
+        return "No copy from after a round or an offer says who waited then."
     waited = texts.count(len(after), "child", "children")
-    said = (f"After {first.of.words}, {waited} waited. Since then"
+    the = "the " if first.of.words.startswith("offer") else ""
+    said = (f"After {the}{first.of.words}, {waited} waited. Since then"
             f" {texts.count(first.joined or 0, 'child has', 'children have')} joined the list, and"
             f" {texts.count(first.left or 0, 'has', 'have')} left it")
     offers = sum(it.of.offers for it in found[found.index(first) + 1:])
     said += f"; {texts.count(offers, 'place was', 'places were')} offered." if offers else "."
     if both := after.keys() & present.keys():
         _, child = min((abs(after[it] - MIDDLE), it) for it in both)
-        said += (f" The child at position {after[child]} then is at position"
-                 f" {present[child]} now.")
+        said += (f" The child at position {after[child]:,} then is at position"
+                 f" {present[child]:,} now.")
     return said

@@ -5,14 +5,14 @@ from typing import Any
 
 from register_files import Refused
 
-from office.core import commands, fields, persons, rules, texts
+from office.core import child_fields, commands, fields, rules, texts
 from office.core.fields import Field
 from office.core.model import School
 from office.core.rules import LIMITS
 from office.core.wording import label
 from office.files import header
 from office.files.sheet import Row
-from office.work import across
+from office.web.applications import across
 
 Command = dict[str, Any]
 Cells = dict[str, str]
@@ -100,7 +100,7 @@ def read(cells: Cells, words: Mapping[int, str]) -> tuple[Command | None, dict[s
     if wrong:
         return None, wrong
     kinds = rules.COMMANDS["add_school"]
-    values = {it: persons.value_of(kinds[it].kind, found[it].text) for it in COLUMNS}
+    values = {it: child_fields.value_of(kinds[it].kind, found[it].text) for it in COLUMNS}
     command = {"cmd": "add_school", **values}
     # (the other numbers are within their limits)
     said = "; ".join(commands.outside(command))
@@ -109,7 +109,7 @@ def read(cells: Cells, words: Mapping[int, str]) -> tuple[Command | None, dict[s
 
 def cells_of(school: School) -> Cells:
     """A school of a register as cells."""
-    return cells_of_command(persons.command_of_school(school))
+    return cells_of_command(child_fields.command_of_school(school))
 
 
 def cells_of_command(command: Command) -> Cells:
@@ -126,7 +126,7 @@ def lines_of(
     found = []
     for number, cells, command, wrong in read_lines:
         there = known.get(command["school"]) if command else None
-        is_there = there is not None and persons.command_of_school(there) == command
+        is_there = there is not None and child_fields.command_of_school(there) == command
         if command and there and not is_there:
             other = differences(there, command)
             wrong = {"school": f"the register has this school with other data: {other}"}
@@ -149,7 +149,7 @@ def see_count(lines: list[Line], known: Mapping[str, School]) -> None:
 
 def differences(school: School, command: Command) -> str:
     """How a school of the register differs from a command that adds it."""
-    present = persons.command_of_school(school)
+    present = child_fields.command_of_school(school)
     return "; ".join(f"{label(it)} {texts.cell_of(present[it]) or 'none'} there,"
                      f" {texts.cell_of(command[it]) or 'none'} here"
                      for it in COLUMNS if present[it] != command[it])
@@ -162,7 +162,7 @@ def notes_of(
     """What looks wrong in a school, though it can be stored."""
     if len(set(command["criteria"])) < len(command["criteria"]):
         yield "a criterion is there twice"
-    schools = [persons.command_of_school(it) for it in known.values()]
+    schools = [child_fields.command_of_school(it) for it in known.values()]
     all_others = [it for it in (*schools, *(other for _, _, other, _ in others if other))
                   if it["school"] != command["school"]]
     if all_others and min(metres_between(command, it) for it in all_others) > across.FAR_METRES:

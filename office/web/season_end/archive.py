@@ -21,13 +21,13 @@ from office.core import days, texts
 from office.core.model import Register
 from office.files import book, pages
 from office.files.book import Page
+from office.web.lists import worklists
+from office.web.lists.register_rows import Rows
 from office.web.register import history
 from office.web.register.schema import TABLES
 from office.web.register.store import Store
 from office.web.rounds.lots import sheet_of
 from office.web.rounds.terms import Draw
-from office.work import worklists
-from office.work.register_lists import Rows
 
 if TYPE_CHECKING:
     from office.web.parts import Parts
@@ -86,7 +86,7 @@ def draws_of(register: Register) -> Iterator[Page]:
 def audit_text(draw: Draw) -> str:
     """What the second program said of a draw: of its rehearsal, and of the register after it."""
     found = [draw.in_words, f"State: {draw.state}."]
-    for title, kept in (("Rehearsal", draw.rehearsal), ("Register after the draw", draw.audit)):
+    for title, kept in (("Rehearsal", draw.rehearsal), ("Register after it", draw.audit)):
         if kept:
             lines = [line for one in kept["audits"] for line in one]
             wrong = kept["wrong"]
@@ -213,8 +213,8 @@ def content(parts: Parts, copy: int, day: datetime.date) -> Iterator[tuple[str, 
            register.source.shown())
     yield "lists.xlsx", f"all lists on {day.isoformat()}, as an Excel file", lists_of(register, day)
     if pages := list(draws_of(register)):
-        title = f"Admission {register.year} {register.phase}, draws"
-        yield ("draws.xlsx", "of each draw its lots, its result and whom it moved",
+        title = f"Admission {register.year} {register.phase}, rounds and offers"
+        yield ("draws.xlsx", "of each round and offer its lots, its result and whom it moved",
                book.data(pages, title))
     yield from of_draws(parts)
     data, _, said = of_history(parts)
@@ -230,7 +230,7 @@ def start_page(
 ) -> str:
     """The page of an archive that says what is what."""
     register = parts.desk.register()
-    return pages.render("archive.html", {
+    return pages.render("web/season_end/printed/archive.html", {
         "register_name": parts.config.name, "authority": parts.config.authority,
         "register": register, "by": by, "today": days.in_words(day), "copy": copy,
         "children": texts.count(len(register.children), "child", "children"), "items": items})

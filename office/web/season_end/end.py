@@ -21,17 +21,17 @@ from office.core.model import Register
 from office.core.turns import Turn
 from office.web.applications.rows import OPEN, SENDING
 from office.web.copies.copies import is_same
-from office.web.frame.people import Person
+from office.web.lists import register_rows
 from office.web.machinery import numbers
 from office.web.machinery.outbox import DONE
 from office.web.machinery.step_jobs import StepJobs
+from office.web.people.roles import Person
 from office.web.register.history import now
 from office.web.register.rows import of_json
 from office.web.register.schema import TABLES
 from office.web.rounds import second as draws_second
 from office.web.rounds.draws import STEADY
 from office.web.rounds.second import Case
-from office.work import register_lists
 
 from . import archive
 
@@ -110,7 +110,7 @@ class End:
 def still_open(parts: Parts, register: Register, today: datetime.date) -> list[Open]:
     """What is still open, which the head reads before the last copy."""
     found = in_progress(parts)
-    if offers := register_lists.offers(register):
+    if offers := register_rows.offers(register):
         found.append(Open("Offers without an answer", texts.count(len(offers), "offer"),
                           "lists.one", {"name": "no-answer"}))
     if waiting := sum(it.waiting for it in register.schools.values()):
@@ -126,7 +126,7 @@ def in_progress(parts: Parts) -> list[Open]:
     """What must end before anything else is done."""
     found = []
     if draw := parts.draws.present():
-        found.append(Open("A draw in progress", f"{draw.in_words}: it must end first",
+        found.append(Open("A round or offer in progress", f"{draw.in_words}: it must end first",
                           "draws.show", is_stop=True))
     if restore := parts.restores.present():
         found.append(Open("A restore in progress",
@@ -143,7 +143,7 @@ def drafts(parts: Parts) -> list[Open]:
     counted = (
         ("Answers in batches", "SELECT count(*) FROM answer WHERE state<>?", (DONE,), "answer",
          "answers.show"),
-        ("Applications that are not stored",
+        ("Applications that are not in the register",
          "SELECT count(*) FROM staged_row WHERE state IN (?, ?)", (OPEN, SENDING), "row",
          "applications.show"),
         ("Schools that are not stored", "SELECT count(*) FROM school_draft", (), "school",
@@ -236,8 +236,8 @@ class SeasonEnd:
         """The file of the archive, or a refusal where it is not as it was made."""
         path = archive.folder_of(self.parts) / found.archive
         if not (found.archive and path.is_file() and archive.digest_of(path) == found.digest):
-            raise Refused("the archive is not there, or not as it was made: make it again, and take"
-                          " it")
+            raise Refused("the archive is not there, or not as it was made: make it again, and"
+                          " download it")
         return path
 
     def copy_and_archive(self, who: Person, seen: int, read: str) -> None:
@@ -337,7 +337,7 @@ class SeasonEnd:
         if lacks := archive.lacks(self.parts.store, self.see_archive(found)):
             named = texts.listed(sorted({TABLES[it].called for it in lacks}))
             raise Refused(f"the archive lacks what was recorded here since it was made ({named}):"
-                          " make it again, and take it")
+                          " make it again, and download it")
 
     def case(self, found: End, asker: str = "") -> Case:
         """What a second person confirms, and who has asked for it. (A day that the machine has

@@ -11,9 +11,9 @@ from werkzeug.wrappers import Response
 from office.core import days
 from office.core.model import Register
 from office.core.wording import day_of, moment, sentence
-from office.web.frame.guard import needs, parts, person
-from office.web.frame.people import CONFIRM, END, Person
 from office.web.machinery import numbers
+from office.web.people.guard import needs, parts, person
+from office.web.people.roles import CONFIRM, END, Person
 from office.web.rounds import second as draws_second
 from office.web.rounds.second import Second
 

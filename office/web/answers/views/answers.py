@@ -8,15 +8,16 @@ from register_files import Refused
 from werkzeug.wrappers import Response
 
 from office.core import texts
-from office.core.kinds import ANSWERS
+from office.core.command_kinds import ANSWERS
 from office.core.model import Register
 from office.core.wording import WRONG_DECLINE, sentence
 from office.files import sheet
-from office.web.frame import guard, uploads
-from office.web.frame.guard import needs, parts, person
-from office.web.frame.people import RECORD
+from office.web.frame import uploads
 from office.web.machinery import numbers
 from office.web.machinery.outbox import DONE
+from office.web.people import guard
+from office.web.people.guard import needs, parts, person
+from office.web.people.roles import RECORD
 
 from .. import entries, handovers, piles
 from .. import rows as answer_rows
@@ -178,7 +179,7 @@ def choose() -> Answer:
     """
     entry, child = entry_of_form(), flask.request.form.get("child", "")
     kind = flask.request.form.get("answer", "")
-    register = parts().desk.now()
+    register = parts().desk.register()
     if entry is not None:
         meant = entry.meant
         if kind:
@@ -199,7 +200,7 @@ def choose() -> Answer:
 @needs(RECORD)
 def ask() -> Answer:
     """The question before the batch is recorded, which names whom it concerns."""
-    register = parts().desk.now()
+    register = parts().desk.register()
     ready = ready_in(register, flask.request.args.get("digest", ""))
     if isinstance(ready, str):
         return page(ready, 409)
@@ -229,7 +230,7 @@ def ready_in(register: Register, digest: str) -> list[Shown] | str:
 @needs(RECORD)
 def record() -> Answer:
     """Records what was shown, one answer after another."""
-    ready = ready_in(parts().desk.now(), flask.request.form.get("digest", ""))
+    ready = ready_in(parts().desk.register(), flask.request.form.get("digest", ""))
     if isinstance(ready, str):
         return page(ready, 409)
     guard.record("records a pile", answers=len(ready))

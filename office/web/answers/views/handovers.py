@@ -5,11 +5,12 @@ import flask
 from register_files import Refused
 from werkzeug.wrappers import Response
 
-from office.core.kinds import ANSWERS
+from office.core.command_kinds import ANSWERS
 from office.core.wording import sentence
-from office.web.frame import guard
-from office.web.frame.guard import needs, parts, person
-from office.web.frame.people import NAME, RECORD
+from office.web.people import guard
+from office.web.people.guard import needs, parts, person
+from office.web.people.people import NAME
+from office.web.people.roles import RECORD
 
 from .. import handovers
 from .answers import digest_of
@@ -52,7 +53,7 @@ def take(owner: str) -> Answer:
     """Takes over what was shown."""
     see_owner(owner)
     found, who = parts().piles, person().name
-    shown = found.shown(owner, parts().desk.now())
+    shown = found.shown(owner, parts().desk.register())
     entries = [it.entry for it in shown]
     if found.is_running(owner):
         return page(owner, "Nothing was taken over: the batch is being recorded now.")

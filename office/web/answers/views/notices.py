@@ -4,24 +4,25 @@ letters of the same children.
 import dataclasses
 import datetime
 import secrets
+from collections.abc import Iterable
 
 import flask
 from register_files import Refused
 from werkzeug.wrappers import Response
 
 from office.core import days, texts, wording
+from office.core.command_kinds import NOTICES
 from office.core.days import today
-from office.core.kinds import NOTICES
 from office.core.model import Register
 from office.core.wording import sentence
 from office.web.children import actions as children
-from office.web.frame.guard import needs, parts, person
-from office.web.frame.people import READ, RECORD
 from office.web.letters import rows as letters_rows
 from office.web.letters.views import letters
 from office.web.machinery import choices, numbers, tables
 from office.web.machinery.asked import Typed
 from office.web.machinery.outbox import DONE, Item
+from office.web.people.guard import needs, parts, person
+from office.web.people.roles import READ, RECORD
 
 from .. import notices
 from ..notice_marks import UNREAD, Marks
@@ -31,6 +32,8 @@ screen = flask.Blueprint("notices", __name__, url_prefix="/notices")
 Answer = str | Response | tuple[str, int]
 KINDS = f"any({REMIND}, {LAPSE})"
 WAIT_SECONDS = 4.0
+# at first the reminders without an answer are ticked
+FIRST = "first"
 CHANGED = "What was shown has changed meanwhile. Nothing was recorded: look at it again."
 
 
@@ -60,8 +63,12 @@ def show() -> Answer:
 @screen.get(f"/<{KINDS}:name>")
 @needs(RECORD)
 def choose(name: str) -> Answer:
-    """Those that are due on a day, to be ticked; with what was ticked on another page of them."""
+    """Those that are due on a day, to be ticked; with what was ticked on another page of them. If
+    all that are due today are ticked, the question about them, which leads to the list.
+    """
     args, kept = flask.request.args, None
+    if not args and (all_due := all_ticked(name)):
+        return to_question(name, all_due)
     if "page" in args:
         kept = parts().asked.find(person(), flask.request.path)
     return choose_page(name, kept or args, numbers.read(args.get("page", ""), 1))
@@ -82,8 +89,7 @@ def choose_page(
             found, marks = notices.due(register, kind, day), Marks(parts().letter_lists, register)
         except Refused as error:
             wrong = sentence(str(error))
-    # (at first the reminders without an answer are ticked)
-    tick = given.get("tick", "first" if kind == REMIND else "none")
+    tick = given.get("tick", FIRST if kind == REMIND else "none")
     picked = choices.picked(given) if "ticked" in given else None
     if wrong and status == 200 and "day" in given:
         status = 400
@@ -100,7 +106,7 @@ def choose_page(
 
 def is_ticked(tick: str, it: Due, marks: Marks | None) -> bool:
     """Whether one is ticked before anybody has ticked it."""
-    return tick == "all" or tick == "first" and not (marks and marks.answered(it.child))
+    return tick == "all" or tick == FIRST and not (marks and marks.answered(it.child))
 
 
 def ticked(register: Register, kind: str, day: datetime.date, given: Typed) -> list[Due]:
@@ -126,6 +132,33 @@ def not_due(register: Register, kind: str, gone: list[int]) -> str:
             " Nothing was recorded, and all others that you ticked still are")
 
 
+def all_ticked(kind: str) -> list[tuple[str, str]]:
+    """The reminders that are due today as they are ticked at first, if all of them are."""
+    register = parts().desk.register()
+    try:
+        found = notices.due(register, kind, today()) if kind == REMIND else []
+    except Refused:
+        return []
+    marks = Marks(parts().letter_lists, register)
+    if not found or not all(is_ticked(FIRST, it, marks) for it in found):
+        return []
+    return [("day", days.in_words(today())), ("ticked", "yes"),
+            ("others", ",".join(str(it.child) for it in found))]
+
+
+def to_question(kind: str, ticks: Iterable[tuple[str, str]]) -> Response:
+    """Leads to the question about what is ticked."""
+    return flask.redirect(flask.url_for("notices.ask", name=kind, key=kept_now(ticks)), 303)
+
+
+def kept_now(ticks: Iterable[tuple[str, str]]) -> str:
+    """Keeps what is ticked, and returns its key. (The same ones may be ticked again later, after a
+    restore.)
+    """
+    typed = Typed([*ticks, ("once", secrets.token_urlsafe(12))])
+    return parts().asked.keep(person(), flask.request.path, typed)
+
+
 @screen.post(f"/<{KINDS}:name>")
 @needs(RECORD)
 def tick(name: str) -> Answer:
@@ -136,15 +169,13 @@ def tick(name: str) -> Answer:
         return choose_page(name, form, status=400)
     if "page" not in form:
         try:
-            ticked(parts().desk.now(), name, day, form)
+            ticked(parts().desk.register(), name, day, form)
         except Refused as error:
             return choose_page(name, form, 1, sentence(str(error)), 409)
-    # (the same ones may be ticked again later, after a restore)
-    typed = Typed([*form.items(multi=True), ("once", secrets.token_urlsafe(12))])
-    key = parts().asked.keep(person(), flask.request.path, typed)
     if "page" in form:
+        kept_now(form.items(multi=True))
         return flask.redirect(flask.url_for("notices.choose", name=name, page=form["page"]), 303)
-    return flask.redirect(flask.url_for("notices.ask", name=name, key=key), 303)
+    return to_question(name, form.items(multi=True))
 
 
 def day_in(given: Typed) -> datetime.date | None:
@@ -176,7 +207,7 @@ def question(kind: str, key: str, form: Typed | None) -> Answer:
     day = day_in(given) if given else None
     if given is None or day is None:
         return choose_page(kind, Typed(), 1, CHANGED, 409)
-    register = parts().desk.now()
+    register = parts().desk.register()
     try:
         chosen = ticked(register, kind, day, given)
     except Refused as error:

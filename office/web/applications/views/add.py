@@ -5,16 +5,16 @@ from werkzeug.wrappers import Response
 
 from office.core.model import Register
 from office.core.rules import LIMITS
-from office.web.frame.guard import needs, person
-from office.web.frame.people import RECORD
-from office.work.check import LOOK
+from office.web.people.guard import needs, person
+from office.web.people.roles import RECORD
 
 from .. import row_points
 from .. import form as staging_form
 from .. import page as staging_page
-from ..check import Table, said
+from ..row_check import LOOK
 from ..row_points import Keys
 from ..rows import COMMITTED, OPEN, SENDING
+from ..table_check import Table, said
 from ..tools import number_in, numbers_taken, register_now, table_now, tools
 
 screen = flask.Blueprint("applications_add", __name__, url_prefix="/applications/add")

@@ -5,10 +5,10 @@ import flask
 from register_files import Refused
 from werkzeug.wrappers import Response
 
-from office.web.frame.guard import needs, parts, person
-from office.web.frame.people import RECORD
+from office.web.people.guard import needs, parts, person
+from office.web.people.roles import RECORD
 
-from .. import kinds, latest
+from .. import fault_kinds, latest
 from .. import page as staging_page
 from ..commit import Commit
 from ..latest import said_of_saved
@@ -34,7 +34,7 @@ def page(text: str = "", refused: Staged | None = None) -> Answer:
         undo=latest.undo_of(staging, args), found=found, unknown=unknown,
         closed=parts().desk.closed(), refused=refused, columns=staging_page.columns(),
         title_of=staging_page.title_of, names=names_of(found) if found else [],
-        aside=kinds.aside(found.wrong) if found else None,
+        aside=fault_kinds.aside(found.wrong) if found else None,
         read_as=[(it.name, it.changes) for it in staging.files() if it.changes and it.counts[OPEN]],
         may_change=found is not None and is_collecting(found.register))
     return body, 409 if said else 200
@@ -61,7 +61,7 @@ def store() -> Answer:
     try:
         found = tools().committing.send(person(), flask.request.form.get("digest", ""))
     except Refused as error:
-        return page(f"Nothing was stored: {error}.")
+        return page(f"Nothing was added: {error}.")
     if not found.is_done:
         return page(found.said, found.row)
     return flask.redirect(

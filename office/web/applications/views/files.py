@@ -7,8 +7,8 @@ from werkzeug.wrappers import Response
 
 from office.core import texts
 from office.files import inputs
-from office.web.frame.guard import needs, person
-from office.web.frame.people import RECORD
+from office.web.people.guard import needs, person
+from office.web.people.roles import RECORD
 
 from .. import files as staging_files
 from .. import page as staging_page

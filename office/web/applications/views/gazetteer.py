@@ -5,9 +5,9 @@ from register_files import Refused
 from werkzeug.wrappers import Response
 
 from office.core import texts
-from office.web.frame.guard import needs, person
-from office.web.frame.people import RECORD
 from office.web.frame.uploads import LARGE
+from office.web.people.guard import needs, person
+from office.web.people.roles import RECORD
 
 from .. import files, gazetteer_rows, points
 from ..gazetteer_file import Given

@@ -8,9 +8,9 @@ from register_files import Refused
 from werkzeug.wrappers import Response
 
 from office.core import texts
-from office.web.frame.guard import needs, person
-from office.web.frame.people import RECORD
 from office.web.machinery import tables
+from office.web.people.guard import needs, person
+from office.web.people.roles import RECORD
 
 from .. import points, row_points
 from ..page import PAGE

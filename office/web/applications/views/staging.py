@@ -8,22 +8,21 @@ import flask
 from register_files import Refused
 from werkzeug.wrappers import Response
 
-from office.core import persons, texts
-from office.web.frame.guard import needs, person
-from office.web.frame.people import RECORD
+from office.core import child_fields, texts
 from office.web.machinery import tables
+from office.web.people.guard import needs, person
+from office.web.people.roles import RECORD
 
-from .. import latest, mends, pictures, replace, sent
-from .. import kinds as staging_kinds
+from .. import fault_kinds, latest, mends, pictures, replace, sent
 from .. import page as staging_page
 from .. import tools as staging_tools
-from ..check import Table
-from ..kinds import Kind
+from ..fault_kinds import Kind
 from ..latest import said_of_saved
 from ..page import ALL, ASIDE, FILTERS, WRONG, Asked
 from ..rows import OPEN, REMARK, WITHDRAWN, digest_of
 from ..sent import Refusal
 from ..staging import Meanwhile
+from ..table_check import Table
 from ..tools import number_in, numbers_taken, table_now, tools
 
 screen = flask.Blueprint("applications", __name__, url_prefix="/applications")
@@ -33,6 +32,8 @@ Answer = str | Response | tuple[str, int]
 KEPT = ("show", "find", "kind", "page")
 # so many kinds are seen at once
 MOST_KINDS = 12
+# so many pairs of possible duplicates are on the page
+MOST_PAIRS = 100
 # chosen in the place of an item that is left out
 LEFT_OUT = "-"
 # the menus of the kinds have this before the kind
@@ -52,7 +53,7 @@ def page(text: str = "", is_bad: bool = False, saved: Sequence[int] = (),
     first = [*refused, *saved, *edited, *latest.numbers_in(args, "see")]
     away = staging.rows(WITHDRAWN)
     counts = staging_page.counts(table, len(away))
-    kinds = staging_kinds.kinds(table, lambda: numbers_taken(table.register))
+    kinds = fault_kinds.kinds(table, lambda: numbers_taken(table.register))
     kind = next((it for it in kinds if it.key == args.get("kind", "")), None)
     asked = Asked(which(show or args.get("show", ""), counts, first), args.get("find", ""),
                   frozenset(kind.rows) if kind else None, frozenset(edited))
@@ -66,9 +67,9 @@ def page(text: str = "", is_bad: bool = False, saved: Sequence[int] = (),
         "applications.html", said=f"{said_of_saved(table, saved)} {text}".strip(), is_bad=is_bad,
         is_added=is_added, chosen=chosen_now(),
         reason=reason, page=shown, here=here, kinds=kinds[:MOST_KINDS], others=kinds[MOST_KINDS:],
-        kind=kind, aside_kind=staging_kinds.whole_kind(kind, table) if kind else None,
+        kind=kind, aside_kind=fault_kinds.whole_kind(kind, table) if kind else None,
         filters=filters(counts, asked.find), filter="" if kind else FILTERS[asked.show],
-        counts=counts, wrong=len(wrong), aside_all=staging_kinds.aside(wrong), changes=changes,
+        counts=counts, wrong=len(wrong), aside_all=fault_kinds.aside(wrong), changes=changes,
         more_changes=more, address=tables.pages("applications.show", **here),
         files=list(sources(table)), waiting=replace.waiting(staging),
         pairs=len(table.pairs), lost=lost_of(there, refused),
@@ -101,7 +102,7 @@ def sources(table: Table) -> Iterator[tuple[Any, Any]]:
     """The files, each with what sets its rows aside."""
     for it in tools().staging.files():
         rows = [row.staged for row in table.rows.values() if row.staged.file == it.id]
-        yield it, staging_kinds.of_file(rows) if rows else None
+        yield it, fault_kinds.of_file(rows) if rows else None
 
 
 def lost_of(
@@ -190,9 +191,9 @@ def mend() -> Answer:
     with staging.lock:
         try:
             was_ready, (table, _) = is_ready(), table_now()
-            kinds = staging_kinds.kinds(table, lambda: numbers_taken(table.register))
+            kinds = fault_kinds.kinds(table, lambda: numbers_taken(table.register))
             chosen = chosen_item(kinds) if "seen" in form else mends.chosen(
-                staging_kinds.all_mends(table, kinds), form.get("mend", ""))
+                fault_kinds.all_mends(table, kinds), form.get("mend", ""))
             if chosen.is_asked and "confirmed" not in form:
                 return flask.redirect(
                     flask.url_for("applications.ask_aside", mend=chosen.digest), 303)
@@ -208,9 +209,9 @@ def mend() -> Answer:
 def ask_aside() -> Answer:
     """What is asked before many rows are set aside."""
     table, _ = table_now()
-    kinds = staging_kinds.kinds(table, lambda: numbers_taken(table.register))
+    kinds = fault_kinds.kinds(table, lambda: numbers_taken(table.register))
     try:
-        found = mends.chosen(staging_kinds.all_mends(table, kinds),
+        found = mends.chosen(fault_kinds.all_mends(table, kinds),
                              flask.request.args.get("mend", ""))
     except Refused as error:
         return page(f"Nothing was changed: {error}.", True)
@@ -234,7 +235,7 @@ def chosen_item(kinds: Sequence[Kind]) -> mends.Mend:
     by = form.get(f"{BY}{kind.key}", "")
     if by != LEFT_OUT and by not in dict(kind.choices):
         raise Refused(f"choose what is meant by {texts.shown(kind.item)}")
-    return staging_kinds.replaced(kind, "" if by == LEFT_OUT else by)
+    return fault_kinds.replaced(kind, "" if by == LEFT_OUT else by)
 
 
 @screen.post("/undo")
@@ -277,12 +278,13 @@ def pairs_page(text: str = "") -> Answer:
     children = table.register.children if table.register else {}
     applications = table.register.applications if table.register else {}
     found = []
-    for it in table.pairs:
+    for it in table.pairs[:MOST_PAIRS]:
         child = children.get(it.child or 0)
-        values = persons.cells_of(child, applications.get(child.number)) if child else {}
+        values = child_fields.cells_of(child, applications.get(child.number)) if child else {}
         found.append((it.why, *staging_page.sides(it.one, it.other, it.child, values)))
     body = flask.render_template(
-        "applications_duplicates.html", pairs=found, said=text, reason=reason,
+        "applications_duplicates.html", pairs=found, every=len(table.pairs), said=text,
+        reason=reason,
         columns=staging_page.columns())
     return body, 409 if text else 200
 

@@ -9,8 +9,8 @@ from register_files import Refused
 from werkzeug.wrappers import Response
 
 from office.core import criteria, days, texts, wording
+from office.core.command_kinds import ACTIONS
 from office.core.days import today
-from office.core.kinds import ACTIONS
 from office.core.model import OFFERED, WAITS, Register
 from office.core.wording import sentence
 from office.web.answers.notice_marks import UNREAD, Marks
@@ -22,10 +22,10 @@ from office.web.applications.row_points import Keys
 from office.web.applications.tools import tools
 from office.web.copies.safeguard import copied
 from office.web.explain import explanations, reasons
-from office.web.frame.guard import needs, parts, person
-from office.web.frame.people import NOTES, READ, RECORD
 from office.web.machinery import pictures, tables
 from office.web.machinery.asked import Typed
+from office.web.people.guard import needs, parts, person
+from office.web.people.roles import NOTES, READ, RECORD
 from office.web.register import records
 from office.web.register.desk import Seen, seen_of
 from office.web.register.entry_words import Names
@@ -88,11 +88,9 @@ def shown(register: Register, number: int) -> dict[str, Any]:
     }
 
 
-def child_in(number: int, is_read: bool = False) -> Register:
-    """The register as it is now, which has the child; or as it was some seconds ago, if the child
-    is only read.
-    """
-    register = parts().desk.register() if is_read else parts().desk.now()
+def child_in(number: int) -> Register:
+    """The register, which has the child."""
+    register = parts().desk.register()
     if number not in register.children:
         flask.abort(404)
     return register
@@ -111,7 +109,7 @@ HISTORY, LETTERS, POSITIONS, KEPT = "history", "letters", "positions", "notes"
 
 def child_page(number: int, said: str = "", status: int = 200) -> Answer:
     """The page of a child."""
-    register, history = child_in(number, status == 200), parts().history
+    register, history = child_in(number), parts().history
     names = Names(register, flags.present())
     if "recorded" in flask.request.args and not said:
         said = records.last_of(history, person().name, number, names)

@@ -10,11 +10,11 @@ from werkzeug.wrappers import Response
 from office.core import texts
 from office.core.model import Child, Register, School
 from office.core.wording import KINDS
-from office.web.frame.guard import needs, parts, person
-from office.web.frame.people import READ, RECORD
+from office.web.lists import register_rows
 from office.web.machinery import tables
 from office.web.machinery.tables import Column
-from office.work import register_lists
+from office.web.people.guard import needs, parts, person
+from office.web.people.roles import READ, RECORD
 
 from ..actions import first_of
 
@@ -55,8 +55,8 @@ def found(register: Register, text: str) -> Found:
     schools = {code: it.name for code, it in register.schools.items()}
     for may_differ in (False, True):
         made = Found(
-            [register.children[it] for it in register_lists.of_text(children, text, may_differ)],
-            [register.schools[it] for it in register_lists.of_text(schools, text, may_differ)])
+            [register.children[it] for it in register_rows.of_text(children, text, may_differ)],
+            [register.schools[it] for it in register_rows.of_text(schools, text, may_differ)])
         if made.children or made.schools:
             break
     return made

@@ -9,8 +9,8 @@ from werkzeug.wrappers import Response
 
 from office.core.wording import sentence
 from office.files import inputs
-from office.web.frame.guard import needs, parts, person
-from office.web.frame.people import NOTES
+from office.web.people.guard import needs, parts, person
+from office.web.people.roles import NOTES
 
 from ..notes import ENDS, MOST_FILE, MOST_FILES, MOST_NOTE, MOST_REASON, File, Note, Unfit
 from .child import child_in

@@ -8,9 +8,9 @@ from office.core import days, wording
 from office.core.days import today
 from office.core.model import Register
 from office.core.wording import sentence
-from office.web.frame.guard import needs, parts, person
-from office.web.frame.people import RECORD
 from office.web.machinery.asked import Typed as Form
+from office.web.people.guard import needs, parts, person
+from office.web.people.roles import RECORD
 from office.web.register.desk import Seen, seen_of
 
 from .. import preferences

@@ -7,8 +7,8 @@ import flask
 
 from office.core import turns
 from office.core.model import Register
-from office.web.frame.guard import needs, of_file, parts, person
-from office.web.frame.people import NOTES
+from office.web.people.guard import needs, of_file, parts, person
+from office.web.people.roles import NOTES
 from office.web.register.history import now
 
 from .. import subject

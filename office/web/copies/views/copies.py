@@ -6,10 +6,10 @@ from register_files import Refused
 from werkzeug.wrappers import Response
 
 from office.core.wording import sentence
-from office.web.frame import guard
-from office.web.frame.guard import needs, parts, person
-from office.web.frame.people import DRAW, READ
 from office.web.machinery import numbers
+from office.web.people import guard
+from office.web.people.guard import needs, parts, person
+from office.web.people.roles import DRAW, READ
 from office.web.rounds.terms import RESTORED
 
 from ..copies import Copy, words_of

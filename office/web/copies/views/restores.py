@@ -12,10 +12,10 @@ from werkzeug.wrappers import Response
 from office.core import texts
 from office.core.model import Register
 from office.core.wording import sentence
-from office.web.frame.guard import needs, parts, person
-from office.web.frame.people import CONFIRM, DRAW, READ
 from office.web.machinery import numbers
 from office.web.machinery import steps as step_store
+from office.web.people.guard import needs, parts, person
+from office.web.people.roles import CONFIRM, DRAW, READ
 from office.web.rounds import again as draws_again
 from office.web.rounds import second as draws_second
 from office.web.rounds.second import Second
@@ -132,9 +132,9 @@ def page(
     return flask.render_template(
         "restore.html", restore=restore, copy=parts().copies.get(restore.copy), rows=rows,
         lost=lost, lost_count=texts.count(len({it.whose for it in lost}),
-                                          "child, school or draw", "children, schools and draws"),
+                                          "child, school or round", "children, schools and rounds"),
         steps=steps_of(restore),
-        history=step_store.history(restore.done),
+        history=step_store.history(restore.states, restore.done),
         reason=reason or trouble, work=work, runs=restore.states[restore.state].runs,
         action=action, button=button,
         why_not=why_not(restore), not_steady=not_steady(restore),

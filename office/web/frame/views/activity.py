@@ -9,7 +9,7 @@ from register_files import Refused
 from werkzeug.wrappers import Response
 
 from office.core import days, texts
-from office.core.kinds import WORK
+from office.core.command_kinds import WORK
 from office.core.model import Register
 from office.core.wording import NOT_A_DAY, day_of, moment
 from office.files import book
@@ -17,14 +17,13 @@ from office.files.book import Page
 from office.web.machinery import tables
 from office.web.machinery.numbers import MOST_DIGITS
 from office.web.machinery.tables import Column
+from office.web.people.guard import needs, parts
+from office.web.people.roles import NOTES
 from office.web.register import entry_words, records
 from office.web.register.entry_words import Names
 from office.web.register.history import ANSWER, SETTLED, Entry
 from office.web.schools import flags
 from office.web.schools.views.schools import attachment
-
-from ..guard import needs, parts
-from ..people import NOTES
 
 screen = flask.Blueprint("activity", __name__, url_prefix="/activity")
 # so many entries are on a page, and in an Excel file
@@ -111,7 +110,7 @@ def known(is_present: bool = False) -> Register | None:
     """The register as it was read last, for the names that it has; or as it is."""
     desk = parts().desk
     try:
-        return desk.copy[1] if desk.copy and not is_present else desk.register()
+        return desk.copy.register if desk.copy and not is_present else desk.register()
     except Refused:
         return None
 

@@ -5,7 +5,7 @@ from typing import Any
 
 import flask
 
-from ..guard import PUBLIC, needs, parts, watch
+from office.web.people.guard import PUBLIC, needs, parts, watch
 
 screen = flask.Blueprint("health", __name__)
 

@@ -10,9 +10,9 @@ import markupsafe
 from werkzeug.wrappers import Response
 
 from office.core import rules, texts
+from office.web.people.guard import SIGNED_IN, needs
 
 from .. import topics
-from ..guard import SIGNED_IN, needs
 from ..topics import Topic
 
 screen = flask.Blueprint("help", __name__)

@@ -3,11 +3,10 @@ import flask
 from register_files import Refused
 
 from office.core import commands, rules
+from office.web.people import guard
+from office.web.people.guard import needs, parts, person
+from office.web.people.roles import LISTS, READ, RECORD
 from office.web.register.desk import DIFFERS, DONE, REFUSED, Away, Command, Result, Seen, seen_by
-
-from .. import guard
-from ..guard import needs, parts, person
-from ..people import LISTS, READ, RECORD
 
 screen = flask.Blueprint("register", __name__)
 JSON, CSV = "application/json", "text/csv"
@@ -43,9 +42,9 @@ def sent(kind: str) -> bytes:
 @screen.get("/register")
 @needs(READ)
 def register() -> flask.Response:
-    """The register. What rests on it may be compared with this copy, so it is kept for that."""
+    """The register."""
     try:
-        return flask.Response(parts().desk.read(True)[1], mimetype=JSON)
+        return flask.Response(parts().desk.whole().document, mimetype=JSON)
     except Away:
         # (the register's own answer says more, where it gives one)
         return passed("/register")
@@ -58,6 +57,7 @@ def draw(number: int) -> flask.Response:
     return passed(f"/draw/{number}")
 
 
+@screen.get("/register/child/<int:number>")
 @screen.get("/child/<int:number>")
 @screen.get("/child/<int:number>/letter")
 @screen.get("/round/<int:number>")
@@ -71,6 +71,14 @@ def see_code(code: str) -> None:
     """Answers that there is no such page, where an address has no code of a school."""
     if not rules.is_code(code):
         flask.abort(404)
+
+
+@screen.get("/register/school/<code>")
+@needs(READ)
+def school(code: str) -> flask.Response:
+    """The entry of a school in the register."""
+    see_code(code)
+    return passed(f"/register/school/{code}")
 
 
 @screen.get("/pairs")

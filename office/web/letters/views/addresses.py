@@ -7,8 +7,8 @@ from office.core import texts
 from office.core.wording import sentence
 from office.files.sheet import Row
 from office.web.frame import uploads
-from office.web.frame.guard import needs, parts, person
-from office.web.frame.people import READ, RECORD
+from office.web.people.guard import needs, parts, person
+from office.web.people.roles import READ, RECORD
 
 from .. import addresses as letters_addresses
 from ..addresses import Addresses

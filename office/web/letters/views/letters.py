@@ -13,16 +13,16 @@ from werkzeug.wrappers import Response
 
 from office.core import days, wording
 from office.core.days import today
-from office.core.model import Register
+from office.core.model import Draw, Register
 from office.core.wording import sentence
-from office.web.frame.guard import needs, of_file, parts, person
-from office.web.frame.people import READ, RECORD
 from office.web.machinery import choices, numbers, tables
 from office.web.machinery.asked import Typed
-from office.work import letter_text
+from office.web.people.guard import needs, of_file, parts, person
+from office.web.people.roles import READ, RECORD
 
-from .. import back
+from .. import taken_back
 from .. import sets as letters_sets
+from .. import text as letter_text
 from .. import whom as letters_whom
 from ..sets import Asked, Set, Twice
 from ..versions import Version
@@ -65,16 +65,21 @@ def page(said: str = "", status: int = 200) -> Answer:
         register = parts().desk.register()
     except Refused as error:
         said, status = sentence(str(error)), 503
-    draws = [(str(it.number), f"{wording.draw_in_words(it)}, {days.in_words(it.day)}")
-             for it in register.draws] if register else []
+    draws = [(str(it.number), titled(it)) for it in register.draws] if register else []
     agreed = parts().letters.audits.agreed(register) if register else set()
     return flask.render_template(
         "letters.html", said=said, is_bad=status != 200, kinds=KINDS, draws=draws[::-1],
         given=flask.request.args, found=parts().letters.listed(), size=parts().letters.bytes_kept(),
         day=flask.request.args.get("day", days.in_words(today())),
         has_sender=bool(parts().letters.sender.number),
-        unaudited=[it for it in register.draws if it.number not in agreed] if register else [],
+        unaudited=[(it.number, wording.draw_in_words(it), titled(it))
+                   for it in register.draws if it.number not in agreed] if register else [],
         may_audit=person().may("draw")), status
+
+
+def titled(draw: Draw) -> str:
+    """A draw with its day."""
+    return f"{wording.draw_in_words(draw)}, {days.in_words(draw.day)}"
 
 
 @screen.get("/whom")
@@ -179,7 +184,7 @@ def asked_in(form: Typed) -> Asked:
     copy = copy or lists.draw(register, found, parts().draws)
     words = lists.words(register, found)
     if len(picked) < len(there):
-        words = f"{words}, {len(picked)} of {len(there)}"
+        words = f"{words}, {len(picked):,} of {len(there):,}"
     return Asked(words, [it for it in there if it in picked], template.template, template.version,
                  day.isoformat(), kind, "double" in form,
                  withdrawn.isoformat() if withdrawn else "", copy, parts().letters.sender.number)
@@ -211,7 +216,7 @@ def set_page(
     return flask.render_template(
         "letters_set.html", it=found, said=said, is_bad=status != 200, template=template_of(found),
         recording=recording(found, day, wrong, sure_of), reason=reason,
-        rests=back.rests(parts().letters, found) if found.sent else "",
+        rests=taken_back.rests(parts().letters, found) if found.sent else "",
         has_example=parts().letters.has_example(found), many=len(letters.rows),
         is_far=is_far(found), may_show=may_show, table=letters,
         pages=tables.pages("letters.one", number=number),
@@ -330,7 +335,7 @@ def take_back(number: int) -> Answer:
     reason = flask.request.form.get("reason", "").strip()
     set_of(number)
     try:
-        back.take_back(parts().letters, person(), number, reason)
+        taken_back.take_back(parts().letters, person(), number, reason)
     except Refused as error:
         return set_page(number, sentence(str(error)), 400, reason)
     return flask.redirect(flask.url_for("letters.one", number=number), 303)
@@ -348,7 +353,8 @@ def audit(number: int) -> Answer:
     except Refused as error:
         return page(sentence(str(error)), 409)
     if not is_right:
-        return page(f"The audit of draw {number} has found a difference: {said}", 409)
+        name = wording.draw_in_words(register.draws[number - 1])
+        return page(f"The audit of {name} has found a difference: {said}", 409)
     return flask.redirect(flask.url_for("letters.show"), 303)
 
 

@@ -4,13 +4,13 @@ from register_files import Refused
 from werkzeug.wrappers import Response
 
 from office.core.wording import sentence
-from office.web.frame.guard import needs, parts, person
-from office.web.frame.people import READ, TEMPLATES
 from office.web.machinery import numbers
-from office.work import letters_apart
-from office.work.letters_apart import Form, Source
+from office.web.people.guard import needs, parts, person
+from office.web.people.roles import READ, TEMPLATES
 
+from .. import apart
 from .. import sender as letters_sender
+from ..apart import Form, Source
 from ..examples import ADDRESS, DAY, EXAMPLES
 from ..sender import FIELDS, Sender, WrongFields
 from .templates import preview_file, templates
@@ -72,4 +72,4 @@ def preview(fields: dict[str, str]) -> int:
     path = preview_file()
     path.unlink(missing_ok=True)
     offer = next(iter(EXAMPLES.values()))
-    return letters_apart.letters(source, [(offer, ADDRESS)], DAY, Form(True), str(path)).pages[0]
+    return apart.letters(source, [(offer, ADDRESS)], DAY, Form(True), str(path)).pages[0]

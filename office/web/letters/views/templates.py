@@ -10,14 +10,14 @@ from werkzeug.wrappers import Response
 
 from office.core.wording import sentence
 from office.web.frame import uploads
-from office.web.frame.guard import needs, parts, person
-from office.web.frame.people import READ, TEMPLATES
 from office.web.machinery import numbers
+from office.web.people.guard import needs, parts, person
+from office.web.people.roles import READ, TEMPLATES
 from office.web.schools import flags
-from office.work import letter_fields, letter_pdf, letters_apart
-from office.work.letters_apart import Form, Source
 
-from .. import versions
+from .. import apart, pdf, versions
+from .. import fields as letter_fields
+from ..apart import Form, Source
 from ..examples import ADDRESS, DAY, EXAMPLES
 from ..sets import PREVIEWS
 from ..versions import Templates, Version
@@ -137,7 +137,7 @@ def preview(source: Source) -> list[int]:
     # (what is shown before it is saved is never to be sent)
     sender = parts().letters.sender
     source = dataclasses.replace(source, values=sender.values(sender.number))
-    return letters_apart.letters(source, [(letter, ADDRESS)], day, Form(True), str(path)).pages
+    return apart.letters(source, [(letter, ADDRESS)], day, Form(True), str(path)).pages
 
 
 def preview_file() -> pathlib.Path:
@@ -171,6 +171,6 @@ def earlier(number: int, version: int) -> Response:
 @needs(READ)
 def fields() -> Answer:
     """What a template can have."""
-    text = pathlib.Path(letter_pdf.TEMPLATE).read_text("utf-8")
+    text = pathlib.Path(pdf.TEMPLATE).read_text("utf-8")
     start, _, _ = text.partition("#}")
     return flask.render_template("letters_fields.html", text=start.removeprefix("{#").strip())

@@ -10,19 +10,18 @@ from werkzeug.wrappers import Response
 from office.core import days, texts
 from office.core.model import Register
 from office.core.wording import day_of, sentence
-from office.web.frame.guard import needs, parts, person
-from office.web.frame.people import CONFIRM, DRAW, LOTS, READ, Person
 from office.web.machinery import numbers
 from office.web.machinery import steps as step_store
 from office.web.parts import Parts
+from office.web.people.guard import needs, parts, person
+from office.web.people.roles import CONFIRM, DRAW, LOTS, READ, Person
 from office.web.schools import flags
 
-from .. import again, page
+from .. import again, before_pause, page
 from .. import audit as draws_audit
 from .. import cancel as draws_cancel
-from .. import checks as draws_checks
 from .. import words as draws_words
-from ..checks import Check
+from ..before_pause import Check
 from ..lots import sheet_of
 from ..page import AGAIN
 from ..terms import BEGUN, MOST_FILLS, OPENED, STATES, Draw
@@ -144,13 +143,13 @@ def draw_page(number: int, reason: str = "", status: int = 200) -> Answer:
     trouble = "" if work else trouble
     checks = checks_of(draw, register)
     to_look_at, checked = page.verdicts_of(draw, register, outcome, changes)
-    agreed = draws_checks.agreed_to(checks)
+    agreed = before_pause.agreed_to(checks)
     return flask.render_template(
         "draw.html", draw=draw, register=register, work=work, kind=draws_words.kind_of(draw.terms),
         about=draws_words.about(draw, register), tags=page.tags_of(found), standing=found.standing,
         reason=reason or trouble, halted="" if reason else draw.trouble,
         decision=page.decision_of(found), by_second=page.OF_SECOND, steps=page.steps_of(found),
-        history=step_store.history(draw.done), checks=checks, agreed=agreed,
+        history=step_store.history(STATES, draw.done), checks=checks, agreed=agreed,
         is_agreed=flask.request.form.get("agreed") == agreed, to_look_at=to_look_at,
         checked=checked, changes=changes, outcome=shown, whole=outcome,
         runs=STATES[draw.state].runs or "a step is done", in_words=page.state_in_words(found),

@@ -4,7 +4,7 @@ decide nothing, and the seal.
 import contextlib
 import dataclasses
 import re
-from collections.abc import Container, Sequence
+from collections.abc import Container, Mapping, Sequence
 from typing import Any
 
 import flask
@@ -12,13 +12,11 @@ from register_files import Refused
 from werkzeug.wrappers import Response
 
 from office.core import texts
-from office.web.frame.guard import needs, parts, person
-from office.web.frame.people import LOTS as RIGHT
 from office.web.machinery import numbers
-from office.work import lot_sheets
+from office.web.people.guard import needs, parts, person
+from office.web.people.roles import LOTS as RIGHT
 
-from .. import again, second
-from .. import sheet as draws_sheet
+from .. import again, lot_sheets, lot_sheets_apart, second
 from ..drafts import Typed
 from ..draws import case_of
 from ..lots import MISSING, MOST_SEED, MOST_TEXT, Cell, Sheet, errors_of_sheet
@@ -72,15 +70,31 @@ def found_sheet(number: int) -> tuple[Draw, Sheet]:
 
 def whole_page(number: int, reason: str = "", status: int = 200, said: str = "") -> Answer:
     """All lots, to be sealed, or as they were sealed."""
-    draw, sheet = found_sheet(number)
+    shown = {**whole_of(*found_sheet(number)), "reason": reason, "said": said}
+    return flask.render_template("lots_one.html", **shown), status
+
+
+def whole_of(draw: Draw, sheet: Sheet) -> dict[str, Any]:
+    """All lots of a draw, as a page shows them."""
     wrong = sheet.wrong()
     text = "" if wrong else sheet.text()
-    return flask.render_template(
-        "lots_whole.html", draw=draw, sheet=sheet, reason=reason, said=said, wrong=wrong,
-        kept=kept_of(draw, sheet),
-        digest="" if wrong else sheet.digest(), head=text.split("\n")[0],
-        first=text.split("\n")[1:2], may_seal=draw.state == LOTS and not wrong,
-    ), status
+    return {
+        "lots": "all", "draw": draw, "sheet": sheet, "reason": "", "said": "", "wrong": wrong,
+        "kept": kept_of(draw, sheet), "digest": "" if wrong else sheet.digest(),
+        "head": text.split("\n")[0], "first": text.split("\n")[1:2],
+        "may_seal": draw.state == LOTS and not wrong,
+    }
+
+
+def waiting() -> dict[str, Any]:
+    """What the first screen has of the lots that the person draws now: the table, or all of them to
+    be sealed, as their own page has them; or nothing.
+    """
+    present = parts().draws.present()
+    if present is None or present.state != LOTS or not_own(present):
+        return {"lots": "", "reason": ""}
+    draw, sheet = parts().lots.sheet(present.number)
+    return table_of(draw, sheet, 1, {}) if sheet.wrong() else whole_of(draw, sheet)
 
 
 def kept_of(draw: Draw, sheet: Sheet) -> set[Cell]:
@@ -122,21 +136,29 @@ def sheet_page(
     draw, sheet = found_sheet(number)
     if draw.state != LOTS:
         return whole_page(number, reason, status)
-    wrong, typed = sheet.wrong(), typed_now() if reason else {}
+    found = table_of(draw, sheet, shown or page_asked(), typed_now() if reason else {})
+    found |= {"said": said, "reason": reason, "errors": errors}
+    return flask.render_template("lots_one.html", **found), status
+
+
+def table_of(
+    draw: Draw, sheet: Sheet, shown: int, typed: Mapping[Cell, Typed],
+) -> dict[str, Any]:
+    """A page of the table of a draw, with what was typed there and not kept."""
+    wrong, kept = sheet.wrong(), kept_of(draw, sheet)
     per_page = max(1, CELLS // draw.terms.fills)
     pages = max(1, -(-len(sheet.rows) // per_page))
-    at = max(1, min(pages, shown or page_asked()))
+    at = max(1, min(pages, shown))
     rows = sheet.rows[per_page * (at - 1):per_page * at]
-    kept = kept_of(draw, sheet)
-    return flask.render_template(
-        "lots_sheet.html", draw=draw, said=said, reason=reason, errors=errors,
-        rows=[row_of(it, wrong, typed, kept) for it in rows], kept=kept, at=at, pages=pages,
-        wrong=wrong,
-        missing=sum(it == MISSING for it in wrong.values()), seeds=sheet.seeds(),
-        ties=sum(it.tie > 0 for it in sheet.rows), count_all=len(sheet.rows),
-        free=free_cells(sheet), most_lot=lot_sheets.MOST_LOT, most_text=MOST_TEXT,
-        most_seed=MOST_SEED,
-    ), status
+    return {
+        "lots": "table", "draw": draw, "said": "", "reason": "", "errors": (),
+        "rows": [row_of(it, wrong, typed, kept) for it in rows], "kept": kept, "at": at,
+        "pages": pages, "wrong": wrong,
+        "missing": sum(it == MISSING for it in wrong.values()), "seeds": sheet.seeds(),
+        "ties": sum(it.tie > 0 for it in sheet.rows), "count_all": len(sheet.rows),
+        "free": free_cells(sheet), "most_lot": lot_sheets.MOST_LOT, "most_text": MOST_TEXT,
+        "most_seed": MOST_SEED,
+    }
 
 
 def said_now() -> str:
@@ -149,7 +171,7 @@ def said_now() -> str:
     if done == "drawn":
         return f"{texts.count(lots, 'lot is', 'lots are')} drawn by the seed."
     if done == "taken" and other >= 0:
-        return f"The file has {texts.count(lots, 'lot')}: {other} new or changed."
+        return f"The file has {texts.count(lots, 'lot')}: {other:,} new or changed."
     return ""
 
 
@@ -171,7 +193,7 @@ def free_cells(sheet: Sheet) -> int:
 
 
 def row_of(
-    row: Any, wrong: dict[Cell, str], typed: dict[Cell, Typed], kept: Container[Cell],
+    row: Any, wrong: dict[Cell, str], typed: Mapping[Cell, Typed], kept: Container[Cell],
 ) -> dict[str, Any]:
     """A row as the page shows it: what was typed, also where it was not kept."""
     cells = []
@@ -245,7 +267,7 @@ def upload(number: int) -> Answer:
     try:
         if not given or not given.filename:
             raise Refused("choose a file")
-        rows, draws = draws_sheet.rows_of(given.read())
+        rows, draws = lot_sheets_apart.rows_of(given.read())
         of = draw.terms.first + fill
         if other := [it for it in draws if it != str(of)]:
             raise Refused(f"the file has lots of draw {texts.shown(other[0])}, and draw {of} is"
@@ -253,13 +275,13 @@ def upload(number: int) -> Answer:
         lots, errors = errors_of_sheet([it.pair for it in sheet.rows], rows)
         if errors:
             count = texts.count(len(errors), "error")
-            return sheet_page(number, reason=f"Nothing was taken: {count} in the file.",
+            return sheet_page(number, reason=f"No lot was added: {count} in the file.",
                               errors=errors[:SHOWN], status=409)
         if not lots:
             raise Refused(f"the file has no lot of {draw.name}")
         changed = parts().lots.take(person(), number, fill, lots)
     except Refused as error:
-        return sheet_page(number, reason=f"Nothing was taken: {error}.", status=409)
+        return sheet_page(number, reason=f"No lot was added: {error}.", status=409)
     return kept(number, "taken", len(lots), changed=changed)
 
 

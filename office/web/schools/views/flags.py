@@ -6,9 +6,9 @@ from werkzeug.wrappers import Response
 from office.core.fields import trimmed
 from office.core.model import Register
 from office.core.wording import sentence
-from office.web.frame import guard
-from office.web.frame.guard import needs, parts
-from office.web.frame.people import READ, RECORD
+from office.web.people import guard
+from office.web.people.guard import needs, parts
+from office.web.people.roles import READ, RECORD
 
 from .. import flags
 

@@ -12,9 +12,10 @@ from office.core import texts
 from office.core.fields import trimmed
 from office.core.rules import LIMITS
 from office.core.wording import Order, classes, label, sentence
-from office.web.frame import guard, uploads
-from office.web.frame.guard import needs, parts, person
-from office.web.frame.people import RECORD
+from office.web.frame import uploads
+from office.web.people import guard
+from office.web.people.guard import needs, parts, person
+from office.web.people.roles import RECORD
 from office.web.register.desk import DONE
 
 from .. import drafts, flags

@@ -9,19 +9,18 @@ import flask
 from register_files import Refused
 from werkzeug.wrappers import Response
 
-from office.core import fields, rules, texts
+from office.core import fields, risks, rules, texts
 from office.core.model import Register, School
 from office.core.wording import KINDS, classes, sentence
 from office.files import book
-from office.web.frame import guard
-from office.web.frame.guard import needs, parts, person
-from office.web.frame.people import DRAW, LISTS, READ, RECORD
-from office.web.lists import home
+from office.web.home import tasks as home
 from office.web.machinery import numbers, pictures, tables
 from office.web.machinery.tables import Column
+from office.web.people import guard
+from office.web.people.guard import needs, parts, person
+from office.web.people.roles import DRAW, LISTS, READ, RECORD
 from office.web.register.desk import Seen, seen_of
 from office.web.rounds.terms import MOST_FILLS
-from office.work import risks
 
 from .. import flags, home_map, intake
 from .. import moves as list_moves
@@ -171,6 +170,9 @@ def list_page(
 ) -> str:
     """A list of a school: what of it is asked for, in order, one page of it."""
     found, name = choice(), "waiting" if title == "Waiting list" else "held"
+    if not places:
+        # (who does not see the places is not told by a choice either)
+        found = dataclasses.replace(found, place="")
     met: dict[str, str] = {str(it.number): it.words for it in sorted(
         rows, key=lambda it: it.number or 0) if it.number is not None}
     asked: dict[str, Any] = {**found.address, "order": flask.request.args.get("order")}
@@ -316,7 +318,7 @@ def raise_number(code: str) -> Answer:
 
 def raise_page(code: str, typed: str | None, said: str = "", status: int = 200) -> Answer:
     """The form, or the question."""
-    register = parts().desk.now()
+    register = parts().desk.register()
     school = school_of(register, code)
     pan, wrong = (0, "") if typed is None else number_of(typed, school)
     is_asked = typed is not None and not wrong
@@ -333,11 +335,11 @@ def do_raise(code: str) -> Answer:
     """A raise that was confirmed."""
     form = flask.request.form
     typed = form.get("pan", "")
-    school = school_of(parts().desk.now(), code)
-    pan, wrong = number_of(typed, school)
+    register = parts().desk.register()
+    pan, wrong = number_of(typed, school_of(register, code))
     seen = Seen(form.get("seen", ""))
     command = {"cmd": "raise_pan", "school": code, "pan": pan}
-    if wrong and seen == seen_of(parts().desk.now(), command):
+    if wrong and seen == seen_of(register, command):
         return raise_page(code, typed)
     try:
         result = parts().desk.send(person(), command, seen)

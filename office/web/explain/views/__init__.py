@@ -1,1 +1,0 @@
-"""The screens of explanations, trials and figures, each with its addresses."""

@@ -1,1 +1,0 @@
-"""The first screen and those of lists, each with its addresses."""

@@ -1,0 +1,1 @@
+"""The screens of people and of signing in, each with its addresses."""
