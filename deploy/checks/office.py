@@ -13,15 +13,15 @@ PYTHON = "/usr/bin/python3"
 MAKE_PEOPLE = """
 import json, pathlib, sys
 sys.path.insert(0, sys.argv[1])
-from office.web.frame import people; from office.web.register import store
+from office.web.people import people, roles; from office.web.register import store
 all_of_them = people.People(store.Store(str(pathlib.Path(sys.argv[2], "office.db"))))
 tokens = {}
 for name, role, password, is_program, is_locked in json.load(sys.stdin):
-    drawn = all_of_them.add(name, role, people.PROGRAM if is_program else people.PERSON)
+    drawn = all_of_them.add(name, role, roles.PROGRAM if is_program else roles.PERSON)
     if is_program:
         tokens[name] = drawn
     else:
-        all_of_them.set_password(people.Person(name, role), drawn, password)
+        all_of_them.set_password(roles.Person(name, role), drawn, password)
     all_of_them.lock(name, is_locked)
 print(json.dumps(tokens))
 """

@@ -6,7 +6,7 @@ import datetime
 import pathlib
 import typing
 
-from office.web.frame import people
+from office.web.people import roles
 from office.web.register import history
 
 from . import answers, copies, files, histories, office_copy
@@ -39,7 +39,7 @@ def application(register: Register) -> typing.Iterator["Parts"]:
 def begin(register: Register, copy: pathlib.Path, others: str = "") -> typing.Iterator[str]:
     """Has the application know that the register is that of a copy, and what came since wait.
     `others` is what else people did since that its own file lacks. Returns lines that say so."""
-    who, since = people.Person(answers.teller(), ""), copies.moment(copy)
+    who, since = roles.Person(answers.teller(), ""), copies.moment(copy)
     with application(register) as parts:
         number = parts.copies.next_number(f"restored by IT support: {copy.stem}", who.name)
     path = register.office_copies / f"office-{number:06}-{since.strftime(copies.TIME)}.db"

@@ -25,7 +25,7 @@ import argparse
 import pathlib
 import tempfile
 
-from office.work import drills
+from office.core import drills
 from register_files import Refused
 
 from . import copies, sealed

@@ -4,7 +4,7 @@ import contextlib
 import datetime
 import typing
 
-from office.web.frame import people
+from office.web.people import people, roles
 from office.web.register import store
 from register_files import Refused
 
@@ -12,8 +12,8 @@ from . import answers, files, office_store
 from .programs import OFFICE
 from .registers import Register
 
-NAME, ROLES, SCHOOL, is_role = people.NAME, people.ROLES, people.SCHOOL, people.is_role
-PERSON = people.PERSON
+NAME, ROLES, SCHOOL, is_role = people.NAME, roles.ROLES, roles.SCHOOL, roles.is_role
+PERSON = roles.PERSON
 User = office_store.Person
 ROLES_TEXT = f"{', '.join(ROLES)}, or {SCHOOL}CODE"
 
@@ -48,7 +48,7 @@ def tell(kept: store.Store, what: str, about: dict[str, str]) -> None:
 def add(register: Register, name: str, role: str) -> str:
     """Adds a person, and returns the drawn password."""
     with opened(register) as (found, kept), kept.writing():
-        tell(kept, "added", {"person": name, "role": role, "kind": people.PERSON})
+        tell(kept, "added", {"person": name, "role": role, "kind": roles.PERSON})
         return found.add(name, role)
 
 
@@ -88,7 +88,7 @@ def remove(register: Register, user: User) -> None:
 
 def set_provider(register: Register, text: str) -> None:
     """Signs people in by the accounts of the authority, as a text of JSON says; or no more."""
-    from office.web.frame import authority
+    from office.web.people import authority
 
     with opened(register) as (_, kept), kept.writing():
         provider = authority.provider_in(text) if text else None
@@ -101,8 +101,8 @@ def see_head(register: Register) -> str:
     """What is missing where nobody can hold a draw or add people; an empty text where somebody
     can."""
     users = users_of(register).values()
-    heads = [it for it in users if it.role == people.HEAD and not it.is_locked]
-    return "" if heads else f"nobody has the role {people.HEAD}, so nobody can hold a draw"
+    heads = [it for it in users if it.role == roles.HEAD and not it.is_locked]
+    return "" if heads else f"nobody has the role {roles.HEAD}, so nobody can hold a draw"
 
 
 def checked_name(text: str) -> str:

@@ -1,16 +1,19 @@
 // @ts-check
 // A part of a page that says how far something is, which has the address of its page as `data-running`: it is read again every few seconds and
-// becomes what it is there, until it has that no more. What is equal stays as it is, and so do the focus, the scroll and what is typed meanwhile.
+// becomes what it is there, until it has that no more; and so does what the frame says is in progress. What is equal stays as it is, and so do the
+// focus, the scroll and what is typed meanwhile.
 // Without this script a link looks again.
 import { asked } from "./asking.js";
 
-const SECONDS = 3;
+const SECONDS = 3, FRAME = "in-progress";
 
 /** @param {HTMLElement} region */
 async function look(region) {
   const request = document.hidden ? null : await asked("GET", region.dataset.running ?? "").catch(() => null);
-  const made = request?.responseXML?.getElementById(region.id);
-  if (made) become(region, made);
+  for (const it of [region, document.getElementById(FRAME)]) {
+    const made = it && request?.responseXML?.getElementById(it.id);
+    if (made) become(it, made);
+  }
   // (somebody who is signed out meanwhile asks no more; a register that is being copied answers again later)
   if ("running" in region.dataset && ![401, 403, 404].includes(request?.status ?? 0)) wait(region);
 }

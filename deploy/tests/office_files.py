@@ -6,7 +6,7 @@ import typing
 
 from machine import office_store, registers
 from office.web.children.notes import Notes
-from office.web.frame.people import PERSON, Person
+from office.web.people.roles import PERSON, Person
 from office.web.register.history import ANSWER, SENDS, History
 from office.web.register.store import Store
 

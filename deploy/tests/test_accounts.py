@@ -9,7 +9,7 @@ import pytest
 from conftest import told, typed
 from machine import network, people, registers, serving
 from machine.verbs import accounts
-from office.web.frame import authority
+from office.web.people import authority
 from register_files import Refused
 
 ACCOUNTS = {"title": "Council account", "issuer": "https://id.example", "client": "admissions",

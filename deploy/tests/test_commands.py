@@ -44,6 +44,18 @@ def test_the_commands_are_those_that_are_installed() -> None:
     assert 'place 755 ../office/command "$prefix/sbin/admissions-admin"' in text
 
 
+def test_an_install_over_an_earlier_version_leaves_no_file_of_it(tmp_path: pathlib.Path) -> None:
+    """The application would find a template that has gone to another folder."""
+    office = tmp_path / "usr/local/share/admissions/office"
+    earlier, same = office / "web/earlier/templates/people.html", office / "web/app.py"
+    for it in (earlier, same):
+        it.parent.mkdir(parents=True, exist_ok=True)
+        it.write_text("")
+    environment = {**os.environ, "DESTDIR": str(tmp_path)}
+    subprocess.run([ROOT / "deploy/install"], env=environment, check=True)
+    assert same.exists() and [it.name for it in same.parent.iterdir()] == ["app.py"]
+
+
 @pytest.mark.parametrize("name", NAMES)
 def test_the_help_fits_a_terminal(name: str, tmp_path: pathlib.Path) -> None:
     """No line is over 80 columns, however wide the terminal is; and none is about sheets."""

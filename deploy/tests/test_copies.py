@@ -30,7 +30,7 @@ from machine import (
     sites,
 )
 from machine.verbs import setup, status
-from office.web.frame import people
+from office.web.people import people
 from office.web.register.store import Store
 from office_files import (
     NO_HASH,

@@ -738,9 +738,12 @@ def test_a_mutant_is_listed_by_what_it_attacks_with_its_edit_and_its_command(pac
         assert it["changes_nothing"] == same
     assert pages["mutants"].count("This edit changes nothing") == len(
         [it for it in found["mutants"] if it["changes_nothing"]])
-    no_clause = {it["name"] for it in found["attacked"]
-                 if it["kind"] == "function" and not it["clauses"]}
-    assert no_clause == {"Criterion::fmt", "RowsFault::from", "Fault::from", "OpenFault::from"}
+    assert not [it["name"] for it in found["attacked"]
+                if it["kind"] == "function" and not it["clauses"]]
+    given = next(it for it in found["attacked"] if it["name"] == "OpenFault::from")
+    assert [(it["name"], it["text"]) for it in given["clauses"]] == [
+        ("from_gives", "λ fault outer. outer ≡ of_rows fault")]
+    assert [it["name"] for it in given["names"]] == ["of_rows"]
     # one of a function that carries a promise, one of a definition that a promise reaches
     clause = next(it for it in found["clauses"]
                   if it["id"] == "adm_types.child_no.ChildNo::new:valid")

@@ -8,7 +8,7 @@ import pytest
 from conftest import Terminal, told, typed
 from machine import answers, people, registers
 from machine.verbs import people as verb
-from office.web.frame import people as office_people
+from office.web.people import people as office_people
 from register_files import Refused
 
 

@@ -144,7 +144,7 @@ def closed(office: Office, draw: Draw, pairs: int) -> None:
     """Recording is paused, copied, and its pairs are given to the supervisor."""
     report, jane = office.report, office.jane
     checks = jane.text("#checks")
-    report.see(f"{pairs} pairs of " in checks, f"pairs: {checks}")
+    report.see(f"{pairs:,} lots" in checks, f"lots: {checks}")
     if jane.has(AGREED):
         jane.press(AGREED, is_new=False)
         office.ticks += 1
@@ -162,10 +162,9 @@ def closed(office: Office, draw: Draw, pairs: int) -> None:
 
 def drawn(office: Office, draw: Draw, pairs: Sequence[Pair], lots: Lots) -> None:
     """The supervisor draws those that decide, the seed the others, and all are sealed."""
-    report, sup = office.report, office.people[SUP]
+    sup = office.people[SUP]
     tied = [pair for group in office.season.ties(pairs) for pair in group]
     at_lots(sup, draw)
-    report.same(sup.title, f"Lots of {draw.name}", "what the supervisor sees")
     sup.see(f"{len(pairs)} lots, one for each child at each school of its list. {len(tied)} ")
     if draw.is_workbook:
         by_workbook(office, sup, draw, {pair: lots[pair][0] for pair in tied})
@@ -179,9 +178,9 @@ def drawn(office: Office, draw: Draw, pairs: Sequence[Pair], lots: Lots) -> None
 
 
 def at_lots(sup: Hands, draw: Draw) -> None:
-    """The supervisor finds on the first screen whose lots are to be drawn."""
-    sup.open("/")
-    sup.press(f"Draw the lots of {draw.name}")
+    """The supervisor finds the lots that are to be drawn on the first screen."""
+    sup.open("/", f"The first screen of the supervisor, {'fills' if draw.school else 'a round'}")
+    sup.report.same(sup.text("#lots-title"), f"Lots of {draw.name}", "what the supervisor sees")
 
 
 def sealed(office: Office, draw: Draw, lots: Lots) -> None:
@@ -264,12 +263,11 @@ def rehearsed(office: Office, draw: Draw, lots: Lots) -> None:
     wanted = sorted((number, child, before.get(child, "none"), school or "none")
                     for number, child, school in got)
     report.same(shown, wanted, f"the outcome of the rehearsal of {draw.name}")
-    hal.open("/")
+    hal.open("/", "The first screen, with a decision")
     office.report.see("A second person has to confirm it." in hal.text(".closed"),
                       f"hal is not told whose turn it is: {hal.text('.closed')}")
-    hal.press(f"To {draw.name}")
     decided = hal.text("#next")
-    for said in ("works out the same", "since the applications were stored", "Two people are",
+    for said in ("works out the same", "since the applications were added", "Two people are",
                  f"Confirming gives no place yet: {draw.name} is run next, by"):
         report.see(said in decided, f"before the button to confirm: {said!r} in {decided}")
     hal.press(f"Confirm {draw.name}")

@@ -1,9 +1,9 @@
 """A person at a browser. What they press and type is counted, and each screen that they see is
 looked at: its width on a small screen, and what the browser's console says.
 
-A click is a press of a button, of a link, of a box or of a file field, by mouse or by key; a click
-into a field, to type there, is counted apart. A key is each key that is pressed, also Enter in a
-field, which sends its form.
+A click is a press of a button or of a link, by mouse or by key, or of a box or of a file field by
+mouse; a click into a field, to type there, is counted apart. A key is each key that is pressed,
+also Enter in a field, which sends its form.
 """
 import base64
 import contextlib
@@ -176,6 +176,7 @@ class Hands:
         for _ in range(MOST_TABS):
             self.key(*held, Keys.TAB)
             if self.driver.execute_script(FOCUSED) == text:
+                self.report.counts.clicks += 1
                 return self.enter()
         raise Stopped(f"{self.who} at '{self.title}' does not come to {text!r} by Tab")
 

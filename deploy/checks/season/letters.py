@@ -80,7 +80,7 @@ def to_offered(office: Office, draw: int) -> None:
     offered = dict(sorted((it, season.places[it]) for it in season.offers))
     office.report.step(f"letters to {len(offered)} children with an offer of draw {draw}")
     hal.go("Offers", "Letters")
-    hal.pick("Draw, for letters about a draw", f"round {draw}", f"round {draw}")
+    hal.pick("Round or offer, for letters about its result", f"round {draw}", f"round {draw}")
     hal.tab_to("Day, for letters about a day")
     hal.enter()
     wanted = {it: [f"A place at {NAMES[code]} is offered to {season.children[it].name}.",
@@ -141,33 +141,46 @@ def due(office: Office, kind: str, day: datetime.date, children: Iterable[int],
     title, one = (("Withdrawals of offers", "withdrawal") if kind == "lapse" else
                   ("Reminders", "reminder"))
     to_due(office, kind, day)
+    many = f"{len(wanted)} {one}{'s' * (len(wanted) != 1)}"
+    button = f"Record {many} of {in_words(day)}"
+    # (where all are ticked today, their question comes first)
+    if hal.title != button:
+        ticked(office, kind, {it: (season.children[it].name, season.places[it])
+                              for it in sorted([*wanted, *out])}, out, f"{title} of {day}")
+    for it in wanted:
+        code = season.places[it]
+        hal.see(f"child {it}, {season.children[it].name}: {code} {NAMES[code]}")
+    for it in out:
+        report.see(f"child {it}," not in hal.main, f"child {it} is named, which was not ticked")
+    hal.press(button)
+    until(lambda: "The rest is being recorded" not in hal.main, "all are recorded")
+    hal.see(f"{len(wanted)} of {many} recorded.")
+
+
+def ticked(office: Office, kind: str, listed: Mapping[int, tuple[str, str]],
+           out: Iterable[int], name: str) -> None:
+    """From the list of those that are due, with their names and schools, to the question about
+    them, but for some who are taken out.
+    """
+    hal, is_all = office.people[HAL], True
     shown = {int(row[1]): (row[2], row[3]) for row in hal.captioned("Due on")}
-    report.same(shown, {it: (season.children[it].name, season.places[it])
-                        for it in sorted([*wanted, *out])}, f"who is due: {title} of {day}")
+    office.report.same(shown, dict(listed), f"who is due: {name}")
     if kind == "lapse":
         # (nobody's offer is to be withdrawn until somebody says so)
         hal.press("Tick all")
     for it in out:
         hal.tab_to(f"Child {it}")
         hal.key(Keys.SPACE)
-    if out:
-        hal.press_by_keys("Check what is ticked")
-    else:
+        is_all = False
+    if is_all:
         hal.press("Check what is ticked")
-    for it in wanted:
-        code = season.places[it]
-        hal.see(f"child {it}, {season.children[it].name}: {code} {NAMES[code]}")
-    for it in out:
-        report.see(f"child {it}," not in hal.main, f"child {it} is named, which was not ticked")
-    many = f"{len(wanted)} {one}{'s' * (len(wanted) != 1)}"
-    hal.press(f"Record {many} of {in_words(day)}")
-    until(lambda: "The rest is being recorded" not in hal.main, "all are recorded")
-    hal.see(f"{len(wanted)} of {many} recorded.")
+    else:
+        hal.press_by_keys("Check what is ticked")
 
 
 def to_due(office: Office, kind: str, day: datetime.date) -> None:
-    """From the first screen to the list of those that are due today. On another day, where that
-    cannot be today, by its address.
+    """From the first screen to those that are due today, or to the question about all of them. On
+    another day, where that cannot be today, by its address to their list.
     """
     hal = office.people[HAL]
     if not office.clock:

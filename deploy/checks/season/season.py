@@ -12,9 +12,9 @@ from .office import ABBEY, HAL, RITA, SUP, Clock, Office
 from .report import Report, Stopped
 from .site import Site
 
-# what a season should cost in clicks; and how often what looks wrong is said to be right where the
-# draws are held on another day than that of the office: once for each
-AIM, TICKS = 60, 6
+# what a season costs in clicks, at most; and how often what looks wrong is said to be right where
+# the draws are held on another day than that of the office: once for each
+MOST, TICKS = 75, 6
 # the school at which vacancies are filled, and how many; and so many days after the offer day are
 # the fills and the second round
 SCHOOL, FILLS, AFTER_FILLS, AFTER_SECOND = "A", 3, 21, 56
@@ -40,9 +40,9 @@ def hold(site: Site, first: tuple[str, str], folder: pathlib.Path,
             report.see(False, f"the season stops: {error}")
     ticks = 1 if clock else TICKS
     report.see(office.ticks <= ticks, f"{office.ticks} ticks, and not {ticks}")
-    total, most = report.counts.clicks, sum(most for _, most in STEPS) + ticks
-    report.step(f"the end of the season: at most {most} clicks; the aim is {AIM}")
-    report.see(total <= most, f"{total} clicks, and not {most}")
+    total = report.counts.clicks
+    report.step(f"the end of the season: at most {MOST} clicks")
+    report.see(total <= MOST, f"{total} clicks, and not {MOST}")
     return report
 
 
@@ -120,9 +120,8 @@ def other_screens(office: Office) -> None:
     office.people[SUP].open("/")
 
 
-# the steps, each with the clicks that its screens ask for. Who has typed in a form goes on by the
-# keyboard there. (A tick that what looks wrong is right is beside these: it is asked for on another
-# day than that of the draw.)
+# the steps, each with the clicks that its screens ask for. (A tick that what looks wrong is right
+# is beside these: it is asked for on another day than that of the draw.)
 STEPS: tuple[tuple[Callable[[Office], None], int], ...] = (
     (beginning.first_sign_in, 0),
     # the file on the first screen, and the question, which asks for the words of flags too
@@ -138,32 +137,34 @@ STEPS: tuple[tuple[Callable[[Office], None], int], ...] = (
     (applications.corrected, 1),
     # (the last correction has led to the question)
     (applications.stored, 1),
-    # the screen, the question, and its answer
-    (applications.plans, 3),
-    # for the head of the office the screen, the close and the run; for the officer the round and
-    # the confirmation; for the supervisor the lots, the seal, and the sheet and its file
-    (first_round, 9),
-    # the screen
-    (letterhead, 1),
+    # the screen, what is added, the question, and its answer
+    (applications.plans, 4),
+    # for the head of the office the screen, the close and the run; for the officer the
+    # confirmation; and for the supervisor the seal, and the sheet and its file: both have them on
+    # the first screen
+    (first_round, 7),
+    # the screen, and what is saved
+    (letterhead, 2),
     # the screen, the file, and the record
     (offers, 3),
-    # the screen: all else is done by the keyboard
-    (first_answers, 1),
-    # what is due, what is recorded, the record; the letters' file, and their record
-    (reminders, 5),
-    (fills, 7),
-    # the same without what is recorded, which the keyboard shows, and the ticks
-    (withdrawals, 5),
-    # the wrong draw (7) and two answers with their question (3); the page that undoes it, the
+    # the screen, the question, and its answer
+    (first_answers, 3),
+    # what is due, which leads to the question if it is of today, and its answer; the letters' file,
+    # and their record
+    (reminders, 4),
+    (fills, 5),
+    # what is due, the ticks, what is ticked, and the answer; the letters' file, and their record
+    (withdrawals, 6),
+    # the wrong draw (5) and two answers with their question (3); the page that undoes it, the
     # close, the question, and for the officer the restore and its confirmation (5); the draw again
-    # (6 and the seal of all lots); and the answer to its offer (2)
-    (second_round, 23),
-    # the screen, and the file
-    (ending.figures, 2),
-    # the reason, its PDF, and the screen of other lists
-    (ending.question, 3),
+    # (3 and the seal of all lots); and the answer to its offer (2)
+    (second_round, 19),
+    # the screen, what is made, and the file
+    (ending.figures, 3),
+    # the reason, its PDF, the screen of other lists, and the answer
+    (ending.question, 4),
     (other_screens, 0),
-    # the screen
-    (ending.archived, 1),
+    # the screen, and what is made
+    (ending.archived, 2),
     (ending.deleted, 1),
 )

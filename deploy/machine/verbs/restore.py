@@ -24,7 +24,7 @@ import datetime
 import os
 import pathlib
 
-from office.work import drills
+from office.core import drills
 from register_files import Refused
 
 from .. import (

@@ -366,7 +366,7 @@ def next_of(timer: str) -> str:
 def people_of(register: Register) -> State:
     """Whether somebody can sign in to the application, and among them a head of the office."""
     # (with argon2, which nothing else here needs)
-    from office.web.frame.people import HEAD, PERSON
+    from office.web.people.roles import HEAD, PERSON
 
     if register.host is None and not had_site(register):
         return True, "it has no site"
