@@ -15,6 +15,9 @@ TRAIT = re.compile(r"([A-Z]\w*)(?:<.*>)?$")
 # what may come after a clause or a signature: another clause, or the body
 GOES_ON = re.compile(r"\s*(?:(?:requires|ensures|ghost)\b|\{)")
 HEAD_END = re.compile(r"(?:\n *)+(?:requires|ensures|\{)|\s\{\s|;\n")
+# what the implementation of a trait of the toolchain says of its method: what a conversion gives,
+# and what is printed
+GIVEN = re.compile(r"ghost (from_gives|output) = \{ (.*?) \};", re.DOTALL)
 REFUSED_AT = re.compile(r"\b(src/[\w/]+\.rt):(\d+):\d+")
 
 
@@ -146,8 +149,15 @@ class Planted:
         bare = self.reference.blank(text, "//")
         head = HEAD_END.search(bare, part.start)
         one = self.reference.Item(crate=crate, anchor="", bound=[])
+        scope = self.reference.Scope(text)
         found = list(self.project.read_clauses(
-            one, text, bare, head.start() if head else len(bare), self.reference.Scope(text)))
+            one, text, bare, head.start() if head else len(bare), scope))
+        if part.trait and (said := GIVEN.search(bare, bare.rfind("\nimpl", 0, part.start),
+                                                part.start)):
+            content = " ".join(text[said.start(2):said.end(2)].split())
+            found.append(self.reference.Item(
+                crate=crate, anchor="", kind="ensures", name=said[1], text=content, bare=content,
+                line=text.count("\n", 0, said.start()) + 1, scope=scope, bound=[], sentence=""))
         for it in found:
             it.names = list(dict.fromkeys(used for _, _, used in self.project.named(it)))
         return found

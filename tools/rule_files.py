@@ -17,12 +17,11 @@ import source_rules
 
 RULES, WORDS = Path("office/rules.json"), Path("office/words.json")
 PAGE, FORMATS = Path("docs/reference/ERRORS.md"), Path("docs/reference/FORMATS.md")
-# the groups of words, and how the table of each begins
+# groups of words, and how the table of each begins
 TITLES = {
     "refusals": "| Refusal | Meaning | What to do |",
     "faults": "| Error of a line | Meaning | What to do |",
     "row_faults": "| Error of a row | Meaning | What to do |",
-    "kinds": "| Field | Must be |",
 }
 COMMANDS = "| `cmd` | Fields, in the order in which they are checked |"
 LIMITS = "| Limit | Least | Most |"
@@ -34,14 +33,10 @@ KINDS = {
 }
 
 
-def kinds_of(document: dict[str, Any]) -> dict[str, list[str]]:
-    """The kinds of the fields of commands, each with the fields that are of it."""
-    kinds: dict[str, list[str]] = {}
-    for field in (it for listed in document["commands"].values() for it in listed):
-        names = kinds.setdefault(field["kind"], [])
-        if field["field"] not in names:
-            names.append(field["field"])
-    return kinds
+def kinds_of(document: dict[str, Any]) -> list[str]:
+    """The kinds of the fields of commands, in their order."""
+    return list(dict.fromkeys(
+        field["kind"] for listed in document["commands"].values() for field in listed))
 
 
 def wrong_words(document: dict[str, Any], words: dict[str, Any]) -> Iterator[str]:
@@ -91,10 +86,6 @@ def tables(document: dict[str, Any]) -> dict[str, list[str]]:
         f"| {anchor('row_faults', name)}`fault: row N: {name}` ({number}) |"
         f" {' | '.join(rules.in_words('row_faults', name))} |"
         for name, number in document["row_faults"].items()
-    ]
-    made[TITLES["kinds"]] = [
-        f"| {', '.join(f'`{it}`' for it in names)} | {rules.kind_in_words(kind)} |"
-        for kind, names in kinds_of(document).items()
     ]
     return made
 
