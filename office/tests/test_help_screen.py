@@ -75,10 +75,10 @@ def test_a_page_without_a_topic_leads_to_all_of_them(jane: Browser) -> None:
     assert jane.get("/help/no-such-topic").status_code == 404
 
 
-def test_each_topic_is_in_the_contents_of_the_handbook_and_of_the_help(jane: Browser) -> None:
+def test_the_handbook_lists_its_groups_and_the_help_each_topic(jane: Browser) -> None:
     book = topics.HANDBOOK.read_text("utf-8")
     listed = LINK.findall(book.partition("## Contents")[2].partition("\n## ")[0])
-    assert [f"#{it}" for it in topics.topics()] == listed
+    assert [f"#{topics.name_of(it)}" for it in topics.groups()] == listed
     shown = ADDRESS.findall(jane.get("/help/").text.partition("<main>")[2])
     assert [f"/help/{it}" for it in topics.topics()] == shown[:-1] and shown[-1] == "/help/refusals"
 
