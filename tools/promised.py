@@ -125,14 +125,16 @@ class Promised:
         neither."""
         rules = [(row, found) for row, found in self.rows if self.is_of_code(row)]
         rest = table(section(self.reference.GUARANTEES, CODE), LEFT)
+        tests = dict(table(section(self.reference.ROWS, "Only tested"), LEFT))
         if len(rules) != len(rest):
             raise Refused(f"{self.reference.GUARANTEES}: {len(rules)} rules of the Code, and of"
                           f" {len(rest)} it is said what is not proved")
         out = []
-        for (row, found), (words, tested, neither) in zip(rules, rest):
+        for (row, found), (words, neither) in zip(rules, rest):
             if words not in row.cells[0]:
                 raise Refused(f"{row.where}: this rule has no '{words}', as the row that says what"
                               " of it is not proved")
+            tested = tests.get(words, "")
             names = re.findall(r"`([^`]+)`", tested)
             if not names or not neither:
                 raise Refused(f"{row.where}: no test is named for this rule, or nothing remains")

@@ -1023,7 +1023,7 @@ SIZES = "`cases/sizes`, `cases/children`"
      "this row names no test: a call that always reports Memory"),
     ("docs/trust/GUARANTEES.md", "| ranked again |", "| ordered again |",
      "this rule has no 'ordered again'"),
-    ("docs/trust/GUARANTEES.md", "`office/tests/test_lists.py` |", "the tests |",
+    ("tools/promises.md", "`office/tests/test_lists.py` |", "the tests |",
      "no test is named"),
     ("docs/trust/GUARANTEES.md", "### All or nothing\n", "", "confirmed: these are not the first"),
     ("docs/trust/GUARANTEES.md", "by the same lots, by declining its place first.",
