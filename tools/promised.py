@@ -10,8 +10,7 @@ from claims import LIMIT, TABLE, Carrier, Claims, Sentence, Unclear, named, sent
 from page_text import Refused, parts, plain, points, section, table
 from premises import Premise, Premises
 
-README, CODE = Path("README.md"), "The rules of the Code"
-LEFT = "Of the rule on the .."
+README = Path("README.md")
 # the definitions that say what a clause assumes where one of its premises reaches them
 ASSUMED = ("SuccessiveRuns.HavePagesOf",)
 # where the source gives a paragraph of the Code, or a section
@@ -65,13 +64,13 @@ class Promised:
 
     def said(self, row: Any) -> str:
         """What a row promises: of a rule of the Code, what holds here."""
-        cells = [row.cells[1], row.cells[3]] if self.is_of_code(row) else [row.cells[0]]
+        cells = row.rule[1:3] if self.is_of_code(row) else [row.cells[0]]
         return " ".join(plain(it) for it in cells if it)
 
     @staticmethod
     def is_of_code(row: Any) -> bool:
         """Whether a row is a rule of the Code, with what holds of it here."""
-        return len(row.titles) > 3 and row.titles[0] == "The Code"
+        return hasattr(row, "rule")
 
     def of_row(self, row: Any) -> Sentence:
         """What a row says, with its clauses."""
@@ -123,22 +122,13 @@ class Promised:
     def code(self) -> list[dict[str, Any]]:
         """The rules of the Code, each with what is proved of it, what is only tested, and what is
         neither."""
-        rules = [(row, found) for row, found in self.rows if self.is_of_code(row)]
-        rest = table(section(self.reference.GUARANTEES, CODE), LEFT)
-        tests = dict(table(section(self.reference.ROWS, "Only tested"), LEFT))
-        if len(rules) != len(rest):
-            raise Refused(f"{self.reference.GUARANTEES}: {len(rules)} rules of the Code, and of"
-                          f" {len(rest)} it is said what is not proved")
         out = []
-        for (row, found), (words, neither) in zip(rules, rest):
-            if words not in row.cells[0]:
-                raise Refused(f"{row.where}: this rule has no '{words}', as the row that says what"
-                              " of it is not proved")
-            tested = tests.get(words, "")
+        for row, found in (it for it in self.rows if self.is_of_code(it[0])):
+            tested, neither = row.cells[-1], row.rule[-1]
             names = re.findall(r"`([^`]+)`", tested)
             if not names or not neither:
                 raise Refused(f"{row.where}: no test is named for this rule, or nothing remains")
-            given = PARAGRAPHS.findall(" ".join((*row.cells, tested, neither)))
+            given = PARAGRAPHS.findall(" ".join((*row.rule, tested)))
             out.append({
                 "rule": plain(PARAGRAPHS.sub("", row.cells[0])).strip(), "promise": row.number,
                 "paragraphs": given[0] if given else "", "sections": self.sections(row),

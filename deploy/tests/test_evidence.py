@@ -1021,7 +1021,7 @@ SIZES = "`cases/sizes`, `cases/children`"
      "the test `cases/lengths`, which is not there"),
     ("tools/promises.md", "| each case in which it succeeds; `desk_runs` |", "| each case |",
      "this row names no test: a call that always reports Memory"),
-    ("docs/trust/GUARANTEES.md", "| ranked again |", "| ordered again |",
+    ("tools/promises.md", "| ranked again |", "| ordered again |",
      "this rule has no 'ordered again'"),
     ("tools/promises.md", "`office/tests/test_lists.py` |", "the tests |",
      "no test is named"),
