@@ -1061,6 +1061,17 @@ def test_a_history_that_was_changed_is_refused(tmp_path: pathlib.Path) -> None:
     assert [it.who for it in history.read(str(path))] == ["jane"] * 5 + ["bo"]
 
 
+def test_whatever_a_program_sends_the_history_is_read_again(office: Site) -> None:
+    """With what followed: no row of an import leaves the file other than what is known of it."""
+    portal, record = office.program("sender"), office.parts.history
+    rows = "child,name,east,north,looked_after,flags,siblings,day,preferences\n{},A,1,1,no,,,x,A\n"
+    for number in ("9" * 5_000, "1" * 400, "\u0661" * 5_000, "\0", f'"{"1" * 200_000}"'):
+        found = portal.post("/import", rows.format(number), "text/csv")
+        assert found.status_code in (400, 409), found.text
+    assert history.read(record.path) == record.entries
+    assert sum(it.what == history.SENDS for it in record.entries) == 5
+
+
 def test_a_history_that_is_broken_is_said_without_its_path(tmp_path: pathlib.Path) -> None:
     """An officer reads it: no screen names a path."""
     found = history.History(str(tmp_path / "history.jsonl"))

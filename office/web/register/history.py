@@ -10,7 +10,7 @@ import hashlib
 import json
 import os
 import threading
-from collections.abc import Callable, Iterator, Mapping
+from collections.abc import Callable, Iterable, Iterator, Mapping
 from typing import Any
 
 from register_files import OWNER_ALONE, Refused
@@ -24,6 +24,8 @@ FIRST = "0" * 64
 SENDS, ANSWER, SETTLED = "sends", "answer", "settled"
 # the register is that of a copy from here on: the copy, and the last entry from before it
 RESTORED = "restored a copy"
+# with more digits a text is the number of no child
+MOST_DIGITS = 9
 
 
 @dataclasses.dataclass(frozen=True)
@@ -90,8 +92,9 @@ def numbers_in(about: Mapping[str, Any]) -> Iterator[int]:
     rows = effects.rows_of(found["import"]) if "import" in found else ()
     for it in (found.get("child"), found.get("number") if is_row else None,
                *(many if isinstance(many, list) else ()), *(row.get("child") for row in rows)):
-        if str(it).isdecimal():
-            yield int(str(it))
+        text = str(it)
+        if text.isdecimal() and len(text) <= MOST_DIGITS:
+            yield int(text)
 
 
 def read(name: str) -> list[Entry]:
@@ -149,7 +152,7 @@ class History:
         whole = data[:data.rfind(b"\n") + 1]
         found, self.before = entries_of(self.path, whole)
         for it in found:
-            self.take(it)
+            self.take(it, set(numbers_in(it.about)))
         self.length = len(whole)
         if whole != data:
             os.ftruncate(self.fd, self.length)
@@ -175,14 +178,16 @@ class History:
             # (as it is read again: a key that is a number would be another one then)
             kept = json.loads(json.dumps(about))
             entry = Entry(len(self.entries) + 1, self.moment(), who, what, kept)
-            line = entry.line(self.before)
+            # (before it is written: what cannot be read of an entry would leave the file ahead of
+            # this, and the next line with a wrong digest)
+            line, children = entry.line(self.before), set(numbers_in(kept))
             try:
                 self.write(line)
             except OSError as error:
                 self.take_back()
                 raise Refused(f"the history cannot be written ({error.strerror}), and nothing is"
                               " recorded without it") from error
-            self.take(entry)
+            self.take(entry, children)
             self.before, self.length = digest(line), self.length + len(line)
             self.added()
             return entry
@@ -202,12 +207,12 @@ class History:
         except OSError:
             self.is_broken = True
 
-    def take(self, entry: Entry) -> None:
-        """Adds an entry to those in memory."""
+    def take(self, entry: Entry, children: Iterable[int] = ()) -> None:
+        """Adds an entry, which is about these children, to those in memory."""
         self.entries.append(entry)
         if "told" in entry.about:
             self.told.add(entry.about["told"])
-        for child in set(numbers_in(entry.about)):
+        for child in children:
             self.about.setdefault(child, []).append(entry.number)
         if entry.what == RESTORED:
             self.restores.append((entry.number, entry.about["position"]))
