@@ -14,6 +14,7 @@ from collections.abc import Iterator
 import pytest
 from applications import ROUND, SCHOOLS, Browser, Site, child, office_over, town
 from pages import Page, press
+from staged import Screens, csv_of
 
 from office.web.machinery.outbox import Outbox
 from office.web.people.roles import Person
@@ -237,6 +238,21 @@ def test_a_child_is_known_by_its_whole_number_and_not_by_its_name(
             for kind in ("note", "file", "unread", "form"):
                 got = set(re.findall(rf"\b{kind}-(\d+)\.", text))
                 assert got == {str(number)}, (number, kind, got)
+
+
+def test_the_name_of_a_file_may_look_like_rows(tmp_path: pathlib.Path) -> None:
+    """Millions that it seems to name are not gone through, and its own row is found."""
+    name = "a; 1 to 9999999 of b.csv"
+    with office_over(tmp_path, [*SCHOOLS, child(1, "Ada Abel", 100)]) as office:
+        jane = office.browser("jane")
+        screens = Screens(jane)
+        rows = [f"{it},Ada Abel,0,100,no,,,2024-10-20,A," for it in (2, 1)]
+        assert screens.add((name, csv_of(*rows))).status_code == 303
+        for it in screens.see().rows():
+            assert screens.withdraw(it).status_code == 303
+        found = jane.get("/children/1/held.json").json["history"]
+        assert [it["about"] for it in found if it["what"] == "withdrew applications"] == [
+            {"rows": f"3 of {name}"}]
 
 
 def test_who_asked_is_on_record_before(office: Site) -> None:

@@ -40,6 +40,8 @@ FORM = ""
 PLACE = re.compile(r"(?:form|row) (\d+)(?: of (.*))?", re.S)
 PATH = re.compile(r"/children/(\d+)(?:/|$)")
 IN_LINE = re.compile(r'"child"\s*:\s*"?(\d+)')
+# the rows that a text names of a file, as `3, 5 to 9 of a.csv; 2 of b.csv`
+SPANS, SPAN = "(?:^|; )([0-9, to]+) of {}(?=; |$)", re.compile("([0-9]+)(?: to ([0-9]+))?")
 
 
 class Rows(Protocol):
@@ -122,14 +124,11 @@ def texts_in(value: object) -> Iterator[str]:
             yield from texts_in(it)
 
 
-def places_in(text: str) -> set[tuple[str, int]]:
-    """The rows that a text of the history names, as `3, 5 to 9 of a.csv; 2 of b.csv`."""
-    found = set[tuple[str, int]]()
-    for part in text.split("; "):
-        spans, _, name = part.partition(" of ")
-        for first, last in re.findall(r"(\d+)(?: to (\d+))?", spans):
-            found.update((name, it) for it in range(int(first), int(last or first) + 1))
-    return found
+def has_row(text: str, name: str, number: int) -> bool:
+    """Whether a text of the history names a row of a file, whose name may look like rows too."""
+    return any(int(first) <= number <= int(last or first)
+               for spans in re.findall(SPANS.format(re.escape(name)), text)
+               for first, last in SPAN.findall(spans))
 
 
 def command_of(entry: Entry, known: Known) -> dict[str, Any] | None:
@@ -168,7 +167,8 @@ def step_of(about: Mapping[str, Any], known: Known) -> dict[str, Any] | None:
     if about.get("set") in known.sets:
         return {name: it for name, it in about.items() if name != "for"}
     if isinstance(about.get("rows"), str):
-        mine = sorted(it for it in places_in(about["rows"]) if known.places.get(it))
+        mine = sorted(it for it, is_mine in known.places.items()
+                      if is_mine and has_row(about["rows"], *it))
         return {"rows": "; ".join(f"{at} of {name}" for name, at in mine)} if mine else None
     path = PATH.search(str(about.get("asked", "")))
     if path:
