@@ -124,12 +124,13 @@ def test_a_body_that_is_too_long_is_refused(
 
 
 BLANKS = " " * 7_700
-UNREADABLE = "the form cannot be read: send it again by a page of this site"
+UNREADABLE = ("the form cannot be read: send it again by a page of this site. if it has a file,"
+              " give the file a short name first")
 
 
-def part(headers: str) -> bytes:
+def part(headers: str, text: str = "x") -> bytes:
     """A form of one part."""
-    return f"--B\r\n{headers}\r\n\r\nx\r\n--B--\r\n".encode()
+    return f"--B\r\n{headers}\r\n\r\n{text}\r\n--B--\r\n".encode()
 
 
 @pytest.mark.parametrize("name, value", [
@@ -159,8 +160,11 @@ def test_a_header_that_no_browser_sends_is_refused_unread(
     f"Content-Disposition: form-data; name=\"a\"; filename=\"a{' ' * 20}.csv\"",
     "Content-Disposition: form-data;" + "\r\n\t" * 20 + "=",
     "Content-Disposition: form-data; name=\"a\"; filename*=nocodec''a.csv",
-    "Content-Disposition: form-data; name=\"a\"; filename*0 =unicode_escape''\\ud800.csv"],
-    ids=["longest", "long", "name", "file", "lines", "encoding", "other"])
+    "Content-Disposition: form-data; name=\"a\"; filename*0 =unicode_escape''\\ud800.csv",
+    "Content-Disposition: form-data", "Content-Disposition: form-data; name",
+    "Content-Disposition: form-data; filename=\"a.csv\""],
+    ids=["longest", "long", "name", "file", "lines", "encoding", "other", "no name", "blank name",
+         "file without a name"])
 @pytest.mark.parametrize("path", ["/sign-in", "/people/", "/answers/several"])
 def test_a_part_with_headers_that_no_browser_sends_is_refused_unread(
     office: Site, jane: Browser, path: str, headers: str
@@ -172,6 +176,37 @@ def test_a_part_with_headers_that_no_browser_sends_is_refused_unread(
             data=part(headers), content_type="multipart/form-data; boundary=B")
         assert found.status_code == 400, (path, headers[:40])
         assert UNREADABLE in Page(found.text).text.lower()
+
+
+def test_a_boundary_within_a_line_is_refused(jane: Browser) -> None:
+    """What follows it would be looked through again with each part that is read: 16 MB for half a
+    minute, in which nobody else is answered. A browser takes one that is in no file.
+    """
+    headers = 'Content-Disposition: form-data; name="file"; filename="a.pdf"'
+    for size, is_taken in ((100_000, True), (1_000_000, False)):
+        found = jane.client.post(
+            "/children/1/files", base_url=ORIGIN, headers={"Origin": ORIGIN, "Accept": "text/html"},
+            data=part(headers, f"a\r--B within{'a' * size}"),
+            content_type="multipart/form-data; boundary=B")
+        # (whoever sends no secret of a form has it refused once it is read)
+        assert (found.status_code, UNREADABLE in Page(found.text).text.lower()) == (
+            (403, False) if is_taken else (400, True)), size
+
+
+@pytest.mark.parametrize("kind, status", [
+    ("application/x-www-form-urlencoded", 413), ("application/x-url-encoded", 403),
+    ("application/X-Url-Encoded; charset=utf-8", 403)])
+def test_a_form_of_many_fields_is_read_by_no_other_name(
+    office: Site, jane: Browser, kind: str, status: int
+) -> None:
+    """A library knows two names of forms: by the one that browsers send, their fields are counted,
+    and by the other none is read. Nobody's, and an officer's.
+    """
+    for client, most in ((office.app.test_client(), 500), (jane.client, 30_000)):
+        found = client.post("/sign-in", base_url=ORIGIN, headers={"Origin": ORIGIN},
+                            data=b"&a=" * most + b"&name=jane&password=x", content_type=kind)
+        assert found.status_code == status, (kind, most)
+        assert 'value="jane"' not in found.text
 
 
 def test_a_file_of_a_long_name_with_blanks_is_taken(jane: Browser) -> None:

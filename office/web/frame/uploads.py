@@ -14,7 +14,7 @@ from werkzeug import formparser
 from werkzeug.datastructures import FileStorage, Headers
 from werkzeug.exceptions import BadRequest, RequestEntityTooLarge
 from werkzeug.formparser import FormDataParser
-from werkzeug.sansio.multipart import MultipartDecoder
+from werkzeug.sansio.multipart import Event, Field, File, MultipartDecoder
 
 from office.core import model, plain, turns
 from office.core.model import Register
@@ -33,7 +33,7 @@ REGISTER = b"SQLite format 3\0"
 LARGE, MOST_LARGE = "/applications/gazetteer/file", gazetteer_rows.MOST_BYTES + (1 << 16)
 # a form has a field for each child of a set of letters, and some more. Each costs some
 # microseconds, and a body of the size of an Excel file could have millions
-FORM, MOST_FIELDS = "application/x-www-form-urlencoded", 30_000
+FORM, FILES, MOST_FIELDS = "application/x-www-form-urlencoded", "multipart/form-data", 30_000
 # who records nothing and seals no lots sends ticks and words
 SMALL_BYTES, SMALL_FIELDS = 1_000_000, 2_000
 # a longer form costs some times its size, so few are read at once
@@ -51,7 +51,11 @@ COOKIES, MOST_HEADER, RUN = "HTTP_COOKIE", 200, re.compile(r"\s{3}")
 ENCODED = r"\*\d*\s*="
 # the headers of a part of a form: with the name of a file, which may have some blanks
 MOST_PART, PART_WRONG = 2_000, re.compile(rf"\s{{20}}|{ENCODED}")
-UNREADABLE = "the form cannot be read: send it again by a page of this site"
+UNREADABLE = ("the form cannot be read: send it again by a page of this site. If it has a file,"
+              " give the file a short name first")
+# what cannot be taken apart yet is looked through again with each further part of a form: so many
+# bytes of it are kept
+MOST_KEPT = 1 << 18
 
 
 def is_small(person: Person) -> bool:
@@ -68,9 +72,23 @@ def wrong_headers(environ: dict[str, Any]) -> list[str]:
 
 
 class Parts(MultipartDecoder):
-    """Takes a form with files apart, but for headers of a part that no browser sends. Each field is
-    read as UTF-8, whatever a part says of it.
+    """Takes a form with files apart, but for what no browser sends: some headers of a part, a part
+    without a name, and a boundary within a line. Each field is read as UTF-8, whatever a part says
+    of it.
     """
+
+    def receive_data(self, data: bytes | None) -> None:
+        """Takes some more of the form."""
+        if len(self.buffer) > MOST_KEPT:
+            raise BadRequest(UNREADABLE)
+        super().receive_data(data)
+
+    def next_event(self) -> Event:
+        """What comes next in the form."""
+        found = super().next_event()
+        if isinstance(found, (Field, File)) and found.name is None:
+            raise BadRequest(UNREADABLE)
+        return found
 
     def _parse_headers(self, data: bytes) -> Headers:
         """The headers of a part."""
@@ -97,7 +115,9 @@ class Fields(FormDataParser):
         """The fields and files of a body."""
         length = content_length or 0
         if mimetype != FORM or length > (self.max_content_length or 0):
-            return super().parse(stream, mimetype, content_length, options)
+            # (the library has another name of such forms, which no browser sends)
+            kind = mimetype if mimetype in (FORM, FILES) else ""
+            return super().parse(stream, kind, content_length, options)
         if length <= SMALL_BYTES:
             return self.fields_of(stream, length, options)
         with LONG:
