@@ -3,12 +3,15 @@ import contextlib
 import signal
 from collections.abc import Iterator
 from types import FrameType
-from typing import BinaryIO
+from typing import IO, BinaryIO
 
 from register_files import Refused
 
 MB = 1_000_000
 MOST_BYTES, MOST_UNPACKED, MOST_PARTS = 8 * MB, 16 * MB, 1_000
+# the mark of each part in a zip's list of its parts, and how much of a file is looked through at
+# once
+PART, CHUNK = b"PK\x01\x02", 1 << 20
 MOST_ROWS, MOST_COLUMNS, MOST_CELLS, MOST_TEXT = 25_000, 250, 250_000, 32_767
 MOST_MERGED = 10_000
 # of all cells, as a CSV has at most: cells of an Excel file may share one long text
@@ -26,6 +29,19 @@ def taken(name: str, file: BinaryIO) -> bytes:
     if len(data) > MOST_BYTES:
         raise Refused(f"{name} is too large: a file has at most {MOST_BYTES // MB} MB here")
     return data
+
+
+def has_many_parts(file: IO[bytes]) -> bool:
+    """Whether a zip names more parts than one of an office has. Its list is not read for that: each
+    of them takes time and memory.
+    """
+    count, before = 0, b""
+    for data in iter(lambda: file.read(CHUNK), b""):
+        text = before + data
+        count += text.count(PART)
+        # (a mark may be in two chunks)
+        before = text[1 - len(PART):]
+    return count > MOST_PARTS
 
 
 @contextlib.contextmanager

@@ -21,8 +21,6 @@ from . import file_kinds, inputs
 SEPARATORS = {",": "commas", ";": "semicolons", "\t": "tabs"}
 SPACE = "http://schemas.openxmlformats.org/spreadsheetml/2006/main"
 MAIN, ROW, CELL = f"{{{SPACE}}}", f"{SPACE} row", f"{SPACE} c"
-# the mark of each part in an Excel file's list of its parts
-PART = b"PK\x01\x02"
 # a row, the place of a column or None, a sentence, and whether it is an error
 Problem = tuple[int, int | None, str, bool]
 
@@ -206,7 +204,7 @@ def workbook(name: str, data: bytes, wanted: str | None, advice: str) -> Sheet:
 def see_parts(name: str, data: bytes) -> None:
     """Refuses an Excel file that is too large once it is unpacked. No part can be longer than the
     Excel file says: the reading of it ends there. A part of any name may be one that is read."""
-    if data.count(PART) > inputs.MOST_PARTS:
+    if inputs.has_many_parts(io.BytesIO(data)):
         raise Refused(f"{name} is no Excel file: it has over {inputs.MOST_PARTS:,} parts")
     with zipfile.ZipFile(io.BytesIO(data)) as parts:
         size = sum(it.file_size for it in parts.infolist())

@@ -287,7 +287,13 @@ def test_a_choice_that_cannot_be_is_refused(
 DATA = csv_of(HEAD, *ROWS)
 
 
+# a file in a zip of which a part is lost, and one whose name is no text
+TORN = zipped(a_csv=csv_of(HEAD, *(f"{it},{it * it},{it ** 3}" for it in range(500))))
+NAMELESS = zipped(**{"é_csv": DATA}).replace("é".encode(), b"\xff\xff")
 NOT_ONE: dict[str, tuple[str, bytes, str]] = {
+    "a torn file": (
+        "a.zip", TORN[:60] + bytes(40) + TORN[100:], "a.zip is no zip that can be read"),
+    "a name that is no text": ("a.zip", NAMELESS, "a.zip is no zip that can be read"),
     "nothing": ("a.csv", b"", "a.csv is empty"),
     "blanks": ("a.csv", b"\n \n", "a.csv is no CSV with a row for each address"),
     "an endless line": ("a.csv", b"x" * 5_000_000, "line 1: the line has more than 32,767"),
@@ -297,6 +303,8 @@ NOT_ONE: dict[str, tuple[str, bytes, str]] = {
     "a PDF": ("a.pdf", b"%PDF-1.7\n", "a.pdf is a PDF"),
     "a part of a zip": ("a.zip", b"PK\x03\x04 and nothing", "a.zip is no zip that can be read"),
     "two files": ("a.zip", zipped(one_csv=DATA, two_csv=DATA), "has 2 files in it: a zip with one"),
+    "many files": ("a.zip", zipped(**{f"f{it}_csv": b"" for it in range(1_001)}),
+                   "a.zip has over 1,000 files in it: a zip with one CSV is needed"),
     "an empty zip": ("a.zip", zipped(), "a.zip is"),
 }
 

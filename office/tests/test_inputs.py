@@ -1,6 +1,7 @@
 """What is no register, or cannot be read: it is refused by name; and a limit of time."""
 import contextlib
 import http.server
+import io
 import os
 import socket
 import socketserver
@@ -36,6 +37,13 @@ def test_a_limit_of_time_that_a_library_catches() -> None:
                 while time.process_time() - start < SECONDS:
                     pass
     assert 1.5 < time.process_time() - start < SECONDS
+
+
+def test_the_parts_of_a_zip_are_counted_before_they_are_read() -> None:
+    """1,000 are no more than a file of an office has; also one whose mark is read in two pieces."""
+    for many in (1_000, 1_001):
+        data = b"x" * (inputs.CHUNK - 2) + b"PK\x01\x02" * many
+        assert inputs.has_many_parts(io.BytesIO(data)) == (many > 1_000), many
 
 
 def test_a_register_for_whose_copy_there_is_no_room(

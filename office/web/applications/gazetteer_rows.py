@@ -5,9 +5,11 @@ import contextlib
 import csv
 import dataclasses
 import io
+import lzma
 import pathlib
 import re
 import zipfile
+import zlib
 from collections.abc import Iterator, Mapping, Sequence
 from typing import IO, cast
 
@@ -95,6 +97,9 @@ def opened(path: pathlib.Path, name: str) -> Iterator[IO[bytes]]:
 @contextlib.contextmanager
 def unpacked(file: IO[bytes], name: str) -> Iterator[IO[bytes]]:
     """The only CSV in a zip."""
+    if inputs.has_many_parts(file):
+        raise Refused(f"{name} has over {inputs.MOST_PARTS:,} files in it: a zip with one CSV is"
+                      " needed")
     try:
         with zipfile.ZipFile(file) as parts:
             if any(it.filename == "xl/workbook.xml" for it in parts.infolist()):
@@ -111,7 +116,8 @@ def unpacked(file: IO[bytes], name: str) -> Iterator[IO[bytes]]:
                 yield part
     except Refused:
         raise
-    except (zipfile.BadZipFile, NotImplementedError, RuntimeError, EOFError, OSError) as error:
+    except (zipfile.BadZipFile, zlib.error, lzma.LZMAError, NotImplementedError, RuntimeError,
+            EOFError, OSError, ValueError) as error:
         how = "make it again, without a password"
         raise Refused(f"{name} is no zip that can be read: {how}") from error
 
