@@ -1,9 +1,11 @@
 """admissions-admin accounts: what a provider is given, what is let out, and what is refused."""
+import contextlib
 import dataclasses
 import http.server
 import json
 import pathlib
 import threading
+from collections.abc import Iterator
 
 import pytest
 from conftest import told, typed
@@ -64,6 +66,31 @@ def test_accounts_that_cannot_be_used_are_refused_and_nothing_changes(
     assert (told(users), list(machine.glob("*.d"))) == (before, [])
 
 
+@contextlib.contextmanager
+def provider(body: str, length: int = 0) -> Iterator[str]:
+    """The issuer of a provider that says this of itself, made longer by blanks before its end."""
+
+    class Answer(http.server.BaseHTTPRequestHandler):
+        """A provider, or what is none: without a body it does not answer as HTTP does."""
+
+        def do_GET(self) -> None:  # pylint: disable=invalid-name
+            """What it says of itself."""
+            if body and self.path == "/.well-known/openid-configuration":
+                self.send_response(200)
+                self.end_headers()
+                text = body.replace("%s", issuer).encode()
+                self.wfile.write(text[:-1].ljust(length - 1) + text[-1:])
+
+        def log_message(self, *_: object) -> None:
+            """Prints nothing."""
+
+    with http.server.ThreadingHTTPServer(("127.0.0.1", 0), Answer) as server:
+        issuer = f"http://127.0.0.1:{server.server_address[1]}"
+        threading.Thread(target=server.serve_forever, daemon=True).start()
+        yield issuer
+        server.shutdown()
+
+
 @pytest.mark.parametrize("body, said", [
     ('{"issuer": "%s/"}', ""), ('{"issuer": "https://id.example"}', "is not of http://"),
     ("[]", "is not of http://"), ("<html>", "cannot be read"), ("", "cannot be read")])
@@ -74,26 +101,17 @@ def test_a_provider_is_tried_when_its_accounts_are_set(
     """One that does not answer, or is another one, is named at once, and the accounts are set."""
     monkeypatch.setattr(network, "UNITS", machine)
     monkeypatch.setattr(serving, "is_booted", lambda: False)
-
-    class Answer(http.server.BaseHTTPRequestHandler):
-        """A provider, or what is none: without a body it does not answer as HTTP does."""
-
-        def do_GET(self) -> None:  # pylint: disable=invalid-name
-            """What it says of itself."""
-            if body and self.path == "/.well-known/openid-configuration":
-                self.send_response(200)
-                self.end_headers()
-                self.wfile.write(body.replace("%s", issuer).encode())
-
-        def log_message(self, *_: object) -> None:
-            """Prints nothing."""
-
-    with http.server.ThreadingHTTPServer(("127.0.0.1", 0), Answer) as server:
-        issuer = f"http://127.0.0.1:{server.server_address[1]}"
-        threading.Thread(target=server.serve_forever, daemon=True).start()
+    with provider(body) as issuer:
         given = machine / "accounts.json"
         given.write_text(json.dumps(ACCOUNTS | {"issuer": issuer}), encoding="utf-8")
         assert typed("accounts", users.name, str(given)) == 0
-        server.shutdown()
     printed = capsys.readouterr().out
     assert said in printed and ("WARNING" in printed) == bool(said)
+
+
+def test_a_provider_may_say_as_much_as_the_application_reads() -> None:
+    """1 MiB, and not one byte more."""
+    for length, end in ((1_048_576, ""), (1_048_577, "is longer than 1 MiB")):
+        with provider('{"issuer": "%s"}', length) as issuer:
+            said = accounts.provider_fault(issuer)
+        assert said.endswith(end) and bool(said) == bool(end), said

@@ -20,8 +20,8 @@ from .. import answers, files, people, serving
 from ..network import keep_in, outside_of
 
 OUTSIDE = "# Made by admissions-admin accounts\n[Service]\nPrivateNetwork=no\n"
-# for so long a provider is waited for, and so much of its answer is read
-PROVIDER_SECONDS, MOST_ANSWER = 10, 1_000_000
+# for so long a provider is waited for
+PROVIDER_SECONDS = 10
 
 
 def arguments(reader: argparse.ArgumentParser) -> None:
@@ -51,10 +51,15 @@ def main(given: argparse.Namespace) -> int:
 
 def provider_fault(issuer: str) -> str:
     """Why the provider of an issuer signs nobody in now, by what it says of itself; or ""."""
+    from office.web.people.authority import MOST_ANSWER
+
     address = f"{issuer.rstrip('/')}/.well-known/openid-configuration"
     try:
         with urllib.request.urlopen(address, timeout=PROVIDER_SECONDS) as answer:
-            found = json.loads(answer.read(MOST_ANSWER))
+            text = answer.read(MOST_ANSWER + 1)
+        if len(text) > MOST_ANSWER:
+            return f"{address} is longer than 1 MiB"
+        found = json.loads(text)
     except (OSError, http.client.HTTPException, ValueError) as error:
         return f"{address} cannot be read: {error}"
     named = found.get("issuer") if isinstance(found, dict) else None
