@@ -390,13 +390,15 @@ REFUSED = [
     ("no school", HEADER.encode(), "no school below its first row"),
     ("a register's limit", (HEADER + "A,B,1,1,1,\n" * 201).encode(), "at most 200 schools"),
     ("a line without an end", b"x" * 40_000, "at most 32,767 characters"),
+    ("a long cell", f"{HEADER}A,{'B' * 1_001},1,1,1,\n".encode(), "at most 1,000 characters"),
 ]
 
 
 @pytest.mark.parametrize("data, said", [it[1:] for it in REFUSED], ids=[it[0] for it in REFUSED])
 def test_another_file_is_refused(empty: Site, data: bytes, said: str) -> None:
-    """With the reason, and nothing in the draft."""
+    """With the reason, and nothing is in the draft, or on record, where it would stay for good."""
     found = upload(empty.browser("jane"), "/schools/new/sheet", "sheet", data, "../../a.xlsx")
+    assert {it.what for it in empty.parts.history.entries} == {"signed in"}
     text = Page(found.text).said()
     assert (found.status_code, said in text.replace("The file", "the file")) == (400, True), text
     assert empty.parts.schools.rows() == [] and "/tmp" not in found.text

@@ -26,6 +26,8 @@ from ..rows import COLUMNS, Cells, Line
 screen = flask.Blueprint("new_schools", __name__, url_prefix="/schools/new")
 Answer = str | Response | tuple[str, int]
 NONE = {it: "" for it in COLUMNS}
+# more characters than a field of a school can have
+MOST_CELL = 1_000
 # what the address of the draft says where its lines were stored
 STORED = "stored"
 # so long the answer to 'Store' waits for the end; after it the page shows how far it is
@@ -142,8 +144,13 @@ def add() -> Answer:
 
 
 def add_many(given: list[Cells], source: str) -> None:
-    """Schools of a file."""
-    guard.record("added to the draft of schools", schools=[it["school"] for it in given],
+    """Schools of a file, which is no longer than the history can have for good."""
+    if len(given) > drafts.MOST:
+        raise Refused(f"a register has at most {drafts.MOST} schools, and the file has"
+                      f" {len(given):,}")
+    if any(len(text) > MOST_CELL for it in given for text in it.values()):
+        raise Refused(f"a cell of a school has at most {MOST_CELL:,} characters")
+    guard.record("added to the draft of schools", schools=[texts.cut(it["school"]) for it in given],
                  source=source)
     draft().add(given)
 
