@@ -274,6 +274,18 @@ def test_a_long_list_has_pages(browser: Browser, monkeypatch: pytest.MonkeyPatch
     assert 'href="/lists/children?page=all&amp;order=name"' in page
 
 
+def test_pages_are_of_the_words_that_are_looked_for(
+    tmp_path: pathlib.Path, monkeypatch: pytest.MonkeyPatch
+) -> None:
+    """Whatever they are: families have this name too."""
+    monkeypatch.setattr(tables, "PAGE", 2)
+    families = [child(it, f"{name} Page", it) for it, name in enumerate(("Ann", "Bo", "Cy"), 1)]
+    with office_over(tmp_path, families) as office:
+        found = office.browser("jane").get("/lists/children?words=PAGE")
+    assert found.status_code == 200
+    assert [it for it in Page(found.text).stops if "page=2" in it and "words=PAGE" in it]
+
+
 def test_paper_says_what_it_is(browser: Browser) -> None:
     """The title, what was chosen, the authority, the register and the day, in a row that each
     sheet repeats.

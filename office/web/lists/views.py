@@ -144,8 +144,8 @@ def page(
         is_shown=is_shown, count_all=len(found.all_rows) - 1, count_found=len(rows) - 1,
         page=shown, words=found.words, today=today(), said=said, typed=typed,
         time=f"{datetime.datetime.now():%H:%M}",
-        page_address=flask.url_for("lists.one", name=found.name, page="PAGE", **values_of(found)
-                                   ).replace("%", "%%").replace("PAGE", "%s"),
+        page_address=flask.url_for("lists.one", name=found.name, page=0, **values_of(found)
+                                   ).replace("%", "%%").replace("page=0", "page=%s"),
         ticks=ticks_of(found, header, shown.rows), ticked=ticked,
         ticked_all=flask.request.args.get("tick") == "all",
         query=urllib.parse.urlencode(found.address, doseq=True),
