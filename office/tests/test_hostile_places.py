@@ -134,6 +134,7 @@ HOSTILE = {
     "statement": "{% for x in range(10**12) %}{% endfor %}", "sql": "' OR 1=1; DROP TABLE note;--",
     "control": "a\0b\x1b[31m\x7f", "lines": "a\r\nSet-Cookie: x=1", "turned": "\u202egpj.exe\u2066",
     "emoji": "👩‍👩‍👧" * 5, "json": '{"cmd":"round"}', "path": "../../../../etc/passwd",
+    "infinite": "[1e999,{}]", "deep": "[" * 50_000, "rows": "1 to 999999999 of a; 1 of b",
     "digits": "9" * 5000, "many digits": "9" * 30, "power": "²", "other digits": "٣٣", "less": "-1",
     "number": "1e999", "long": "x" * 1_000_000,
 }

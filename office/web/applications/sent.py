@@ -81,7 +81,8 @@ def row_of(number: int, form: Mapping[str, str]) -> Typed:
         seen = {it: str(text) for it, text in seen.items() if it in (*fields.COLUMNS, REMARK)}
         cells = {it: form[name_of(it, number)] for it in seen}
         return Typed(number, int(version), seen, cells)
-    except (AttributeError, KeyError, TypeError, ValueError, RecursionError) as error:
+    except (ArithmeticError, AttributeError, KeyError, TypeError, ValueError,
+            RecursionError) as error:
         raise Refused("the page did not arrive whole: load it again") from error
 
 
