@@ -1,4 +1,5 @@
 """Command lines: which field of a line is wrong, and what the answers mean in words."""
+import collections
 import json
 import math
 import re
@@ -15,6 +16,8 @@ VALUES = {
 CRITERION = re.compile(
     "|".join(re.escape(it.text) + (VALUES[it.value] if it.value else "") for it in rules.CRITERIA)
 )
+# so much that is out of range is named of one command
+MOST_NAMED = 10
 
 
 def is_number(value: object) -> bool:
@@ -126,16 +129,14 @@ def outside(command: Mapping[str, Any]) -> list[str]:
         if len(command.get(name, [])) > rules.LIMITS[name].most:
             most = rules.LIMITS[name].most
             found.append(f'"{name}" has {len(command[name])} items, and may have {most}')
-    siblings = command.get("siblings", [])
-    found += [
-        f'"siblings" has {it} twice' for it in dict.fromkeys(siblings) if siblings.count(it) > 1
-    ]
+    siblings = collections.Counter(command.get("siblings", []))
+    found += [f'"siblings" has {it} twice' for it, many in siblings.items() if many > 1]
     if command["cmd"] == "raise_pan" and not found:
         found.append(
             f'"pan" is {command["pan"]}, and must not be less than the present admission number of'
             f' {command["school"]}, which can only rise'
         )
-    return found
+    return found[:MOST_NAMED]
 
 
 def values_of(command: Any) -> dict[str, str]:

@@ -20,6 +20,8 @@ from office.web.register.entry_words import Names
 from office.web.register.history import SENDS, Entry
 
 HEADER = "child,name,east,north,looked_after,flags,siblings,day,preferences\n"
+# a part of a text, and the seconds of CPU time that all of it may take
+QUOTES, SECONDS = '" to "', 2
 
 
 @pytest.fixture(name="office", scope="module")
@@ -164,6 +166,37 @@ def test_each_step_that_is_recorded_has_words() -> None:
         assert work in command_kinds.WORK and form[0].isupper(), key
         filled = said(Entry(1, "", "jane", key, {"child": 5, "restore": 1, "copy": 2}))
         assert "{" not in filled and "[" not in filled, filled
+
+
+def test_a_text_that_looks_like_very_many_changes_is_shown_at_once() -> None:
+    """An entry can never be deleted, and each look at it would take this time again."""
+    text, begin = f"{QUOTES * 20_000}x", time.process_time()
+    assert entry_words.text_of(text) == text and time.process_time() - begin < SECONDS
+    assert entry_words.text_of('"a" to "b" to "c"') == 'a" to "b → c'
+    assert entry_words.text_of('"" to ""') == "none → none"
+
+
+def test_what_a_program_sends_is_shown_in_short(office: Site) -> None:
+    """However much of it the register has refused: each look at it would take the time again."""
+    portal, rita = office.program("portal"), office.browser("rita", "officer")
+    names = [f"S{it}" for it in range(90_000)]
+    sent: list[dict[str, Any]] = [
+        child(91, "x" * 900_000, 1), {**child(92, "Ann", 1), "siblings": names},
+        {**child(93, "Bo", 1), "siblings": ["A"] * 90_000},
+        {"cmd": "apply", "child": 1, "day": "2024-10-20", "preferences": names}]
+    begin = time.process_time()
+    for it in sent:
+        assert portal.command(it).status_code in (400, 409)
+    shown = rita.get("/activity/?who=portal")
+    assert shown.status_code == 200 and len(shown.data) < 100_000
+    assert time.process_time() - begin < 10 * SECONDS
+
+
+def test_words_are_looked_for_in_each_entry_together(office: Site) -> None:
+    """And no more than on other screens, however long the address is."""
+    rita = office.browser("rita", "officer")
+    assert rows(rita, "?q=signed+rita+in") and not rows(rita, "?q=signed+nowhere+in")
+    assert rows(rita, f"?q={'+'.join(['signed'] * 40)}+nowhere")
 
 
 def test_an_import_and_changes_of_a_row_are_found_by_the_child(office: Site) -> None:

@@ -146,7 +146,10 @@ LABELS = {
 COUNTS = ("answers", "chosen", "done", "pairs", "pan", "rows")
 # the steps that have the same values before and after them
 PAIRS = {"named flags": ("before", "words"), "changed the draft of schools": ("before", "now")}
-CHANGE = re.compile(r'"(.*)" to "(.*)"', re.DOTALL)
+# what is between two values that are kept as one text
+CHANGE = '" to "'
+# a program may send texts of a megabyte, and a page has many entries: so much of each is shown
+MOST_SHOWN = 2_000
 NONE = "none"
 
 
@@ -242,7 +245,12 @@ def filled(form: str, about: Mapping[str, Any], names: Names, of_child: bool) ->
         found["of"] = file_of(about["of"], names)
     if "for" not in found and "draw" in about:
         found["for"] = f"round or offer {about['draw']}"
-    return texts.visible(form.format_map(found)).strip()
+    return in_short(texts.visible(form.format_map(found)).strip())
+
+
+def in_short(text: str) -> str:
+    """A text as a screen shows it. The file of the history has all of it."""
+    return text if len(text) <= MOST_SHOWN else f"{text[:MOST_SHOWN]} .."
 
 
 def own_words(it: Entry) -> str:
@@ -274,8 +282,9 @@ def text_of(value: Any) -> str:
     if isinstance(value, list):
         return ", ".join(filter(None, map(text_of, value)))
     text = "" if value is None else str(value)
-    if found := CHANGE.fullmatch(text):
-        return f"{found[1] or NONE} → {found[2] or NONE}"
+    if text[:1] == text[-1:] == '"' and CHANGE in text[1:-1]:
+        one, _, other = text[1:-1].rpartition(CHANGE)
+        return f"{one or NONE} → {other or NONE}"
     day = days.read(text)
     return days.in_words(day) if day else text
 
@@ -305,7 +314,7 @@ def more_of(it: Entry, names: Names, before: Command | None) -> str:
         lines.append(texts.count(rows, "application"))
     if command is not it.about and it.about.get("point"):
         lines.append(f"{LABELS['point']}: {it.about['point']}")
-    return texts.visible("; ".join(lines))
+    return in_short(texts.visible("; ".join(lines)))
 
 
 def shown(field: str, value: Any, names: Names) -> str:

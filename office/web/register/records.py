@@ -71,7 +71,8 @@ def came(entry: Entry, end: Entry | None) -> tuple[str, bool]:
     answer = end.about["answer"]
     if commands.is_done(answer):
         return "done", True
-    return sentence(commands.in_words(answer, entry.about.get("command"))), False
+    said = commands.in_words(answer, entry.about.get("command"))
+    return sentence(entry_words.in_short(said)), False
 
 
 def row_in(rows: str, number: int) -> dict[str, str] | None:

@@ -1,7 +1,7 @@
 """All that was done, in words: found by words, by kind, by person and by day."""
 import dataclasses
 import datetime
-from collections.abc import Callable, Sequence
+from collections.abc import Callable, Mapping, Sequence
 from typing import Any
 
 import flask
@@ -73,7 +73,9 @@ class Asked:
             found.append(lambda it: it.at[:SECONDS] < end)
         if self.kind:
             found.append(lambda it: entry_words.form_of(it)[0] == self.kind)
-        return found + [has(word, register) for word in texts.plain(self.q).split()]
+        if words := dict.fromkeys(texts.plain(self.q).split()):
+            found.append(has({it: named_by(it, register) for it in words}))
+        return found
 
 
 def bound(day: datetime.date) -> str:
@@ -85,23 +87,32 @@ def bound(day: datetime.date) -> str:
 def asked() -> Asked:
     """What the address asks for."""
     given = flask.request.args
-    return Asked(*(given.get(it.name, "").strip() for it in dataclasses.fields(Asked)))
+    return Asked(*(given.get(it.name, "").strip()[:texts.MOST_SOUGHT]
+                   for it in dataclasses.fields(Asked)))
 
 
-def has(word: str, register: Register | None) -> Test:
-    """Whether an entry has a word, or is about a child or a school whose name has it."""
+def named_by(word: str, register: Register | None) -> tuple[set[int], set[str]]:
+    """The entries about a child whose name or number has a word, and the schools that have it."""
     children = register.children.values() if register else ()
     schools = register.schools.values() if register else ()
     numbers = {it.number for it in children if word in texts.plain(it.name)}
     numbers |= {int(word)} if word.isdecimal() and len(word) <= MOST_DIGITS else set()
     codes = {it.code for it in schools if word in texts.plain(f"{it.code} {it.name}")}
     record = parts().history
-    entries = {entry for it in numbers for entry in record.about.get(it, ())}
+    return {entry for it in numbers for entry in record.about.get(it, ())}, codes
+
+
+def has(words: Mapping[str, tuple[set[int], set[str]]]) -> Test:
+    """Whether an entry has each word, or is about a child or a school that has it."""
+    is_text = not all(map(str.isdecimal, words))
 
     def found(it: Entry) -> bool:
-        about = it.about.get("command", it.about)
-        return it.number in entries or about.get("school") in codes or not word.isdecimal() and (
-            word in texts.plain(f"{it.who} {entry_words.own_words(it)}"))
+        # (which is made once for all of them)
+        text = texts.plain(f"{it.who} {entry_words.own_words(it)}") if is_text else ""
+        school = it.about.get("command", it.about).get("school")
+        return all(it.number in entries or school in codes
+                   or not word.isdecimal() and word in text
+                   for word, (entries, codes) in words.items())
 
     return found
 
