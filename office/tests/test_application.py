@@ -1061,6 +1061,24 @@ def test_a_history_that_was_changed_is_refused(tmp_path: pathlib.Path) -> None:
     assert [it.who for it in history.read(str(path))] == ["jane"] * 5 + ["bo"]
 
 
+def test_a_program_that_sends_in_a_loop_does_not_fill_the_history(office: Site) -> None:
+    """64 MB within a day, whether the register takes it or refuses it; each program has its own."""
+    portal, other = office.program("portal"), office.program("other")
+    moment, record, rows = [0.0], office.parts.history, f"child\n{'x' * 1_000_000}"
+    office.app.extensions["sent"].clock = lambda: moment[0]
+    office.app.extensions["sent"].counts["portal"] = 0.0, (64 << 20) - 1
+    assert portal.post("/import", rows, "text/csv").status_code in (400, 409)
+    many = len(record.entries)
+    for found in (portal.post("/import", rows, "text/csv"),
+                  portal.command({"cmd": "accept", "child": 1, "school": "A"})):
+        assert found.status_code == 503
+        assert found.json["reason"] == "a program sends at most 64 MB within a day"
+    assert len(record.entries) == many and portal.get("/register/child/1").status_code == 200
+    assert other.post("/import", rows, "text/csv").status_code in (400, 409)
+    moment[0] = 24 * 3600 + 1.0
+    assert portal.command({"cmd": "accept", "child": 1, "school": "A"}).status_code == 200
+
+
 def test_whatever_a_program_sends_the_history_is_read_again(office: Site) -> None:
     """With what followed: no row of an import leaves the file other than what is known of it."""
     portal, record = office.program("sender"), office.parts.history

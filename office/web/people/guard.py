@@ -53,6 +53,9 @@ HEADERS = {
 REFUSED_SECONDS = 60
 # and what anybody may do who is signed in so often within so many seconds
 MOST_FEW, FEW_SECONDS = 500, 3600
+# what a program sends is in the history for good, and so in memory, also if the register refuses
+# it: so many bytes of each within a day, of which a season needs a tenth
+MOST_SENT, SENT_SECONDS = 64 << 20, 24 * 3600
 # what is for programs with a token, and for nobody else: the register's own answers
 OF_PROGRAMS = {f"register.{it}" for it in (
     "register", "draw", "read", "school", "pairs", "waiting", "command", "rows", "question")}
@@ -193,23 +196,26 @@ class Recent:
 
 
 class Few:
-    """How often somebody did in an hour what needs no more right than a sign-in: who does it in a
-    loop fills neither the disk nor the memory with what is on record of it.
+    """How much somebody did within some seconds of what is on record: who does it in a loop fills
+    neither the disk nor the memory with that.
     """
 
-    def __init__(self, clock: Callable[[], float] = time.monotonic) -> None:
+    def __init__(
+        self, most: int, seconds: float, clock: Callable[[], float] = time.monotonic
+    ) -> None:
+        self.most, self.seconds = most, seconds
         self.lock, self.clock = threading.Lock(), clock
         self.counts: dict[str, tuple[float, int]] = {}
 
-    def is_one(self, name: str) -> bool:
+    def is_one(self, name: str, size: int = 1) -> bool:
         """Whether this is one of the few that are to be on record."""
         moment = self.clock()
         with self.lock:
             began, count = self.counts.get(name, (moment, 0))
-            if moment - began > FEW_SECONDS:
+            if moment - began > self.seconds:
                 began, count = moment, 0
-            self.counts[name] = began, count + 1
-            return count < MOST_FEW
+            self.counts[name] = began, count + size
+            return count < self.most
 
 
 def record_few(what: str, **about: Any) -> None:
@@ -463,7 +469,8 @@ def guarded(app: flask.Flask) -> None:
     """Guards an application. Each of its views says which right it needs."""
     app.extensions["refusals"] = Recent(REFUSED_SECONDS)
     app.extensions["exports"] = Recent(EXPORT_SECONDS)
-    app.extensions["few"] = Few()
+    app.extensions["few"] = Few(MOST_FEW, FEW_SECONDS)
+    app.extensions["sent"] = Few(MOST_SENT, SENT_SECONDS)
     app.extensions["watch"] = Watch()
     app.before_request(see)
     # (the first one of these comes last, when the answer is the one that is sent)

@@ -1,10 +1,12 @@
 """What other programs read and send: the answers of the register as they are."""
+from typing import cast
+
 import flask
 from register_files import Refused
 
 from office.core import commands, rules
 from office.web.people import guard
-from office.web.people.guard import needs, parts, person
+from office.web.people.guard import Few, needs, parts, person
 from office.web.people.roles import LISTS, READ, RECORD
 from office.web.register.desk import DIFFERS, DONE, REFUSED, Away, Command, Result, Seen, seen_by
 
@@ -36,6 +38,15 @@ def sent(kind: str) -> bytes:
     if len(body) > most:
         reason = f"the register takes at most {most:,} bytes at once"
         flask.abort(answer(413, reason=reason, status=413))
+    return body
+
+
+def to_record(kind: str) -> bytes:
+    """What was sent, if it is no loop: it is on record before the register says what it is."""
+    body = sent(kind)
+    if not cast(Few, flask.current_app.extensions["sent"]).is_one(person().name, len(body)):
+        reason = f"a program sends at most {guard.MOST_SENT >> 20} MB within a day"
+        flask.abort(answer(503, reason=reason, status=503))
     return body
 
 
@@ -123,7 +134,7 @@ def answered(result: Result) -> flask.Response:
 @needs(RECORD)
 def command() -> flask.Response:
     """A command."""
-    body = sent(JSON)
+    body = to_record(JSON)
     given = commands.read(body)
     if not isinstance(given, dict) or commands.wrong_field(given):
         # (the register says what is wrong)
@@ -149,7 +160,7 @@ def seen_in(given: Command) -> Seen | None:
 @needs(RECORD)
 def rows() -> flask.Response:
     """The rows of an import."""
-    body = sent(CSV)
+    body = to_record(CSV)
     try:
         body.decode("utf-8")
     except UnicodeDecodeError as error:
