@@ -89,12 +89,18 @@ def is_held(register: Register, command: Command) -> bool:
 
 def rows_of(rows: str) -> list[dict[str, str]]:
     """The rows of an import, as the register reads them: without a byte order mark, and with lines
-    that end with LF, CR or both. None where they cannot be read: no register takes them.
+    that end with LF, CR or both. None where they cannot be read: no register takes them. A row has
+    the columns of its cells alone, and "" for cells beyond the header: of a header as long as an
+    import can be, a row each would fill the memory.
     """
     try:
-        return list(csv.DictReader(io.StringIO(rows.removeprefix("\ufeff"), newline=None)))
+        found = list(csv.reader(io.StringIO(rows.removeprefix("\ufeff"), newline=None)))
     except csv.Error:
         return []
+    header = found[0] if found else []
+    return [{**dict(zip(header, it)),
+             **({"": ",".join(it[len(header):])} if len(it) > len(header) else {})}
+            for it in found[1:] if it]
 
 
 def is_imported(register: Register, rows: str) -> bool:

@@ -4,6 +4,7 @@ import json
 import os
 import pathlib
 import re
+import resource
 import sqlite3
 import subprocess
 import sys
@@ -1080,14 +1081,20 @@ def test_a_program_that_sends_in_a_loop_does_not_fill_the_history(office: Site) 
 
 
 def test_whatever_a_program_sends_the_history_is_read_again(office: Site) -> None:
-    """With what followed: no row of an import leaves the file other than what is known of it."""
+    """With what followed: no row of an import leaves the file other than what is known of it, or
+    fills the memory, as many short ones below a header of very many columns.
+    """
     portal, record = office.program("sender"), office.parts.history
     rows = "child,name,east,north,looked_after,flags,siblings,day,preferences\n{},A,1,1,no,,,x,A\n"
-    for number in ("9" * 5_000, "1" * 400, "\u0661" * 5_000, "\0", f'"{"1" * 200_000}"'):
-        found = portal.post("/import", rows.format(number), "text/csv")
+    numbers = ("9" * 5_000, "1" * 400, "\u0661" * 5_000, "\0", f'"{"1" * 200_000}"')
+    many = ",".join(["child", *(f"c{it}" for it in range(20_000))]) + "\n1" * 1_000
+    most = resource.getrusage(resource.RUSAGE_SELF).ru_maxrss
+    for text in (*map(rows.format, numbers), many):
+        found = portal.post("/import", text, "text/csv")
         assert found.status_code in (400, 409), found.text
     assert history.read(record.path) == record.entries
-    assert sum(it.what == history.SENDS for it in record.entries) == 5
+    assert sum(it.what == history.SENDS for it in record.entries) == 6
+    assert resource.getrusage(resource.RUSAGE_SELF).ru_maxrss - most < 200_000, "kilobytes"
 
 
 def test_a_history_that_is_broken_is_said_without_its_path(tmp_path: pathlib.Path) -> None:

@@ -48,8 +48,9 @@ def test_a_register_that_was_replaced_by_an_older_one_is_told(
             assert said(jane).endswith("Record nothing, and tell IT support.")
     # (as of an import that is done)
     record = office.parts.history
-    for number, is_there in ((11, True), (77, False)):
-        entry = record.add("jane", SENDS, {"import": ROWS.format(number, "2024-10-20")})
+    for number, is_there, mark in ((11, True, ""), (11, True, "\ufeff"), (77, False, "")):
+        rows = mark + ROWS.format(number, "2024-10-20")
+        entry = record.add("jane", SENDS, {"import": rows})
         assert said(jane) == "", "nothing is known of a request that is open"
         record.add("jane", SETTLED, {"of": entry.number, "done": True})
         assert (said(jane) == "") == is_there

@@ -1,9 +1,7 @@
 """What speaks against the register or the history as they are found: one of them lacks what was
 recorded last, as where an older copy was put in its place by hand.
 """
-import csv
-import io
-
+from office.core import effects
 from office.core.command_kinds import DRAWS, is_done
 from office.core.fields import trimmed
 from office.core.model import Register
@@ -18,7 +16,7 @@ LATER = "Record nothing, and tell IT support."
 def has(register: Register, entry: Entry) -> bool:
     """Whether a register has what was done last, as far as that is seen at once."""
     if rows := entry.about.get("import"):
-        first: dict[str, str] = next(csv.DictReader(io.StringIO(rows, newline=None)), {})
+        first = next(iter(effects.rows_of(rows)), {})
         return trimmed(first.get("child") or "") in map(str, register.children)
     command = entry.about.get("command")
     if command is None:
