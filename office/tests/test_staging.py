@@ -623,6 +623,14 @@ def test_other_columns_are_kept_beside_the_rows(office: Site, screens: Screens) 
     assert [it.others for it in found] == [{"address": "1 High St, Wells"}]
 
 
+def test_the_name_of_another_column_is_kept_in_short(office: Site, screens: Screens) -> None:
+    """Each row has it: a file of 8 MB would have gigabytes in the application's own file."""
+    rows = [[*COLUMNS, "x" * 32_000, "y" * 32_000], *([*it, "1", "2"] for it in GOOD)]
+    assert screens.add(("a.csv", sheet.csv_bytes(rows))).status_code == 303
+    found = office.app.extensions["staging"].staging.rows(OPEN)
+    assert [it.others for it in found] == [{"x" * 80: "1", "y" * 80: "2"}] * len(GOOD)
+
+
 def test_a_row_is_withdrawn_and_brought_back(office: Site, screens: Screens) -> None:
     """One, all of a file, and all that were withdrawn."""
     screens.add(("a.csv", lines(GOOD[:3])))

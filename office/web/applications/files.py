@@ -182,11 +182,13 @@ def placed(reading: Check, cells: list[str]) -> tuple[list[str], list[str]]:
 
 
 def others_of(reading: Check, cells: list[str]) -> dict[str, str]:
-    """What a row has in columns that an application has not, by their names."""
+    """What a row has in columns that an application has not, by their names. (Each row has these:
+    with long ones a file of some megabytes would have gigabytes.)
+    """
     known = set(reading.columns.values())
     names = reading.header.cells if reading.header else []
     found: dict[str, str] = {}
-    for name, text in ((names[at].strip(), cells[at].strip())
+    for name, text in ((names[at].strip()[:MOST_NAME], cells[at].strip())
                        for at in range(min(len(names), len(cells))) if at not in known):
         if name and text:
             found[name] = f"{found[name]}; {text}" if name in found else text
