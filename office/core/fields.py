@@ -251,8 +251,11 @@ def codes(text: str, known: Mapping[str, School], limit: Limit) -> Field:
 
 
 def schools_like(text: str, item: str, known: Mapping[str, School]) -> Iterator[Likely]:
-    """The schools that may be meant by an item of a list: whose code or name is like it."""
-    near = [it for it in known.values() if is_like(item, it)]
+    """The schools that may be meant by an item of a list: whose code or name is like it. (None is
+    like a text of twice the length, whose comparison with each would take seconds.)
+    """
+    is_short = len(item) <= 2 * LIMITS["name"].most
+    near = [it for it in known.values() if is_short and is_like(item, it)]
     for it in near[:MOST_LIKELY]:
         yield Likely(f"{it.code} {it.name}", replaced(text, item, it.code), it.code)
 

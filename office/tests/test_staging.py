@@ -8,6 +8,8 @@ import pathlib
 import resource
 import sqlite3
 import threading
+import time
+import types
 import zipfile
 from collections.abc import Callable, Iterator
 from typing import Any
@@ -621,6 +623,20 @@ def test_other_columns_are_kept_beside_the_rows(office: Site, screens: Screens) 
     screens.store()
     found = office.app.extensions["staging"].staging.rows(COMMITTED)
     assert [it.others for it in found] == [{"address": "1 High St, Wells"}]
+
+
+def test_a_long_text_is_compared_with_no_school() -> None:
+    """A file of 8 MB has some hundred of them, and each took seconds beside 200 schools."""
+    names = {f"S{it}": f"School number {it} of the town" for it in range(200)}
+    known: Any = types.SimpleNamespace(schools={
+        code: types.SimpleNamespace(code=code, name=name) for code, name in names.items()})
+    begin = time.process_time()
+    for column in ("present", "preferences", "siblings"):
+        found = fields.read(column, "x y " * 8_000, known)
+        assert found.fault == "school" and {it.words for it in found.likely} <= {"Leave it out"}
+    assert time.process_time() - begin < 1
+    [likely] = fields.read("present", "scool number 7 of the town", known).likely
+    assert likely.by == "S7"
 
 
 def test_the_name_of_another_column_is_kept_in_short(office: Site, screens: Screens) -> None:
