@@ -630,6 +630,9 @@ def test_hostile_uploads_are_refused(office: Site) -> None:
     found = jane.post("/answers/several", {"pasted": "11\n" * (piles.MOST + 1)},
                       content_type="multipart/form-data")
     assert found.status_code == 400 and "at most 2,000 answers" in Page(found.text).said()
+    found = jane.post("/answers/several", {"sheet": (io.BytesIO(b"Zz Yy,yes\n" * 20_000), "a.csv")},
+                      content_type="multipart/form-data")
+    assert found.status_code == 400 and "It has 20,000 rows" in Page(found.text).said()
     page = enter(jane, "<script>alert(1)</script>" + "x" * 5000)
     assert "<script>alert" not in page.text and len(pile(page)[0][0]) == answers.MOST_TYPED
 

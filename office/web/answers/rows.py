@@ -14,6 +14,7 @@ from office.files import file_kinds
 from office.files.sheet import Row
 
 from .entries import MOST_TYPED, Meant, Names, with_school, words_of
+from .piles import MOST
 
 # the words of each answer: every other one is marked
 READ = {name: it.read for name, it in KINDS.items() if it.read}
@@ -96,6 +97,9 @@ class Reader:
         below = rows[1:] if titles else rows
         if not below:
             raise Refused("it has no child below its titles")
+        if len(below) > MOST:
+            # (before each is looked for among the children, which takes minutes)
+            raise Refused(f"it has {len(below):,} rows, and a batch at most {MOST:,} answers")
         read = [(it, self.by_titles(titles, it.cells) if titles else self.by_content(it.cells))
                 for it in below]
         has_answers = ANSWER in [it for it, _ in titles] or any(it.answers for _, it in read)
