@@ -53,5 +53,7 @@ class Marks:
     def unsent(self, child: int) -> datetime.date | None:
         """The day of a child's reminder whose letter is not recorded as sent."""
         place = self.register.places.get(child)
+        if place is None or place.reminded is None:
+            return None
         is_sent = (child, about_of(self.register, child, None).key) in self.sent
-        return place.reminded if place and not is_sent else None
+        return None if is_sent else place.reminded

@@ -36,15 +36,15 @@ Command = dict[str, Any]
 
 @dataclasses.dataclass(frozen=True)
 class Due:
-    """An offer of which a reminder or a withdrawal is due: the cells of the worklist, and what is
-    seen of the child.
+    """An offer of which a reminder or a withdrawal is due: the cells of the worklist, and, of one
+    that is to be recorded, what is seen of the child.
     """
 
     child: int
     school: str
     name: str
     cells: dict[str, Any]
-    seen: str
+    seen: str = ""
 
 
 @dataclasses.dataclass(frozen=True)
@@ -85,9 +85,15 @@ def due(register: Register, kind: str, day: datetime.date) -> list[Due]:
         cells = dict(zip(map(str, header), row))
         child = int(str(cells["child"]))
         school = register.places[child].school
-        seen = seen_of(register, command_of(kind, child, school, day)).text
-        found.append(Due(child, school, register.children[child].name, cells, seen))
+        found.append(Due(child, school, register.children[child].name, cells))
     return found
+
+
+def seen(register: Register, kind: str, day: datetime.date, found: Iterable[Due]) -> list[Due]:
+    """The same with what is seen of each child now."""
+    commands = ((it, command_of(kind, it.child, it.school, day)) for it in found)
+    return [dataclasses.replace(it, seen=seen_of(register, command).text)
+            for it, command in commands]
 
 
 def digest(kind: str, day: datetime.date, chosen: list[Due], marks: Marks) -> str:

@@ -264,7 +264,7 @@ def page_of(table: Table, away: Sequence[Staged], asked: Asked, number: int,
         at: it.staged for at, it in table.rows.items()}
     pinned = [every[it] for it in dict.fromkeys(first) if it in every]
     shown = [*pinned, *(it for it in shown if it.id not in first)]
-    shared = table.shared()
+    shared = table.shared
     if asked.show == ASIDE:
         table = table.beside(it for it in shown if it.id not in table.rows)
     lines = [line_of(it, table if it.id in table.rows else None, shared, it.id in asked.edited,
@@ -288,7 +288,7 @@ def changes(table: Table) -> tuple[list[str], int]:
     """The changes that several rows share, each as a sentence with its number, the most frequent
     first; and how many more kinds there are.
     """
-    found = sorted(table.shared().items(), key=lambda it: (-it[1], str(it[0])))
+    found = sorted(table.shared.items(), key=lambda it: (-it[1], str(it[0])))
     said_in = [f"{many:,} × {texts.shown(str(value))} "
                + (f"read as {texts.shown(str(written))}" if written is not None else str(text))
                + f" ({title_of(str(column))})" for (column, value, text, written), many in found]
@@ -326,6 +326,6 @@ def sides(one: Staged, other: Staged | None, child: int | None,
 
 def counts(table: Table, away: int) -> dict[str, int]:
     """How many rows are in each state."""
-    found = {it: sum(is_in(row, table, it) for row in table.rows)
-             for it in (ALL, WRONG, CHECK, READY)}
-    return {**found, ASIDE: away}
+    every, wrong = len(table.rows), len(table.having[ERROR])
+    return {ALL: every, WRONG: wrong, CHECK: len(table.having[LOOK]), READY: every - wrong,
+            ASIDE: away}

@@ -32,12 +32,14 @@ def by_day(table: Table) -> ByDay | None:
     if table.register is None:
         return None
     closing = table.register.days[0]
-    given = [day for it in table.rows.values() if (day := days.read(it.row.fields["day"]))]
-    counts = collections.Counter(given)
+    # (the rows of one day have one text, which is read once)
+    given = collections.Counter(it.row.fields["day"] for it in table.rows.values())
+    counts = collections.Counter(
+        {day: many for text, many in given.items() if (day := days.read(text))})
     if not counts:
         return None
-    last = max(given)
-    first = max(min(given), last - (MOST_DAYS - 1) * DAY)
+    last = max(counts)
+    first = max(min(counts), last - (MOST_DAYS - 1) * DAY)
     span = [first + at * DAY for at in range((last - first).days + 1)]
     late = sum(many for day, many in counts.items() if day > closing)
     says = said(sum(counts.values()), late, closing)

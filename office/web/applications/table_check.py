@@ -150,6 +150,10 @@ class Table:
         self.rows = {it.staged.id: it for it in rows}
         self.register, self.words = register, words
         self.findings = {at: list(it.findings) for at, it in self.rows.items()}
+        # the rows with a finding of each kind: a page asks for them often
+        self.having: dict[str, set[int]] = {
+            kind: {it.row for found in self.findings.values() for it in found if it.kind == kind}
+            for kind in (ERROR, LOOK, FIXED)}
         self.pairs: list[Pair] = []
         # the rows that the register has: as they are, and with other values
         self.equal: set[int] = set()
@@ -174,6 +178,7 @@ class Table:
             written: str | None = None, fault: str = "") -> None:
         """Adds a finding."""
         self.findings[row].append(Finding(row, column, value, text, kind, written, fault))
+        self.having[kind].add(row)
 
     def see_repeated(self, rows: list[row_check.Row]) -> set[int]:
         """Adds the rows with the number of another, and returns those that are equal to it."""
@@ -211,11 +216,11 @@ class Table:
 
     def has_error(self, row: int) -> bool:
         """Whether something is wrong with a row."""
-        return any(it.kind == ERROR for it in self.findings[row])
+        return row in self.having[ERROR]
 
     def has_look(self, row: int) -> bool:
         """Whether something about a row is to be looked at."""
-        return any(it.kind == LOOK for it in self.findings[row])
+        return row in self.having[LOOK]
 
     def wrong(self) -> list[Staged]:
         """The rows that have an error, and those with the number of another."""
@@ -223,6 +228,7 @@ class Table:
                  for it in (pair.one, pair.other) if it}
         return [it.staged for at, it in self.rows.items() if self.has_error(at) or at in twice]
 
+    @functools.cached_property
     def shared(self) -> dict[tuple[object, ...], int]:
         """The changes that several rows have, each with their number."""
         counts: dict[tuple[object, ...], int] = {}

@@ -119,7 +119,8 @@ def ticked(register: Register, kind: str, day: datetime.date, given: Typed) -> l
         raise Refused("tick at least one child")
     parts().notices.see_none_kept(kind, wanted)
     chosen = set(wanted)
-    return [it for number, it in found.items() if number in chosen]
+    return notices.seen(register, kind, day, (
+        it for number, it in found.items() if number in chosen))
 
 
 def not_due(register: Register, kind: str, gone: list[int]) -> str:
