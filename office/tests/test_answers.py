@@ -167,7 +167,7 @@ def test_a_question_about_a_pile_has_an_address(office: Site) -> None:
     """
     jane = office.browser("jane")
     page = enter(jane, "11", "12-")
-    for button in ("Record 2 answers", "Remove all 2 from the batch"):
+    for button in ("Record 2 answers", "Remove all 2 answers from the batch"):
         assert page.form(button).method == "get"
     question = press(jane, PAGE, page, "Record 2 answers")
     again = jane.get(question.request.full_path)
@@ -200,7 +200,7 @@ def test_conflicts_are_named_and_not_sent(office: Site) -> None:
     assert len(pile(shown(jane))) == 6
     press(jane, PAGE, shown(jane), "Remove 11-")
     assert "Record 1 answer" in shown(jane).buttons()
-    page = Page(press(jane, PAGE, shown(jane), "Remove all 5 from the batch").text)
+    page = Page(press(jane, PAGE, shown(jane), "Remove all 5 answers from the batch").text)
     press(jane, f"{PAGE}remove", page, "Remove 5 answers")
     assert pile(shown(jane)) == [] and len(recorded(shown(jane))) == 1
     press(jane, PAGE, shown(jane), "Clear this list")
@@ -212,7 +212,7 @@ def test_all_of_a_pile_is_removed_after_a_question(office: Site) -> None:
     """
     jane = office.browser("jane")
     page = enter(jane, "11", "12-")
-    question = Page(press(jane, PAGE, page, "Remove all 2 from the batch").text)
+    question = Page(press(jane, PAGE, page, "Remove all 2 answers from the batch").text)
     assert len(pile(shown(jane))) == 2
     assert " ".join(question.by_id["removed"].split()) == (
         "11: accept Ada Abel 12-: decline Ben Bell")
@@ -488,7 +488,7 @@ def test_a_colon_separates(office: Site) -> None:
 
 def test_marked_rows_are_removed_at_once(office: Site) -> None:
     """A row that is not read is no other answer than the same one in a file that comes after it;
-    another answer is. All that have something against them go together, and the others stay.
+    another answer is. All that have a problem go together, and the others stay.
     """
     found = several(office, "12 Ben Bell / yes\n14 Dai O'Dare / no\n11 Ada Abel yes\n13 ? yes\n")
     assert '"/" is not understood' in found["12 Ben Bell / yes"][2]
@@ -502,11 +502,11 @@ def test_marked_rows_are_removed_at_once(office: Site) -> None:
     assert found["14 Dai O'Dare accept"][2] == "the batch has another answer for this child"
     page = shown(jane)
     assert "Record 2 answers" in page.buttons()
-    question = Page(press(jane, PAGE, page, "Remove the 4 that have something against them").text)
+    question = Page(press(jane, PAGE, page, "Remove the 4 answers with a problem").text)
     assert "Ada Abel" not in question.by_id["removed"] and len(pile(shown(jane))) == 6
     press(jane, f"{PAGE}remove", question, "Remove 4 answers")
     assert sorted(row[0] for row in pile(shown(jane))) == ["11 Ada Abel yes", "12 Ben Bell accept"]
-    assert not any("something against" in it for it in shown(jane).buttons())
+    assert not any("with a problem" in it for it in shown(jane).buttons())
 
 
 def test_names_that_are_not_all_offered_are_said_to_be_more(office: Site) -> None:
@@ -691,7 +691,7 @@ def test_a_pile_of_somebody_who_has_left_is_taken_over(office: Site) -> None:
     jane, hal = office.browser("jane"), office.browser("hal", "head")
     enter(office.browser("bo"), "11", "12-", "Ada")
     office.parts.people.lock("bo", True)
-    assert "bo, who is locked, has 3 answers that wait" in " ".join(shown(jane).text.split())
+    assert "bo, who is locked, has 3 answers not recorded yet" in " ".join(shown(jane).text.split())
     found = Page(jane.get("/answers/of/bo").text)
     assert [it[:5] for it in found.tables["3 answers of bo"][1:]] == [
         ["Ada", "", "not known", "accept", ""], ["12-", "12", "Ben Bell", "decline", "B"],
@@ -709,7 +709,7 @@ def test_a_pile_of_somebody_who_has_left_is_taken_over(office: Site) -> None:
     assert [it[0] for it in pile(shown(jane))] == ["13", "Ada", "12-", "11"]
     assert office.parts.history.entries[-1].about == {
         "person": "bo", "answers": ["11", "12-", "Ada", "13"]}
-    assert "has no answers that wait" in jane.get("/answers/of/bo").text
+    assert "The batch of bo is empty." in jane.get("/answers/of/bo").text
     assert hal.change(what="remove", name="bo").status_code == 200
     question = press(jane, PAGE, shown(jane), "Record 3 answers")
     press(jane, PAGE, Page(question.text), "Record 3 answers, with that of Ben Bell")
@@ -723,7 +723,7 @@ def test_who_may_take_over_a_pile(office: Site) -> None:
     jane, hal, bo = office.browser("jane"), office.browser("hal", "head"), office.browser("bo")
     enter(bo, "11")
     assert "Batches of colleagues" not in jane.get(PAGE).text
-    assert "bo has 1 answer that waits" in " ".join(shown(hal).text.split())
+    assert "bo has 1 answer not recorded yet" in " ".join(shown(hal).text.split())
     for name, role in (("rea", "reader"), ("ad", "administrator"), ("sup", "supervisor")):
         other = office.browser(name, role)
         assert other.get("/answers/of/bo").status_code == 403, role

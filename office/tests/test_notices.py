@@ -64,7 +64,9 @@ def test_reminders_and_withdrawals_lead_to_the_letters_of_the_same_children(
     jane = office.browser("jane")
     page = jane.get("/notices/remind?day=18 March 2025")
     assert re.findall(r'name="child" value="([0-9]+)"[^>]* checked', page.text) == list("12345")
-    assert jane.get("/notices/remind?day=17 March 2025").text.count('name="child"') == 0
+    early = jane.get("/notices/remind?day=17 March 2025").text
+    assert early.count('name="child"') == 0 and "Check what is ticked" not in early
+    assert "No reminder is due on Monday, 17 March 2025" in early and "/lists/no-answer" in early
     page = shown(jane, "remind", "18 March 2025", [2, 3])
     assert "Record 2 reminders of 18 March 2025" in page.text
     assert "Tuesday, 18 March 2025" in page.text and "=SUM(A1)" in page.text
@@ -108,6 +110,20 @@ def withdrawn(jane: Browser, office: Site, address: str) -> None:
         text = letter_pages(jane, made(jane, form))[0]
         assert "The place at Elm has ended" in text
         assert "our offer of 3 March 2025, of which we reminded you on 18 March 2025" in text
+
+
+def test_what_was_recorded_is_listed_in_sets(
+    office: Site, monkeypatch: pytest.MonkeyPatch,
+) -> None:
+    """Each with how many of it are recorded; and beside them how many are due today."""
+    jane = office.browser("jane")
+    assert "No reminder or withdrawal was recorded yet" in jane.get("/notices/").text
+    confirmed(jane, shown(jane, "remind", "18 March 2025", [2, 3]))
+    page = Page(jane.get("/notices/").text)
+    assert "Recorded so far: 1 set, the last first" in page.text
+    assert page.tables["rows"][1][:2] == ["Reminders of 18 March 2025", "2 of 2"]
+    monkeypatch.setattr(notices, "due", lambda *_: range(1234))
+    assert jane.get("/notices/").text.count("1,234 due today") == 2
 
 
 def test_the_letters_of_a_row_are_made_by_themselves(office: Site, address: str) -> None:

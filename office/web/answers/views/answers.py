@@ -51,7 +51,8 @@ def page(said: str = "", status: int = 200, pasted: str = "", typed: str = "") -
     names = {it.number: it.name for it in register.children.values()} if register else {}
     failed = sum(bool(it.entry.said) for it in shown)
     if failed and not said:
-        said = f"{texts.count(failed, 'answer was', 'answers were')} not recorded: see the results."
+        said = (f"{texts.count(failed, 'answer was', 'answers were')} not recorded: see ‘Problem’"
+                " below.")
     elif "recorded" in flask.request.args and not said and who in found.recorded:
         said = "{} of {} recorded.".format(found.recorded[who][0], texts.count(
             found.recorded[who][1], "answer is", "answers are"))
@@ -133,7 +134,7 @@ def entry_of_form() -> Entry | None:
 @needs(RECORD)
 def remove() -> Answer:
     """Removes an entry, the list of those that were recorded, or after a question all that wait or
-    all that have something against them.
+    all that have a problem.
     """
     given, found = flask.request.form.get("number", ""), parts().piles
     if given in MANY:

@@ -98,8 +98,8 @@ def choose_page(
                                              else str(it.child) in picked)) for it in found]
     return flask.render_template(
         "notices_choose.html", kind=kind, list=NOTICES[kind].due, title=NOTICES[kind].row,
-        typed=typed, wrong=wrong, said=said, is_bad=status != 200, kept=kept, marks=marks,
-        day=wording.weekday(day) if day else "", many=len(due),
+        one=NOTICES[kind].one, typed=typed, wrong=wrong, said=said, is_bad=status != 200,
+        kept=kept, marks=marks, day=wording.weekday(day) if day else "", many=len(due),
         page=choices.page_of(due, number, lambda it: it.due.child if it.is_ticked else None)
     ), status
 
