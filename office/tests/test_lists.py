@@ -22,6 +22,7 @@ from pages import Page, press
 from office.core import texts
 from office.files import book
 from office.web.lists import choice as list_choice
+from office.web.lists import on_screen
 from office.web.lists.register_rows import Rows
 from office.web.machinery import tables
 from office.web.schools import flags
@@ -109,7 +110,7 @@ def names(table: Table) -> list[str]:
 def test_a_list_is_whole_where_nothing_is_chosen(browser: Browser) -> None:
     """With each cell, days in words."""
     found = listed(browser, "children")
-    assert found.heads == ["Child", "Name", "Applied", "School", "Place", "Met"]
+    assert found.heads == ["Child", "Name", "Applied", "School", "Place", "Preference met"]
     assert found.rows == [
         ["1", ADA, "31 October 2024", "A", "offered", "first preference"],
         ["2", BEN, "31 October 2024", "A", "offered", "first preference"],
@@ -129,6 +130,27 @@ def test_rows_are_found_by_words_in_any_column(
     a day as it is shown; a number is found whole. (`=1+1` is the number 1 twice.)
     """
     assert names(listed(browser, "children", words=words)) == found
+
+
+def test_a_list_without_a_row_says_so(browser: Browser) -> None:
+    """Whether none is like what was chosen, or there is none at all."""
+    assert "No row of the list is like this." in browser.get(
+        "/lists/children?words=ada+ben").text
+    assert "Nothing is on this list now." in browser.get(
+        "/lists/lapse-due?day=18 March 2025").text
+    assert "class=\"empty\"" not in browser.get("/lists/children").text
+
+
+def test_a_fill_is_called_as_on_all_screens(office: Site, browser: Browser) -> None:
+    """In the list of rounds and offers, whose files keep its name."""
+    register = office.parts.desk.register()
+    assert [it.text for it in on_screen.shown(["draw", "kind"], [2, "fill"], register)] == [
+        "2", "offer from a waiting list"]
+    assert listed(browser, "draws").rows[0][1] == "round"
+    chosen = list_choice.Choice(state="fill", filled="met", order="plans", is_down=True)
+    assert chosen.in_words() == [
+        "state: offer from a waiting list", "with a value under Preference met",
+        "by EHC plans, the greatest first"]
 
 
 def test_rows_are_found_by_school_and_state(browser: Browser) -> None:
@@ -376,7 +398,7 @@ def test_children_of_a_list_are_put_into_a_pile(office: Site) -> None:
     june, yet = office.browser("june", "officer"), "no answer yet"
     for name, row in (("no-answer", "3 B"), ("list", "4 A"), ("unplaced", "4")):
         page = Page(june.get(f"/lists/{name}").text)
-        found = press(june, f"/lists/{name}", page, "Put into my batch", row=[row])
+        found = press(june, f"/lists/{name}", page, "Put into my batch of answers", row=[row])
         assert (found.status_code, found.location) == (303, "/answers/")
     # (what is there already is not put there again)
     assert piled(office, "june") == [(3, "B", "", yet), (4, "A", "", yet), (4, "B", "", yet)]
@@ -394,9 +416,9 @@ def test_letters_go_to_those_that_are_ticked(office: Site, browser: Browser) -> 
     for again.
     """
     page = Page(browser.get("/lists/no-answer?order=name&tick=all").text)
-    form = page.form("Letters to these")
+    form = page.form("Letters to those ticked")
     assert form.values["row"] == ["1 A", "2 A", "3 B"]
-    assert "Put into my batch" not in form.buttons
+    assert "Put into my batch of answers" not in form.buttons
     path, given = "/lists/no-answer/ticked", {"query": "", "to": "letters"}
     found = browser.post(path, {**given, "row": ["1 A", "3 B"]})
     assert found.location == "/letters/whom?whom=children&value=1,3"

@@ -48,10 +48,10 @@ class Choice:
         """Which rows these are."""
         said = [f"with “{self.words}”"] if self.words else []
         said += [f"at {self.at}"] if self.at else []
-        said += [f"state: {self.state}"] if self.state else []
-        said += [f"with something under {self.filled}"] if self.filled else []
-        down = ", from the greatest" if self.is_down else ""
-        return said + ([f"by {self.order}{down}"] if self.order else [])
+        said += [f"state: {on_screen.state(self.state)}"] if self.state else []
+        said += [f"with a value under {on_screen.head(self.filled)}"] if self.filled else []
+        down = ", the greatest first" if self.is_down else ""
+        return said + ([f"by {on_screen.head(self.order)}{down}"] if self.order else [])
 
 
 def of_address(given: MultiDict[str, str]) -> Choice:

@@ -37,7 +37,12 @@ CHILD, SCHOOLS = "child", ("school", "from", "to", "allotted")
 CLASS, SCHOOL, CRITERION = "class", "school", "criterion"
 # the columns whose heads on the screen are others than their names in files
 HEADS = {CLASS: "Criterion no.", CRITERION: "Criterion met", "metres": "Distance (m)",
-         "came": "Result", "pan": "Places"}
+         "came": "Result", "pan": "Places", "plans": "EHC plans", "met": "Preference met",
+         "first": "First preference", "later": "Lower", "late": "Applied late",
+         "due": "Due since", "offers": "Places offered", "kept": "Kept a place",
+         "unplaced": "No place", "held": "Had that place", "allotted": "Place given"}
+# and so the states that have another word on the screen
+STATES = {"fill": "offer from a waiting list"}
 
 
 @dataclasses.dataclass(frozen=True)
@@ -52,6 +57,11 @@ class Option:
     given: str
     words: str = ""
     wrong: str = ""
+
+
+def state(text: str) -> str:
+    """A state on the screen."""
+    return STATES.get(text, text)
 
 
 def head(column: str) -> str:
@@ -178,7 +188,8 @@ def shown(header: list[Cell], row: list[Cell], register: Register) -> list[Shown
             found.append(Shown(text, True, value if is_child else None))
         else:
             code = value if name in SCHOOLS and value in register.schools else ""
-            found.append(Shown("" if value is None else in_words(value), school=code or ""))
+            text = "" if value is None else state(value) if name == "kind" else in_words(value)
+            found.append(Shown(text, school=code or ""))
     return found
 
 

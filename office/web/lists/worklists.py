@@ -41,8 +41,8 @@ WORKLISTS = {
         "the rounds and offers: their days, their lots, and how many children were offered a place,"
         " kept theirs or have none", (), draw_rows.draws),
     "equal-at-limit": Worklist(
-        "where only the lot decided: who was offered or refused a place with the class and distance"
-        " of the last that was offered", (), draw_rows.equal_at_limit),
+        "where only the lot decided: who was offered or refused a place with the criterion and the"
+        " distance of the last child that was offered one", (), draw_rows.equal_at_limit),
     "find": Worklist(
         "the children whose names have each word, whatever capitals and accents; near names where"
         " there is none", ("text",), register_rows.find, ("text",)),
@@ -50,11 +50,11 @@ WORKLISTS = {
         "what families want: how many list each school, as which preference, how many of them"
         " applied late, and how many need a lot in the next round", (), register_rows.interest),
     "lapse-due": Worklist(
-        f"whose offer may lapse on a day: no answer by the end of the {days.NOTICE.days}th day"
-        " after the reminder", ("day",), register_rows.lapse_due),
+        "whose offer may be withdrawn on a day: no answer by the end of the"
+        f" {days.NOTICE.days}th day after the reminder", ("day",), register_rows.lapse_due),
     "last-offered": Worklist(
-        "the last class, distance and lot that were offered at each school each time, and how many"
-        " were", (), draw_rows.last_offered),
+        "the criterion, the distance and the lot of the last child that was offered a place at each"
+        " school each time, and how many were", (), draw_rows.last_offered),
     "list": Worklist(
         "the waiting lists, or that of one school: positions, names, criteria met and distances",
         ("school",), register_rows.waiting),
