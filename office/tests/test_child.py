@@ -115,7 +115,7 @@ def test_a_reason_has_few_words_and_withholds_distances() -> None:
             (DISTANCE, "The last child admitted lives 150 metres nearer."),
             (LOT, "As near as the last child admitted; the lot decided."),
             (NOBODY, "Nobody was newly admitted."),
-            (None, "Data changed since then: see the explanation.")):
+            (None, "Details changed since then: see the explanation.")):
         found = reasons.why(by, last, 150)
         assert found == wanted and len(found.split()) <= 12
     assert reasons.why(DISTANCE, last, None) == "The last child admitted lives nearer."
@@ -399,7 +399,7 @@ def test_a_plan_is_chosen_and_ends_a_place(office: Site) -> None:
     """Its question says what ends with it."""
     jane = office.browser("jane")
     page = Page(jane.get("/children/1/plan").text)
-    assert "confirm" not in page.fields and page.form("Show").method == "get"
+    assert "confirm" not in page.fields and page.form("Show what happens then").method == "get"
     page = Page(jane.get("/children/1/plan?school=B").text)
     assert "The place at A, offered, ends with it." in page.text
     assert jane.get("/children/1/plan?school=ZZ").status_code == 409

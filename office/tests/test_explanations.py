@@ -163,14 +163,14 @@ def test_data_of_now_may_give_no_reason(tmp_path: pathlib.Path) -> None:
         page = Page(jane.get("/children/3/why/1/family").text)
         assert f"Your child: {WORDS}, 300 metres." in page.text and "/pdf" in page.text
         assert "part=positions#kept" in page.text
-        assert "The data of your child were changed since" in page.text
+        assert "The details of your child were changed since" in page.text
         os.remove(path)
         page = Page(jane.get("/children/3/why/1/family").text)
-        said = "There is no reason: the data that the register has now give no reason"
+        said = "No reason can be given: the details of this child, or of one"
         assert said in page.by_id["school-A"] and "/pdf" not in page.text
         assert jane.get("/children/3/why/1/family/pdf").status_code == 409
         paper = printed(jane.get("/children/3/why/1/office/pdf").data, tmp_path)
-        assert said in paper and "this is by the data that the register has now" in paper
+        assert said in paper and "this is by the details that the register has now" in paper
 
 
 def test_a_fill_is_explained(tmp_path: pathlib.Path) -> None:

@@ -737,7 +737,7 @@ def test_a_raise_shows_both_numbers(held: Site) -> None:
     for typed, said in (("2", "more than the present number, 2"), ("1", "more than the present"),
                         ("501", "from 1 to 500"), ("x", "a whole number")):
         page = Page(jane.get(f"/schools/A/raise?pan={typed}").text)
-        assert said in page.error("pan") and page.buttons() == ["Show"]
+        assert said in page.error("pan") and page.buttons() == ["Show what changes"]
     page = Page(jane.get("/schools/A/raise?pan=30").text)
     assert "This is 28 places more" in page.text
     page = Page(jane.get("/schools/A/raise?pan=3").text)
@@ -819,7 +819,7 @@ def test_all_of_a_draft_is_removed_after_a_question(empty: Site) -> None:
     """That names the schools; what a colleague has changed since is not removed unseen."""
     jane, remove = empty.browser("jane"), "/schools/new/remove"
     draft = empty.parts.schools
-    question = Page(press(jane, "", drafted(jane), "Remove all 2 from the draft").text)
+    question = Page(press(jane, "", drafted(jane), "Remove all 2 schools from the draft").text)
     before = draft.rows()
     assert len(before) == 2 and question.buttons()[-1] == "Remove 2 schools"
     for _, cells in before:

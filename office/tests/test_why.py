@@ -245,7 +245,7 @@ def test_an_outcome_that_is_not_of_the_data(tmp_path: Path) -> None:
     lists, lots = {1: ["A"], 2: ["A"]}, {("A", 1): 5, ("A", 2): 3}
     write(tmp_path / "before.db", schools, children, lists)
     filled = ": each school on the list was filled by children who rank before it there."
-    no_reason = "THERE IS NO REASON: the data that the register has now give no reason"
+    no_reason = "THERE IS NO REASON: the details of this child, or of one that was admitted"
     cases: list[tuple[dict[int, str | None], str, str, bool]] = [
         ({1: "A", 2: None}, filled, "the distance decided", True),
         ({1: None, 2: "A"}, ".", no_reason, False),
@@ -448,15 +448,15 @@ def test_what_was_changed_after_the_round(tmp_path: Path) -> None:
     do(tmp_path / "reg.db", [{**child(1, east=5000), "cmd": "amend"}])
     found = said(reg, 1, True, copy=before)
     changed = (
-        "The data of this child were changed since: the earlier ones, which decided, are used.\n"
+        "The details of this child were changed since. This uses the earlier ones, which decided.\n"
     )
     assert found.count(changed) == 1 and found.replace(changed, "") == first
     assert "50 metres" in first
     assert "This child: ranked by distance alone, 5,000 metres." in said(reg, 1, True)
     do(tmp_path / "reg.db", [{**child(1, east=5), "cmd": "amend"}])
     assert said(reg, 1, True).endswith(
-        "THERE IS NO REASON: the data that the register has now give no reason: those of this"
-        " child, or of one that was admitted, were changed since.\n")
+        "THERE IS NO REASON: the details of this child, or of one that was admitted, were changed"
+        " since.\n")
     make(
         tmp_path / "other.db",
         [

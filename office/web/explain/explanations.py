@@ -20,8 +20,8 @@ COPY = "the copy from before the round"
 FAMILY, OFFICE = "family", "office"
 READERS = {FAMILY: "For the family", OFFICE: "For the office"}
 NO_COPY = "the copy of the register from before this round is not kept here"
-OF_NOW = ("The copy of the register from before it is not kept here, so this is by the data that"
-          " the register has now. If they were changed since, earlier data decided.")
+OF_NOW = ("The copy of the register from before it is not kept here, so this is by the details that"
+          " the register has now. If they were changed since, the earlier ones decided.")
 NOT_THERE = "The child was not in the register when the {}."
 
 

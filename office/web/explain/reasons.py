@@ -81,4 +81,4 @@ def why(by: str | None, last: Cutoff | None, nearer: int | None) -> str:
         return f"The last child admitted lives {by_metres}nearer."
     if by == LOT:
         return "As near as the last child admitted; the lot decided."
-    return "Data changed since then: see the explanation."
+    return "Details changed since then: see the explanation."

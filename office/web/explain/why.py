@@ -44,9 +44,9 @@ BY_DISTANCE_OR_LOT = ("Both rank equally by the criteria, and the distance, or b
                       " distances the lot, decided.")
 ORDER = ("A vacancy is offered to the one that ranks first of those who wait: by the criteria, then"
          " by the distance, and between equal distances by the lot.")
-AMENDED = "The data of this child were changed since: the earlier ones, which decided, are used."
-NO_REASON = ("the data that the register has now give no reason: those of this child, or of one"
-             " that was admitted, were changed since")
+AMENDED = ("The details of this child were changed since. This uses the earlier ones, which"
+           " decided.")
+NO_REASON = "the details of this child, or of one that was admitted, were changed since"
 # why a child takes no part at a school of its list
 TURNED_DOWN = "the family had declined the place there, or not answered its offer in time"
 LEFT = "the family had left the waiting list there"
