@@ -181,6 +181,8 @@ def test_all_that_was_typed_of_a_child_is_in_both_and_nothing_of_another(office:
     assert marks(answer.text) == MINE and marks(page) == MINE
     see_no_other(answer.text)
     see_no_other(page)
+    for words in ("Looked after", "Verified reasons", "Year of entry", "Rounds and offers"):
+        assert f"<dt>{words}</dt>" in page, words
     found = json.loads(answer.text)
     assert [base64.b64decode(it["data"]) for it in found["office"]["child_file"]] == [FILE]
     # by hand: the second lives nearest after the first, and both have places at A, which has two

@@ -12,6 +12,7 @@ from typing import Any, Protocol
 
 from office.core import texts
 from office.core.model import Register
+from office.core.wording import label
 from office.files import pages
 from office.web.register.history import ANSWER, SENDS, SETTLED, Entry
 from office.web.register.records import came_of, ends_of, points_in, row_in
@@ -34,6 +35,8 @@ UNSEALED = {
     True: "{} was cancelled before its lots were sealed: those of this child were seen by the"
           " supervisor alone, and are not in this.",
 }
+# how the page calls what the register has
+NAMES = {"year": "Year of entry", "gave_up": "Schools given up", "draws": "Rounds and offers"}
 NAMED = re.compile(r"\bchild (\d+)\b", re.I)
 # a form has no file, and a row is one of a file
 FORM = ""
@@ -348,8 +351,9 @@ def page_of(found: Mapping[str, Any]) -> Iterator[str]:
     tables = {table: [{name: size_of(row, name) for name in row} for row in rows]
               for table, rows in found["office"].items()}
     history = [{**it, "about": shown(it["about"])} for it in found["history"]]
-    register = {name: it for name, it in found["register"].items() if name != "data"}
+    register = {NAMES.get(name) or label(name): shown(it)
+                for name, it in found["register"].items() if name != "data"}
     yield pages.render("web/children/printed/subject.html", {
-        "found": found, "data": {name: shown(it) for name, it in found["register"]["data"].items()},
-        "register": {name: shown(it) for name, it in register.items()},
+        "found": found, "name": found["register"]["data"]["name"], "register": register,
+        "data": {label(name): shown(it) for name, it in found["register"]["data"].items()},
         "history": history, "tables": tables})
