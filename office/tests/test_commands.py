@@ -103,8 +103,8 @@ def test_a_place_by_a_plan_is_named_as_such(reg: Path) -> None:
     said = said_of(reg, [line_of(answer("decline", it, "OAK")) for it in (3, 1)])
     assert said == [
         "child 3 has its place at ELM by a plan, which no command ends (NotOffered)",
-        "child 1 has no open offer at OAK: the offer is of another school, was answered or has"
-        " lapsed, or a later round or fill has moved the child; look at the child's place"
+        "child 1 has no open offer at OAK: the offer is of another school, was answered or"
+        " withdrawn, or a later round or offer has moved the child; look at the child's place"
         " (NotOffered)",
     ]
 
