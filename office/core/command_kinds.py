@@ -66,7 +66,7 @@ def against_place(register: Register, command: Command) -> str:
     if place is None or place.kind == model.PLAN:
         return f"there is no offer to answer: {said}"
     if command["school"] and place.school != command["school"]:
-        return f"it is about {command['school']}: {said}"
+        return f"the answer names {command['school']}: {said}"
     if command["cmd"] == "accept" and place.kind == model.ACCEPTED:
         return "the place is accepted already"
     return ""

@@ -583,7 +583,7 @@ def test_a_name_that_is_another_stops_its_answer(office: Site) -> None:
     page = shown(jane)
     assert {row[1]: row[5] for row in pile(page)} == {
         "11": "", "12": 'the name given is "Zoe Young"',
-        "13": "it is about B: The child was offered a place at Alpha on 3 March 2025."
+        "13": "the answer names B: The child was offered a place at Alpha on 3 March 2025."
               " There is no answer yet."}
     press(jane, PAGE, page, "It is Ben Bell all the same: accept")
     assert {row[1]: row[5] for row in pile(shown(jane))}["12"] == ""
