@@ -591,13 +591,13 @@ def test_a_name_that_is_another_stops_its_answer(office: Site) -> None:
 
 
 REFUSED = [
-    ("school,reply\nA,accept\n", "no column with the number or the name of a child"),
-    ("child,school,lot\n11,A,5\n", "it is a sheet of lots."),
+    ("school,reply\nA,accept\n", "no column has the title of a child's number or name"),
+    ("child,school,lot\n11,A,5\n", "this is a sheet of lots."),
     ("child,school,offered,due\n11,A,2025-03-03,2025-03-17\n",
-     "it is a list of children, without answers."),
+     "this is a list of children, without answers."),
     ("child,name,east,north,looked_after,flags,siblings,day,preferences\n1,A,1,1,no,,,x,A\n",
-     "it is a sheet of applications."),
-    ("reply,child,school\n", "has no child"),
+     "this is a sheet of applications."),
+    ("reply,child,school\n", "there is no child below the titles"),
 ]
 
 

@@ -254,7 +254,7 @@ def test_a_withdrawal_needs_a_reminder(office: Site, monkeypatch: pytest.MonkeyP
     late = press(jane, path, page, "Withdraw the offer of Beta from Cyd <b>Cole</b>")
     assert late.status_code == 409 and 3 in office.parts.desk.now().places
     assert Page(late.text).said() == (
-        "Nothing was recorded: read what looks wrong, and say that it is right.")
+        "Nothing was recorded: read what looks wrong, and tick that it is right.")
     assert "The letter of the reminder of 18 March 2025 is not recorded as sent." in late.text
     found = press(jane, path, page, "Withdraw the offer of Beta from Cyd <b>Cole</b>", read="yes")
     assert found.status_code == 303 and 3 not in office.parts.desk.now().places

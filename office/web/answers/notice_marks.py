@@ -12,7 +12,7 @@ from office.web.register.store import Store
 
 from . import entries
 
-UNREAD = "Nothing was recorded: read what looks wrong, and say that it is right."
+UNREAD = "Nothing was recorded: read what looks wrong, and tick that it is right."
 
 
 def waiting(store: Store) -> dict[int, str]:

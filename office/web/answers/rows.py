@@ -90,13 +90,13 @@ class Reader:
     def rows(self, rows: Sequence[Row]) -> list[Meant]:
         """What rows mean. Those without an answer are accepts only where no row has an answer."""
         if not rows:
-            raise Refused("there is nothing in it")
+            raise Refused("the text or the file is empty")
         if other := file_kinds.of_columns(rows[0].cells):
-            raise Refused(f"it is {other}")
+            raise Refused(f"this is {other}")
         titles = titles_of(rows[0].cells)
         below = rows[1:] if titles else rows
         if not below:
-            raise Refused("it has no child below its titles")
+            raise Refused("there is no child below the titles")
         if len(below) > MOST:
             # (before each is looked for among the children, which takes minutes)
             raise Refused(f"it has {len(below):,} rows, and a batch at most {MOST:,} answers")
@@ -106,7 +106,7 @@ class Reader:
         made = [self.meant(", ".join(filter(None, map(str.strip, row.cells)))[:MOST_TYPED], parts,
                            "" if has_answers else "accept") for row, parts in read]
         if len(made) >= MANY_ROWS and all(it.child is None for it in made):
-            raise Refused("it seems to be another file: no row has the number or the name of a"
+            raise Refused("this seems to be another file: no row has the number or the name of a"
                           " child")
         return made
 
@@ -251,5 +251,5 @@ def titles_of(cells: Sequence[str]) -> list[tuple[str, str]]:
     if not (len(named) > 1 or is_one) or any(not fields.child(it, None).expected for it in given):
         return []
     if not named & {NUMBER, NAME}:
-        raise Refused("it has no column with the number or the name of a child")
+        raise Refused("no column has the title of a child's number or name")
     return found

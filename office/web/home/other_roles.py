@@ -57,7 +57,7 @@ def of_supervisor(
 def lots_to_come(register: Register, today: datetime.date) -> Iterator[Task]:
     """The lots of a draw that the office has not begun."""
     closing, offer, last = register.days
-    begins = "The office begins it, and it is here then."
+    begins = "Once the office has begun it, its lots are here."
     if not register.draws:
         day = closing + datetime.timedelta(days=1)
         state = home.from_day(day) if today <= closing else "Not begun"
@@ -111,8 +111,8 @@ def of_lists(register: Register, code: str) -> Iterator[Task]:
         yield Task("Look through your intake", f"{sentence(texts.listed(said))}",
                    texts.count(len(held), "place"), READY, "schools.held", values)
     if many := register.schools[code].waiting:
-        yield Task("Look through your waiting list", "Vacant places are offered in this order, by"
-                   " the office.", texts.count(many, "child waits", "children wait"), READY,
+        yield Task("Look through your waiting list", "The office offers vacant places in this"
+                   " order.", texts.count(many, "child waits", "children wait"), READY,
                    "schools.waiting", values)
 
 

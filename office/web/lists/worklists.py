@@ -44,8 +44,8 @@ WORKLISTS = {
         "where only the lot decided: who was offered or refused a place with the criterion and the"
         " distance of the last child that was offered one", (), draw_rows.equal_at_limit),
     "find": Worklist(
-        "the children whose names have each word, whatever capitals and accents; near names where"
-        " there is none", ("text",), register_rows.find, ("text",)),
+        "the children whose names have all the words, in any capitals and accents; if there is"
+        " none, those with near names", ("text",), register_rows.find, ("text",)),
     "interest": Worklist(
         "what families want: how many list each school, as which preference, how many of them"
         " applied late, and how many need a lot in the next round", (), register_rows.interest),

@@ -149,7 +149,7 @@ def by(one: Positions | None, other: Positions | None) -> str:
         return "not known: no copy"
     ups = [one[it] - other[it] for it in one.keys() & other.keys()]
     if not ups:
-        return "nobody waited both times" if one else "no list before it"
+        return "nobody waited at both moments" if one else "no list before it"
     said = [way(ups, "up"), way([-it for it in ups], "down")]
     return "; ".join(filter(None, said)) or "nobody moved"
 

@@ -54,7 +54,7 @@ def page(said: str = "", status: int = 200, pasted: str = "", typed: str = "") -
         said = (f"{texts.count(failed, 'answer was', 'answers were')} not recorded: see ‘Problem’"
                 " below.")
     elif "recorded" in flask.request.args and not said and who in found.recorded:
-        said = "{} of {} recorded.".format(found.recorded[who][0], texts.count(
+        said = "{:,} of {} recorded.".format(found.recorded[who][0], texts.count(
             found.recorded[who][1], "answer is", "answers are"))
     return flask.render_template(
         "answers.html", shown=shown, ready=ready, digest=digest_of(ready),
@@ -111,7 +111,7 @@ def several() -> Answer:
         if pasted.strip() and given and given.filename:
             raise Refused("paste a text or choose a file, and not both")
         if len(pasted) > MOST_PASTED:
-            raise Refused("that is too much to be pasted: upload it as a sheet")
+            raise Refused("that is too much to be pasted: add it as an Excel file or CSV")
         if pasted.strip():
             rows = sheet.text_sheet("the text", pasted.strip().encode()).rows
         else:

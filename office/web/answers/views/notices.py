@@ -130,7 +130,7 @@ def not_due(register: Register, kind: str, gone: list[int]) -> str:
     who = f"child {names[0]}, is" if len(gone) == 1 else f"children {'; '.join(names)}; are"
     return (f"{who} not due any more: somebody has recorded an answer or a {NOTICES[kind].one}"
             " meanwhile."
-            " Nothing was recorded, and all others that you ticked still are")
+            " Nothing was recorded, and all others stay ticked")
 
 
 def all_ticked(kind: str) -> list[tuple[str, str]]:

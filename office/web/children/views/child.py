@@ -404,7 +404,7 @@ def compare_page(
     child, keys = register.children[number], keys_in(typed)
     changes = corrections.changes(child, command)
     if not changes:
-        same = "The register has this data: there is nothing to record."
+        same = "The register has these details already: there is nothing to record."
         return form_page(number, typed, said=f"{said} {same}".strip(), status=409, cells=cells)
     return flask.render_template(
         "correction.html", child=child, changes=changes, cells=cells, said=said, fields=FIELDS,
