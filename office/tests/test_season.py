@@ -93,6 +93,7 @@ def test_a_season_goes_step_by_step(
             "When you are ready": [("Add the applications that have come in",
                                     "Closes in 60 days")],
             "Not yet": [(round_1, "From 1 November 2024")]}
+        assert "No school is in the register yet" in rita.get("/schools/").text
         for command in town():
             assert office.parts.desk.send(HAL, command).is_done, command
         assert found("2024-10-31") == {
