@@ -16,7 +16,7 @@ LATER = "Record nothing, and tell IT support."
 def has(register: Register, entry: Entry) -> bool:
     """Whether a register has what was done last, as far as that is seen at once."""
     if rows := entry.about.get("import"):
-        first = next(iter(effects.rows_of(rows)), {})
+        first: dict[str, str] = next(iter(effects.rows_of(rows)), {})
         return trimmed(first.get("child") or "") in map(str, register.children)
     command = entry.about.get("command")
     if command is None:
