@@ -157,15 +157,31 @@ def machine() -> str:
     return hashlib.sha256(f"admissions {found}".encode()).hexdigest()[:32]
 
 
+def owner_of(register: Register, place: str, as_user: str | None = None) -> str:
+    """The machine whose place the folder of a register there is, by its number and its name; or
+    ""."""
+    with tempfile.TemporaryDirectory() as room:
+        if as_user:
+            os.chown(room, *files.numbers(as_user, as_user))
+        rsync("--recursive", "--include", f"/{OWNER}", "--exclude", "*",
+              f"{place}/{register.name}/", f"{room}/", as_user=as_user)
+        path = pathlib.Path(room, OWNER)
+        return path.read_text(encoding="utf-8", errors="replace") if path.is_file() else ""
+
+
+def other_owner(register: Register, place: str, as_user: str) -> str:
+    """The name of another machine whose place the folder of a register there is, or ""."""
+    number, _, name = owner_of(register, place, as_user).strip().partition(" ")
+    return name or number if number not in ("", machine()) else ""
+
+
 def see_owner(register: Register, place: str) -> None:
     """Refuses the place of another machine, and keeps that this one was taken over where the place
     was its own before. A place without an owner gets this one."""
     there, number = f"{place}/{register.name}", machine()
     with tempfile.TemporaryDirectory() as room:
         rsync("--recursive", f"{room}/", f"{there}/")
-        rsync("--recursive", "--include", f"/{OWNER}", "--exclude", "*", f"{there}/", f"{room}/")
-        path = pathlib.Path(room, OWNER)
-        owner = path.read_text(encoding="utf-8", errors="replace") if path.is_file() else ""
+    owner = owner_of(register, place)
     # (which a register that was moved here, or a clone of the machine, has of another one)
     kept, line = register.copies / OWNER, f"{number} {place}\n"
     is_kept = kept.exists() and kept.read_text(encoding="utf-8") == line

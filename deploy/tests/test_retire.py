@@ -357,6 +357,28 @@ def test_a_second_place_that_cannot_be_reached_remains(
     assert not register.folder.exists() and deletion.record_of(register)["remains"]
 
 
+def test_the_copies_of_the_machine_that_has_taken_over_stay(
+    register: registers.Register, machine: pathlib.Path, monkeypatch: pytest.MonkeyPatch,
+    capsys: pytest.CaptureFixture[str],
+) -> None:
+    """The first machine is retired some days later, when the second place is the other one's. Its
+    own copies go, also after the place was not reached at first."""
+    owner = machine / "mnt" / register.name / second_copy.OWNER
+    owner.write_text(f"{'7' * 32} office-2\n")
+    before = everything(machine)
+    with pytest.raises(Refused, match="has the copies of the machine office-2, which goes on"):
+        run("--second-place")
+    assert {**everything(machine), "lock": b""} == {**before, "lock": b""}
+    with monkeypatch.context() as patch:
+        patch.setattr(retire, "see_own_place", lambda _: None)
+        assert run("--second-place") == 1
+    assert "it has the copies of the machine office-2" in capsys.readouterr().err
+    assert {it: data for it, data in everything(machine).items() if it.startswith("mnt/")} == {
+        it: data for it, data in before.items() if it.startswith("mnt/")}
+    owner.write_text(f"{second_copy.machine()} office-1\n")
+    assert run("--second-place") == 0 and not owner.exists()
+
+
 @pytest.mark.parametrize(("last", "options", "said"), [
     (TODAY, [], "the lists of secondary-2025 end on 2026-01-10, and nothing was deleted"),
     (LAST, ["--early", " "], "the reason is one line"),

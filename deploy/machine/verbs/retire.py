@@ -8,10 +8,10 @@ history, letters and files of children, logs of earlier versions, the site,
 its key and its settings, and the right of its application to the network of the
 machine. The last day of its waiting lists must
 have passed; --early deletes it before that, for a reason that is kept. With
---second-place its folder at the second place is deleted too; otherwise the
-command names what remains there. What stays is the record,
-/etc/admissions/NAME/deleted: when, by whom, how many files and bytes, and what
-remains. It has nothing of a child.
+--second-place its folder at the second place is deleted too, unless another
+machine copies there since it has taken over; otherwise the command names what
+remains there. What stays is the record, /etc/admissions/NAME/deleted: when, by
+whom, how many files and bytes, and what remains. It has nothing of a child.
 
 The command shows what it will delete, with the names of this machine and of the
 site, and asks for the name of the register; without a terminal --yes confirms.
@@ -26,6 +26,7 @@ exit status: 0 deleted; 1 not, or something remains at the second place, and
 the line says so.
 """
 import argparse
+import contextlib
 import os
 import pathlib
 import shutil
@@ -59,6 +60,8 @@ def main(given: argparse.Namespace) -> int:
         print(in_words(register, record))
         return 0
     see_time(register, record, given.early)
+    if given.second_place:
+        see_own_place(register)
     confirm(register, given)
     record = retired(register, given)
     print(in_words(register, record))
@@ -108,6 +111,27 @@ def see_time(register: Register, record: dict[str, str], reason: str | None) -> 
     if deletion.today() <= last:
         raise Refused(f"the lists of {register.name} end on {last.isoformat()}, and nothing was"
                       " deleted. To delete it before that, give a reason with --early")
+
+
+def see_own_place(register: Register) -> None:
+    """Refuses to delete the copies of the machine that has taken over from this one. A place that
+    is not reached is named once all else is deleted."""
+    other = ""
+    with contextlib.suppress(Refused):
+        other = other_machine(register)
+    if other:
+        raise Refused(f"{office_delete.second_place(register)} has the copies of the machine"
+                      f" {other}, which goes on with {register.name}: nothing was deleted. Type it"
+                      " without --second-place; or, if that machine is off for good, remove"
+                      f" {second_copy.OWNER} there first")
+
+
+def other_machine(register: Register) -> str:
+    """The machine whose place the folder of a register at the second place is by now, or ""."""
+    place = second_copy.place_of()
+    if not place or office_delete.has_nothing(place, register):
+        return ""
+    return second_copy.other_owner(register, place, USER)
 
 
 def confirm(register: Register, given: argparse.Namespace) -> None:
@@ -191,6 +215,8 @@ def at_second_place(register: Register) -> str:
         place = second_copy.place_of()
         if place and second_copy.is_local(place) and not os.path.isdir(place):
             raise Refused(f"{place} is not there: is the disk mounted?")
+        if other := other_machine(register):
+            raise Refused(f"it has the copies of the machine {other}")
         with tempfile.TemporaryDirectory() as room:
             os.chmod(room, 0o755)
             call(tool("rsync", "rsync"), "--recursive", "--delete", "--force", "--rsh",
