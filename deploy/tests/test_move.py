@@ -305,3 +305,28 @@ def test_a_rehearsal_is_ended_where_it_was_and_nowhere_else(
     assert typed("rehearse", NAME, "--end") == 0 and not given[1].yes
     assert path.read_text() == "# a comment\n/mnt/copies\n"
     assert not (machine / "etc" / rehearse.BEFORE).exists()
+
+
+def test_a_rehearsal_that_has_fetched_nothing_is_ended_too(
+    machine: pathlib.Path, monkeypatch: pytest.MonkeyPatch, write_as_me: None,
+    capsys: pytest.CaptureFixture[str],
+) -> None:
+    """As from a place that is not there. A name that was mistyped ends no rehearsal of another."""
+    monkeypatch.setattr(serving, "see_needed", lambda: None)
+    path = machine / "etc/second-copy"
+    path.write_text("/mnt/copies\n")
+    with pytest.raises(Refused, match="is not there: is the disk mounted?"):
+        typed("rehearse", NAME, str(machine / "gone"), "--site", "trial.example")
+    assert path.read_text() == "none\n"
+    other = machine / "lib/primary-2026/reg.db"
+    other.parent.mkdir()
+    other.write_text(document())
+    with pytest.raises(Refused, match=f"no such register: {NAME}"):
+        typed("rehearse", NAME, "--end", "--yes")
+    assert path.read_text() == "none\n"
+    other.unlink()
+    assert typed("rehearse", NAME, "--end", "--yes") == 0
+    assert path.read_text() == "/mnt/copies\n"
+    assert "second place of this machine is /mnt/copies, as before" in capsys.readouterr().out
+    with pytest.raises(Refused, match="no rehearsal was begun on this machine"):
+        typed("rehearse", NAME, "--end", "--yes")

@@ -72,9 +72,13 @@ def end(given: argparse.Namespace) -> int:
     if not (SETTINGS / BEFORE).exists():
         raise Refused("no rehearsal was begun on this machine: nothing was deleted")
     register = named(given.name)
-    retire.main(argparse.Namespace(
-        name=register.name, second_place=False, early=WHY, yes=given.yes))
+    # (one that has fetched nothing has nothing to delete)
+    if all_registers() or retire.anything(register):
+        retire.main(argparse.Namespace(
+            name=register.name, second_place=False, early=WHY, yes=given.yes))
     if not all_registers():
-        second_copy.keep_line((SETTINGS / BEFORE).read_text(encoding="utf-8").strip())
+        line = (SETTINGS / BEFORE).read_text(encoding="utf-8").strip()
+        second_copy.keep_line(line)
         (SETTINGS / BEFORE).unlink()
+        print(f"the second place of this machine is {line or 'not named'}, as before")
     return 0
