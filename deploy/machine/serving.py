@@ -117,8 +117,9 @@ def begin(units: list[str]) -> bool:
 
 
 def start(register: Register) -> bool:
-    """Starts a register with its application, and waits until both answer. Returns whether they
-    do."""
+    """Starts a register with its application, also one that was closed, and waits until both
+    answer. Returns whether they do."""
+    unmask(register)
     if not begin([desk(register), *application(register), *timers(register)[:2]]):
         return False
     answers_of(register.socket, (200, 404), "the desk", desk(register))
@@ -141,6 +142,20 @@ def is_closed(register: Register) -> bool:
     """Whether an administrator has closed the office, so that nothing starts it."""
     path = MASKS / desk(register)
     return path.is_symlink() and os.readlink(path) == os.devnull
+
+
+def unmask(register: Register) -> None:
+    """Has an office that was closed start again."""
+    if is_closed(register):
+        systemctl("unmask", *application(register), desk(register))
+
+
+def start_application(register: Register) -> None:
+    """Starts the application of an office that is not closed, also where it has given up."""
+    if not is_closed(register):
+        units = application(register)
+        systemctl("reset-failed", *units, may_fail=True)
+        systemctl("start", *units)
 
 
 def answers_of(socket: pathlib.Path, wanted: tuple[int, ...], what: str, unit: str) -> None:

@@ -10,7 +10,10 @@ import typing
 
 import pytest
 from conftest import Systemd, Terminal, document, typed
-from machine import brought, copies, files, office_copy, office_store, people, registers, serving
+from machine import (
+    brought, copies, files, history_copies, office_copy, office_store, people, registers,
+    second_copy, serving,
+)
 from machine.verbs import copy as copy_verb, open as open_verb, restore, status, takeover
 from office.web.register.history import ANSWER, SENDS, History
 from register_files import Refused
@@ -88,6 +91,10 @@ def waiting(register: registers.Register) -> list[tuple[int, str]]:
         return [(it.about["command"]["child"], copy.purpose) for it in entries]
 
 
+def killed(*_: object) -> typing.NoReturn:
+    raise KeyboardInterrupt
+
+
 def names(register: registers.Register) -> list[str]:
     return list(people.users_of(register))
 
@@ -158,9 +165,6 @@ def test_killed_at_each_step_and_typed_again_it_goes_on(
     place: tuple[typing.Any, str], damaged: registers.Register, systemd: Systemd,
     monkeypatch: pytest.MonkeyPatch,
 ) -> None:
-    def killed(*_: object) -> typing.NoReturn:
-        raise KeyboardInterrupt
-
     with monkeypatch.context() as patch:
         patch.setattr(*place, killed)
         with pytest.raises(KeyboardInterrupt):
@@ -281,6 +285,82 @@ def test_what_stands_in_the_way_is_named(
     with pytest.raises(Refused, match=f"has no nightly copy: admissions-admin takeover {NAME}"):
         typed("restore", "--yes")
     assert systemd.calls == [] and damaged.file.read_text(encoding="ascii") == "damaged"
+
+
+def close(machine: pathlib.Path, systemd: Systemd, monkeypatch: pytest.MonkeyPatch) -> None:
+    """Closes the office, as `admissions-admin close` does."""
+    monkeypatch.setattr(serving, "MASKS", machine)
+    unit = machine / f"admissions@{NAME}.service"
+    unit.symlink_to(os.devnull)
+    systemd.does["unmask"] = unit.unlink
+
+
+def test_an_office_that_was_closed_is_open_after_a_restore(
+    damaged: registers.Register, systemd: Systemd, machine: pathlib.Path,
+    monkeypatch: pytest.MonkeyPatch,
+) -> None:
+    """An administrator closes it first, so that nobody works meanwhile. It stays closed until the
+    restore is done."""
+    close(machine, systemd, monkeypatch)
+    with monkeypatch.context() as patch:
+        patch.setattr(brought, "begin", fail)
+        with pytest.raises(Refused, match="No space left"):
+            typed("restore", "--yes")
+    assert systemd.lines("unmask", "start") == []
+    assert typed("restore", "--yes") == 0
+    unmasked, *starts = systemd.lines("unmask", "start")
+    assert unmasked.startswith(f"unmask admissions-office@{NAME}.socket")
+    assert starts == [*STARTS, *COPIES]
+
+
+def test_another_verb_does_not_open_an_office_that_was_closed(
+    damaged: registers.Register, systemd: Systemd, machine: pathlib.Path,
+    monkeypatch: pytest.MonkeyPatch, capsys: pytest.CaptureFixture[str],
+) -> None:
+    close(machine, systemd, monkeypatch)
+    assert typed("history", "--mend") == 0
+    assert systemd.calls == [] and "is whole" in capsys.readouterr().out
+    monkeypatch.setattr(serving, "see_needed", lambda: None)
+    damaged.file.write_text(document(), encoding="utf-8")
+    monkeypatch.setattr(registers, "is_blank", lambda _: False)
+    with pytest.raises(Refused, match=f"is closed, and would open: admissions-admin open {NAME}"):
+        typed("setup", NAME, "--user", "jane")
+    assert systemd.calls == []
+
+
+def test_a_machine_that_was_taken_over_restores_nothing(
+    damaged: registers.Register, systemd: Systemd, machine: pathlib.Path
+) -> None:
+    """Its office would not start after it."""
+    (machine / "etc/second-copy").write_text("/mnt/copies\n")
+    (damaged.copies / second_copy.TAKEN_OVER).write_text(f"{'7' * 32} office-2\n")
+    with pytest.raises(Refused, match=f"the machine office-2 has taken {NAME} over"):
+        typed("restore", "--yes")
+    assert systemd.calls == [] and damaged.file.read_text(encoding="ascii") == "damaged"
+
+
+@pytest.mark.parametrize("place", [
+    (files, "put_aside"), (files, "write_as"), (serving, "start_application")])
+def test_a_mend_of_the_history_that_was_killed_goes_on(
+    place: tuple[typing.Any, str], damaged: registers.Register, systemd: Systemd,
+    monkeypatch: pytest.MonkeyPatch,
+) -> None:
+    """The application runs afterwards, and what was changed is kept."""
+    whole = damaged.history.read_bytes()
+    copies_of = damaged.copies / history_copies.FOLDER
+    copies_of.mkdir()
+    history_copies.copy_lines(whole, copies_of)
+    changed = whole.replace(b"jane", b"jony")
+    damaged.history.write_bytes(changed)
+    with monkeypatch.context() as patch, pytest.raises(KeyboardInterrupt):
+        patch.setattr(*place, killed)
+        typed("history", "--mend", "--yes")
+    systemd.calls.clear()
+    assert typed("history", "--mend", "--yes") == 0
+    assert damaged.history.read_bytes() == whole
+    assert systemd.lines("start") == [
+        f"start admissions-office@{NAME}.socket admissions-office@{NAME}.service"]
+    assert [it.read_bytes() for it in (damaged.office / "changed").iterdir()] == [changed]
 
 
 def test_a_server_that_refuses_everything_is_restarted(

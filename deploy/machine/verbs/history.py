@@ -74,20 +74,20 @@ def mend(register: Register, given: argparse.Namespace) -> int:
     problem = problem_of(register)
     if not problem:
         print(f"the history of {register.name} is whole, and stays as it is")
+        # (one that was killed has not started it)
+        serving.start_application(register)
         return 0
     copy, data = last_whole(register)
     aside = register.office / CHANGED
     answers.confirm(f"{problem}. The history of {register.name} becomes the one of {copy.name}:"
                     f" {copy_in_words(copy)}. The present file is kept in {aside}", given.yes)
-    units = serving.application(register)
-    serving.systemctl("stop", *units)
+    serving.systemctl("stop", *serving.application(register))
     if os.path.lexists(register.history):
         now = datetime.datetime.now().strftime(f"{copies.TIME}-%f")
         files.put_aside(register.history, aside, f"history-{now}.jsonl")
     files.write_as(OFFICE, register.history, data)
     print(f"took {register.history} from {copy}", flush=True)
-    serving.systemctl("reset-failed", *units, may_fail=True)
-    serving.systemctl("start", *units)
+    serving.start_application(register)
     print(f"next: the entries since that copy are in {aside} and in the journal alone. Find out who"
           " could write the file: the user of the application, and root")
     return 0

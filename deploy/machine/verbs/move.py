@@ -82,6 +82,7 @@ def pack(register: Register, place: pathlib.Path, is_confirmed: bool) -> None:
                       " second-place")
     answers.confirm(f"on {os.uname().nodename} the office of {register.name} is closed for good,"
                     " and moves to another machine", is_confirmed)
+    serving.unmask(register)
     serving.systemctl("disable", "--now", *serving.application(register),
                       *serving.timers(register))
     copy = copy_verb.made(register)
@@ -170,6 +171,7 @@ def away(register: Register, place: pathlib.Path, is_confirmed: bool) -> None:
     answers.confirm(f"all files of {register.name} ({register.host or 'without a site'}) move from"
                     f" {os.uname().nodename} to {kept}", is_confirmed)
     files.folder(kept, 0o700)
+    serving.unmask(register)
     serving.systemctl("disable", "--now", *serving.office_units(register), serving.desk(register),
                       *serving.timers(register))
     serving.systemctl("stop", f"admissions-network@{register.name}.service")

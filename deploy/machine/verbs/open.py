@@ -28,9 +28,6 @@ def main(given: argparse.Namespace) -> int:
         raise Refused(f"its takeover has not ended: admissions-admin takeover {register.name}")
     if said := second_copy.taken_over(register):
         raise Refused(said)
-    if serving.is_closed(register):
-        units = (*serving.application(register), serving.desk(register))
-        serving.systemctl("unmask", *units)
     if status_of(register.socket) == serving.STOPPED:
         serving.systemctl("restart", serving.desk(register))
         print(f"restarted {serving.desk(register)}", flush=True)

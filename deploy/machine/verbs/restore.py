@@ -28,8 +28,8 @@ from office.core import drills
 from register_files import Refused
 
 from .. import (
-    answers, brought, copies, files, histories, office_restore, office_store, repairs, serving,
-    settings_copy,
+    answers, brought, copies, files, histories, office_restore, office_store, repairs, second_copy,
+    serving, settings_copy,
 )
 from ..programs import USER, call, is_booted, program
 from ..registers import Register, stored
@@ -101,6 +101,8 @@ def see(register: Register, copy: pathlib.Path, has_people: bool) -> None:
                       " another copy")
     if takeover.begun(register):
         raise Refused(f"its takeover has not ended: admissions-admin takeover {register.name}")
+    if said := second_copy.taken_over(register):
+        raise Refused(said)
     if os.path.lexists(register.history) and (
             problem := histories.of_register(register).problem):
         raise Refused(f"{problem}. First: admissions-admin history {register.name} --mend")

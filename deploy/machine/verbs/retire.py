@@ -180,8 +180,7 @@ def stop(register: Register) -> None:
     them open and asks for more. Where systemd does not run, nothing does.
     """
     if is_booted():
-        if serving.is_closed(register):
-            serving.systemctl("unmask", *serving.application(register), serving.desk(register))
+        serving.unmask(register)
         serving.systemctl("disable", "--now", *serving.office_units(register))
         office_delete.stop(register)
 

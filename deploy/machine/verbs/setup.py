@@ -98,6 +98,9 @@ def set_up(register: Register, given: argparse.Namespace, bring: Bring | None = 
     """Makes all that a register has on this machine, and starts it."""
     see_site_is_free(register, given.site)
     is_new = not register.is_made
+    if serving.is_closed(register) and not is_new and not given.copy:
+        raise Refused(f"the office of {register.name} is closed, and would open: admissions-admin"
+                      f" open {register.name}")
     serving.report(serving.make_folders(register))
     for step in (make_register, take_settings, make_settings):
         serving.report(step(register, given))
