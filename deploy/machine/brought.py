@@ -3,11 +3,14 @@ and what came since waits on its screen Copies, with recording paused, to be sen
 import contextlib
 import dataclasses
 import datetime
+import json
+import os
 import pathlib
 import typing
 
 from office.web.people import roles
 from office.web.register import history
+from register_files import Refused
 
 from . import answers, copies, files, histories, office_copy
 from .programs import OFFICE
@@ -16,8 +19,75 @@ from .registers import Register
 if typing.TYPE_CHECKING:
     from office.web.parts import Parts
 
+# in the settings of a register while it is made from a copy
+BEGUN = "standby"
 # the entries of a history that are requests to the register, and what became of them
 REQUESTS = (history.SENDS, history.ANSWER, history.SETTLED)
+
+
+class Begun(typing.NamedTuple):
+    """That a register is made from a copy, and has not ended: the copy, whether what came since
+    waits already to be sent again, and the line that goes on, where that is no takeover."""
+
+    copy: str
+    is_brought: bool = False
+    line: str = ""
+
+
+def place(register: Register) -> pathlib.Path:
+    """The file that has it."""
+    return register.settings / BEGUN
+
+
+def begun(register: Register) -> Begun | None:
+    """What has begun and not ended, or None."""
+    try:
+        found = json.loads(place(register).read_text(encoding="utf-8"))
+        return Begun(str(found["copy"]), bool(found.get("is_brought")), str(found.get("line", "")))
+    except FileNotFoundError:
+        return None
+    except (OSError, ValueError, KeyError, TypeError, AttributeError) as error:
+        raise Refused(f"{place(register)} cannot be read: {error}") from error
+
+
+def unfinished(register: Register) -> str:
+    """What has begun and not ended, with the line that goes on; or ""."""
+    found = begun(register)
+    if not found:
+        return ""
+    if found.line:
+        return f"its set-up from a copy has not ended: {found.line}"
+    return f"its takeover has not ended: admissions-admin takeover {register.name}"
+
+
+def keep(register: Register, found: Begun) -> None:
+    """Keeps from which copy a register is made, before anything of it is."""
+    files.folder(register.settings, 0o755)
+    files.write(place(register), json.dumps(found._asdict()) + "\n", 0o644)
+
+
+def forget(register: Register) -> None:
+    """Keeps it no more, as all is done."""
+    place(register).unlink()
+
+
+def bring(register: Register, copy: pathlib.Path) -> typing.Iterator[str]:
+    """Has what came since the copy wait on the screen of the office, once; and of a machine that is
+    lost it names from when on nobody knows what was sent."""
+    found = begun(register)
+    if not found or found.is_brought:
+        return
+    is_there = os.path.lexists(register.history)
+    record = histories.of_register(register) if is_there else histories.Record("", b"")
+    if record.problem:
+        raise Refused(f"{record.problem}. First: admissions-admin history {register.name} --mend;"
+                      f" then {unfinished(register).partition(': ')[2]}")
+    yield from begin(register, copy, others_since(record, copies.moment(copy)))
+    keep(register, found._replace(is_brought=True))
+    if record.entries and not found.line:
+        last = datetime.datetime.fromisoformat(record.entries[-1].at).astimezone()
+        yield (f"The history ends at {last:%Y-%m-%d %H:%M:%S}: what was done later is in no copy."
+               " Ask who worked then")
 
 
 @contextlib.contextmanager

@@ -14,7 +14,7 @@ from machine import (
     brought, copies, files, history_copies, office_copy, office_store, people, registers,
     second_copy, serving,
 )
-from machine.verbs import copy as copy_verb, open as open_verb, restore, status, takeover
+from machine.verbs import copy as copy_verb, open as open_verb, restore, status
 from office.web.register.history import ANSWER, SENDS, History
 from register_files import Refused
 
@@ -274,10 +274,10 @@ def test_what_stands_in_the_way_is_named(
     archive.rename(machine / "away")
     with pytest.raises(Refused, match="has no people beside it"):
         typed("restore", "--people", "--yes")
-    (damaged.settings / takeover.BEGUN).write_text('{"copy": "x.db", "entries": 1}\n')
+    (damaged.settings / brought.BEGUN).write_text('{"copy": "x.db", "entries": 1}\n')
     with pytest.raises(Refused, match="its takeover has not ended"):
         typed("restore", "--yes")
-    (damaged.settings / takeover.BEGUN).unlink()
+    (damaged.settings / brought.BEGUN).unlink()
     (damaged.copies / COPY).write_text("no register")
     with pytest.raises((Refused, ValueError)):
         typed("restore", "--yes")
@@ -398,6 +398,6 @@ def test_an_office_is_closed_until_it_is_opened(
     assert typed("open") == 0 and systemd.lines("unmask", "start") == [f"unmask {units}", *STARTS]
     assert f"{NAME} is open at https://admissions.example/" in capsys.readouterr().out
     assert typed("open") == 0 and systemd.lines("unmask", "start") == STARTS
-    (users.settings / takeover.BEGUN).write_text('{"copy": "x.db", "entries": 1}\n')
+    (users.settings / brought.BEGUN).write_text('{"copy": "x.db", "entries": 1}\n')
     with pytest.raises(Refused, match="its takeover has not ended"):
         typed("open")

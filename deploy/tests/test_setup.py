@@ -17,8 +17,12 @@ import typing
 
 import pytest
 from conftest import Terminal, document, typed
-from machine import answers, files, people, registers, serving, settings_copy
-from machine.verbs import holidays, setup
+from machine import (
+    answers, brought, certificates, files, office_copy, people, registers, serving, settings_copy,
+    sites,
+)
+from machine.verbs import holidays, setup, status
+from office_files import add_people, record
 from register_files import Refused
 from setup_arguments import given_to_setup
 
@@ -208,7 +212,7 @@ def test_a_copy_names_its_register_and_nothing_is_asked_that_it_has(
         "none\n",
         "other",
         "--copy",
-        "gone.db",
+        str(copy),
         "--site",
         "x.example",
         "--user",
@@ -400,7 +404,7 @@ def test_who_comes_with_a_copy_is_not_added_beside_it(
     monkeypatch.setattr(setup, "AUTHORITY", machine / "etc/authority")
     people_beside = [people.User("ann", "person", "head", False)] * has_people
     monkeypatch.setattr(settings_copy, "people_beside", lambda copy: people_beside)
-    words = [register.name, "--copy", "gone.db", "--site", "x.example"]
+    words = [register.name, "--copy", str(register.file), "--site", "x.example"]
     if has_people:
         assert completed(monkeypatch, "none\n", *words).user is None
         with pytest.raises(Refused, match="--user and --copy: people come with this copy"):
@@ -414,16 +418,71 @@ def test_a_copy_of_a_machine_that_has_named_no_authority_asks_for_none(
     register: registers.Register, machine: pathlib.Path, monkeypatch: pytest.MonkeyPatch
 ) -> None:
     """As in a takeover; of a copy without its settings it is asked for."""
-    register.file.unlink()
+    copy = register.file.rename(machine / "copy.db")
     monkeypatch.setattr(setup, "AUTHORITY", machine / "etc/authority")
     monkeypatch.setattr(settings_copy, "people_beside", lambda copy: [
         people.User("ann", "person", "head", False)])
-    words, found = (register.name, "--copy", "gone.db", "--site", "x.example"), dict[str, str]()
+    words, found = (register.name, "--copy", str(copy), "--site", "x.example"), dict[str, str]()
     monkeypatch.setattr(settings_copy, "names_of", lambda copy: found)
     for left in ("", "none\n"):
         given = completed(monkeypatch, "none\n", *words)
         assert (given.authority, sys.stdin.read()) == (None, left)
         found["site-name"] = "x.example"
+
+
+def test_a_copy_that_is_not_there_is_refused_before_anything_is_asked(
+    machine: pathlib.Path
+) -> None:
+    with pytest.raises(Refused, match="gone.db is not there, or is no file"):
+        given_to_setup("secondary-2025", "--copy", str(machine / "gone.db"))
+
+
+@pytest.mark.parametrize("step", [
+    (setup, "take_settings"), (brought, "begin"), (serving, "start")])
+def test_a_register_from_a_copy_that_was_killed_goes_on(
+    step: tuple[typing.Any, str], register: registers.Register, machine: pathlib.Path,
+    write_as_me: None, monkeypatch: pytest.MonkeyPatch, capsys: pytest.CaptureFixture[str],
+) -> None:
+    """What came since waits to be sent again, once: no other line opens the office before that."""
+    copy = register.file.rename(machine / "before-0.3.0.db")
+    at = datetime.datetime(2025, 3, 1).timestamp()
+    os.utime(copy, (at, at))
+    monkeypatch.setattr(setup, "AUTHORITY", machine / "etc/authority")
+    monkeypatch.setattr(registers, "is_blank", lambda _: False)
+    monkeypatch.setattr(office_copy, "give", lambda _: None)
+    monkeypatch.setattr(setup, "give_to_desk", lambda _: None)
+    monkeypatch.setattr(certificates, "make", lambda *_: [])
+    monkeypatch.setattr(certificates, "see", lambda *_: None)
+    monkeypatch.setattr(sites, "make_all", list)
+    monkeypatch.setattr(serving, "make_folders", lambda _: [])
+    monkeypatch.setattr(serving, "see_needed", lambda: None)
+    monkeypatch.setattr(serving, "start", lambda _: True)
+    monkeypatch.setattr(setup, "program", str)
+    monkeypatch.setattr(setup, "call", lambda _, here, there: shutil.copyfile(here, there))
+    add_people(register, ("jane", "head"))
+    register.office_copies.mkdir()
+    record(register, 7)
+    words = (register.name, "--copy", str(copy))
+
+    def killed(*_: object) -> typing.NoReturn:
+        raise KeyboardInterrupt
+
+    with monkeypatch.context() as patch, pytest.raises(KeyboardInterrupt):
+        patch.setattr(*step, killed)
+        typed("setup", *words)
+    how = f"its set-up from a copy has not ended: admissions-admin setup {' '.join(words)}"
+    for verb in ("open", "setup", "takeover"):
+        with pytest.raises(Refused, match=f"^{how}$"):
+            typed(verb, register.name)
+    assert status.file_of(register) == (False, how)
+    for _ in range(2):
+        assert typed("setup", *words) == 0
+    with brought.application(register) as parts:
+        [found] = [it for it in parts.restores.listed() if not it.is_ended]
+        [row] = parts.restores.sending.rows(found)
+        assert parts.restores.sending.entry(row).about["command"]["child"] == 7
+    assert "The history ends" not in capsys.readouterr().out
+    assert not (register.settings / brought.BEGUN).exists()
 
 
 @pytest.mark.parametrize(

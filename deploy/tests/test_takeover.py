@@ -266,7 +266,7 @@ class Takeover:
 
     def ended(self, step: typing.Callable[[], int], *more: str) -> int:
         """The status with which it ends, if a step sets the register up."""
-        def set_up(given: argparse.Namespace, _: object) -> int:
+        def set_up(given: argparse.Namespace) -> int:
             self.given = given
             return step()
 
@@ -322,7 +322,7 @@ class Made:
             self.register.history.write_bytes(self.other.history.read_bytes())
         copy = pathlib.Path(given.copy)
         self.copy = copy.name
-        serving.report(takeover.bring(self.register, copy))
+        serving.report(brought.bring(self.register, copy))
 
     def waiting(self) -> list[list[int]]:
         """The children of the commands that wait to be sent again, of each takeover."""
@@ -365,8 +365,8 @@ def test_a_takeover_that_was_killed_goes_on(
         with pytest.raises(KeyboardInterrupt):
             takes_over.ended(step)
         assert status.file_of(made.register) == (
-            False, f"its takeover has not ended: type `admissions-admin takeover {NAME}`, which"
-            " goes on") or not made.register.file.exists()
+            False, f"its takeover has not ended: admissions-admin takeover {NAME}"
+        ) or not made.register.file.exists()
     said = capfd.readouterr().out
     assert "waits on the screen Copies of https://admissions.example/: jane (1)." in said
     assert "The history ends at 2025-03-03 09:00:00: what was done later is in no copy." in said

@@ -25,12 +25,12 @@ import typing
 from register_files import Refused
 
 from .. import (
-    answers, certificates, files, history_copies, office_copy, sealed, second_copy, serving,
-    sites,
+    answers, brought, certificates, files, history_copies, office_copy, sealed, second_copy,
+    serving, sites,
 )
 from ..programs import OFFICE, USER, call, tool
 from ..registers import COPIES, OFFICES, REGISTERS, SETTINGS, Register, named
-from . import certificate, copy as copy_verb, takeover
+from . import certificate, copy as copy_verb
 
 # of the application, what no copy has
 BESIDE = ("archive", "gazetteer", "letters")
@@ -115,7 +115,9 @@ def unpack(register: Register, place: pathlib.Path, is_confirmed: bool) -> None:
     source = place / f"{register.name}.tar"
     if not source.is_file():
         raise Refused(f"{source} is not there: nothing was unpacked", 2)
-    if takeover.begun(register) or not register.is_made:
+    if said := brought.unfinished(register):
+        raise Refused(said)
+    if not register.is_made:
         raise Refused(f"first: admissions-admin takeover {register.name}")
     key, crt = (str(place / f"{register.name}.{it}") for it in ("key", "crt"))
     host = register.host or ""

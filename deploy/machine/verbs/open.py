@@ -13,9 +13,8 @@ import argparse
 
 from register_files import Refused
 
-from .. import answers, second_copy, serving
+from .. import answers, brought, second_copy, serving
 from ..desk import status_of
-from . import takeover
 
 
 def arguments(reader: argparse.ArgumentParser) -> None:
@@ -24,9 +23,7 @@ def arguments(reader: argparse.ArgumentParser) -> None:
 
 def main(given: argparse.Namespace) -> int:
     register = answers.register_of(given)
-    if takeover.begun(register):
-        raise Refused(f"its takeover has not ended: admissions-admin takeover {register.name}")
-    if said := second_copy.taken_over(register):
+    if said := brought.unfinished(register) or second_copy.taken_over(register):
         raise Refused(said)
     if status_of(register.socket) == serving.STOPPED:
         serving.systemctl("restart", serving.desk(register))

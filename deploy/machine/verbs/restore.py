@@ -33,7 +33,7 @@ from .. import (
 )
 from ..programs import USER, call, is_booted, program
 from ..registers import Register, stored
-from . import copy as copy_verb, takeover
+from . import copy as copy_verb
 
 ASIDE = "aside"
 
@@ -99,9 +99,7 @@ def see(register: Register, copy: pathlib.Path, has_people: bool) -> None:
     if has_people and office_store.NAME not in settings_copy.members_of(copy):
         raise Refused(f"{copy.name} has no people beside it: restore without --people, or take"
                       " another copy")
-    if takeover.begun(register):
-        raise Refused(f"its takeover has not ended: admissions-admin takeover {register.name}")
-    if said := second_copy.taken_over(register):
+    if said := brought.unfinished(register) or second_copy.taken_over(register):
         raise Refused(said)
     if os.path.lexists(register.history) and (
             problem := histories.of_register(register).problem):

@@ -26,6 +26,7 @@ example:
 import argparse
 import os
 import pathlib
+import shlex
 import sys
 import typing
 
@@ -42,7 +43,6 @@ from ..registers import PHASES, SETTINGS, Register, all_registers, named, stored
 from . import holidays
 
 AUTHORITY = SETTINGS / "authority"
-Bring = typing.Callable[[Register, pathlib.Path], typing.Iterable[str]]
 CHECKS = {"site": answers.host, "user": people.checked_name, "role": people.checked_role,
           "authority": answers.authority}
 
@@ -85,33 +85,37 @@ def main(given: argparse.Namespace) -> int:
     return set_up_as_given(given)
 
 
-def set_up_as_given(given: argparse.Namespace, bring: Bring | None = None) -> int:
-    """Makes what is missing of a register. `bring` has what came since its copy wait; that is done
-    for one that is made now, by default."""
+def set_up_as_given(given: argparse.Namespace) -> int:
+    """Makes what is missing of a register."""
     checked(given)
     register = completed(given)
     confirmed(register, given)
-    return set_up(register, given, bring)
+    return set_up(register, given)
 
 
-def set_up(register: Register, given: argparse.Namespace, bring: Bring | None = None) -> int:
+def set_up(register: Register, given: argparse.Namespace) -> int:
     """Makes all that a register has on this machine, and starts it."""
     see_site_is_free(register, given.site)
     is_new = not register.is_made
-    if serving.is_closed(register) and not is_new and not given.copy:
+    see_unfinished(register, given)
+    if serving.is_closed(register) and not is_new and not brought.begun(register):
         raise Refused(f"the office of {register.name} is closed, and would open: admissions-admin"
                       f" open {register.name}")
     serving.report(serving.make_folders(register))
+    if given.copy and is_new and not given.is_takeover:
+        brought.keep(register, brought.Begun(given.copy, line=line_of(register, given)))
     for step in (make_register, take_settings, make_settings):
         serving.report(step(register, given))
     warning = certificates.see(register, given.site)
     if given.user:
         serving.report(make_user(register, given))
-    if given.copy and (bring or is_new):
-        serving.report((bring or brought.begin)(register, pathlib.Path(given.copy)))
+    if given.copy:
+        serving.report(brought.bring(register, pathlib.Path(given.copy)))
     serving.report(sites.make_all())
     serving.report(serving.other_problems(register))
     has_started = serving.start(register)
+    if brought.begun(register) and not given.is_takeover:
+        brought.forget(register)
     # (and not each time that nothing is left to do)
     if warning and (is_new or not given.user):
         print(warning)
@@ -135,6 +139,8 @@ def checked(given: argparse.Namespace) -> None:
         raise Refused("--history needs --copy: since which copy?", 2)
     if given.history:
         given.history = answers.file(given.history)
+    if given.copy:
+        given.copy = answers.file(given.copy)
 
 
 def completed(given: argparse.Namespace) -> Register:
@@ -232,6 +238,20 @@ def see_season(register: Register, given: argparse.Namespace) -> None:
             f" {', '.join(holidays.days_of(register.file)) or 'none'}. To replace them:"
             f" admissions-admin holidays {register.name} {' '.join(given.holiday) or answers.NONE}",
             2)
+
+
+def line_of(register: Register, given: argparse.Namespace) -> str:
+    """The line that makes a register from a copy."""
+    history = ["--history", given.history] if given.history else []
+    return shlex.join(["admissions-admin", "setup", register.name, "--copy", given.copy, *history])
+
+
+def see_unfinished(register: Register, given: argparse.Namespace) -> None:
+    """Refuses another line than the one that goes on, once a register is made from a copy: what
+    came since would not wait to be sent again."""
+    found = brought.begun(register)
+    if found and register.is_made and not given.is_takeover and given.copy != found.copy:
+        raise Refused(brought.unfinished(register))
 
 
 def see_site_is_free(register: Register, host: str) -> None:

@@ -42,8 +42,8 @@ from office.core import texts
 from office.core.days import DELETION_NOTICE
 
 from .. import (
-    certificates, copies_status, deletion, files, findings, histories, history_copies, metrics,
-    office_requests, office_store, repairs, second_copy, serving,
+    brought, certificates, copies_status, deletion, files, findings, histories, history_copies,
+    metrics, office_requests, office_store, repairs, second_copy, serving,
 )
 from ..copies_status import age_text, is_ahead
 from ..desk import site_status_of, status_of
@@ -51,7 +51,6 @@ from ..findings import Failed, Finding, Level, Report, State
 from ..parts import PARTS
 from ..registers import REGISTERS, Register, known, stored
 from ..programs import OFFICE, call, is_booted, tool
-from . import takeover
 
 # for so long the answer to a request may be unknown
 OPEN_SECONDS = 3600
@@ -204,9 +203,8 @@ def deletion_of(register: Register) -> State:
 
 
 def file_of(register: Register) -> State:
-    if takeover.begun(register):
-        how = f"admissions-admin takeover {register.name}"
-        return False, f"its takeover has not ended: type `{how}`, which goes on"
+    if said := brought.unfinished(register):
+        return False, said
     try:
         found = register.file.lstat()
         season = stored(register.file)

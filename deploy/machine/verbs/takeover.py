@@ -20,25 +20,16 @@ example:
   admissions-admin takeover secondary-2025 /mnt/copies
 """
 import argparse
-import datetime
-import json
 import os
-import pathlib
 import re
 import typing
 
 from register_files import Refused
 
-from .. import (
-    answers, brought, certificates, copies, fetching, files, histories, sealed, second_copy,
-    serving,
-)
+from .. import answers, brought, certificates, copies, fetching, sealed, second_copy, serving
 from ..programs import USER, program
 from ..registers import SETTINGS, Register, all_registers, named, stored
 from . import setup
-
-# in the settings of a register while it is taken over
-BEGUN = "standby"
 
 
 def arguments(reader: argparse.ArgumentParser) -> None:
@@ -54,52 +45,6 @@ def arguments(reader: argparse.ArgumentParser) -> None:
     answers.add_yes(reader)
     reader.set_defaults(is_takeover=True, phase=None, year=None, holiday=[], user=None, role=None,
                         authority=None)
-
-
-class Begun(typing.NamedTuple):
-    """A takeover that has begun: the copy from which the register is set up, and whether what came
-    since waits already to be sent again."""
-
-    copy: str
-    is_brought: bool = False
-
-
-def begun_place(register: Register) -> pathlib.Path:
-    return register.settings / BEGUN
-
-
-def begun(register: Register) -> Begun | None:
-    """The takeover that has begun and not ended, or None."""
-    path = begun_place(register)
-    try:
-        found = json.loads(path.read_text(encoding="utf-8"))
-        return Begun(str(found["copy"]), bool(found.get("is_brought")))
-    except FileNotFoundError:
-        return None
-    except (OSError, ValueError, KeyError, TypeError) as error:
-        raise Refused(f"{path} cannot be read: {error}") from error
-
-
-def keep(register: Register, found: Begun) -> None:
-    """Keeps from which copy the register is set up, before anything of it is."""
-    files.folder(register.settings, 0o755)
-    files.write(begun_place(register), json.dumps(found._asdict()) + "\n", 0o644)
-
-
-def bring(register: Register, copy: pathlib.Path) -> typing.Iterator[str]:
-    """Has what came since the copy wait on the screen of the office, once; and names from when on
-    nobody knows what was sent."""
-    if keeps := begun(register):
-        if keeps.is_brought:
-            return
-    is_there = os.path.lexists(register.history)
-    record = histories.of_register(register) if is_there else histories.Record("", b"")
-    yield from brought.begin(register, copy, brought.others_since(record, copies.moment(copy)))
-    keep(register, Begun(copy.name, True))
-    if record.entries:
-        last = datetime.datetime.fromisoformat(record.entries[-1].at).astimezone()
-        yield (f"The history ends at {last:%Y-%m-%d %H:%M:%S}: what was done later is in no copy."
-               " Ask who worked then")
 
 
 def checked(given: argparse.Namespace) -> None:
@@ -132,9 +77,6 @@ def main(given: argparse.Namespace) -> int:
     """Takes the register over, and prints what is next, in its order."""
     status = taken(given)
     register = named(given.name)
-    if given.no_copies:
-        # (the archive of the copy has brought no place here, and the status asks for one now)
-        second_copy.keep_line("")
     for number, it in enumerate(next_steps(register), 1):
         print(f"next, {number}: {it}", flush=True)
     return status
@@ -148,7 +90,11 @@ def taken(given: argparse.Namespace) -> int:
     checked(given)
     register = named(given.name)
     wanted = (given.copy or "").removesuffix(sealed.END)
-    found = begun(register)
+    found = brought.begun(register)
+    if found and found.line:
+        if register.is_made:
+            raise Refused(brought.unfinished(register))
+        found = None
     if found and wanted not in ("", found.copy):
         if register.is_made:
             raise Refused(f"{register.file} is made from {found.copy} already. To begin again with"
@@ -165,14 +111,17 @@ def taken(given: argparse.Namespace) -> int:
         if given.no_copies:
             copy_nowhere()
         copy = fetching.fetch(given.name, given.place, wanted, given.identity)
-        keep(register, Begun(copy.name))
+        brought.keep(register, brought.Begun(copy.name))
     given.copy = str(copy)
     if register.is_made:
         # (it may be damaged, or open)
         serving.stop(register)
-    status = setup.set_up_as_given(given, bring)
+    status = setup.set_up_as_given(given)
     own_places(register, given.place)
-    begun_place(register).unlink()
+    if given.no_copies:
+        # (the archive of the copy has brought no place here, and the status asks for one now)
+        second_copy.keep_line("")
+    brought.forget(register)
     return status
 
 
