@@ -1,6 +1,7 @@
 """The file office.db of an office's application, as the commands of a machine read it: its people,
 and a copy without those who are signed in, which is brought back on another machine."""
 import contextlib
+import datetime
 import os
 import pathlib
 import sqlite3
@@ -11,11 +12,13 @@ import urllib.parse
 
 from register_files import PARTS, Refused
 
-from . import files
+from . import copies, files
 from .programs import OFFICE
 from .registers import Register
 
 NAME = "office.db"
+# a folder of root beside it
+ASIDE = "aside"
 # so long the file is read, which the application may keep locked
 SECONDS = 120.0
 # between two looks at the clock, of the steps of SQLite
@@ -127,6 +130,24 @@ def copy_of(register: Register) -> bytes:
         copy.execute("DELETE FROM session")
         copy.execute("VACUUM")
         return copy.serialize()
+
+
+@contextlib.contextmanager
+def put_aside(register: Register) -> typing.Iterator[pathlib.Path]:
+    """Moves the file with its log into a folder of root beside it, which is returned; and back, if
+    what is done meanwhile fails."""
+    path, moved = path_of(register), list[tuple[pathlib.Path, str, tuple[int, int]]]()
+    now, aside = datetime.datetime.now().strftime(f"{copies.TIME}-%f"), register.office / ASIDE
+    try:
+        for it in (path, *(path.with_name(f"{path.name}-{end}") for end in ("wal", "shm"))):
+            if os.path.lexists(it):
+                name = f"{now}-{it.name}"
+                moved.append((it, name, files.put_aside(it, aside, name)))
+        yield aside
+    except BaseException:
+        for it, name, was in moved:
+            files.put_back(it, aside, name, was)
+        raise
 
 
 def restored(register: Register, data: bytes, name: str) -> typing.Iterator[str]:

@@ -222,7 +222,7 @@ def test_another_file_than_was_put_aside_is_not_put_back(
 ) -> None:
     """The folder is one of the application, which may have others with the rights of these: its
     users may be renamed or replaced meanwhile, and so may the folder."""
-    aside = damaged.office / restore.ASIDE
+    aside = damaged.office / office_store.ASIDE
     other = machine / "other"
 
     def replaced(*words: object) -> typing.NoReturn:

@@ -16,8 +16,8 @@ import typing
 import pytest
 from conftest import Systemd, Terminal, document, stand_in, typed
 from machine import (
-    brought, certificates, copies, fetching, files, office_copy, registers, repairs, sealed,
-    second_copy, serving,
+    brought, certificates, copies, fetching, files, office_copy, office_store, registers, repairs,
+    sealed, second_copy, serving,
 )
 from machine.verbs import setup, status, takeover
 from office.web.register.history import ANSWER, RESTORED, SENDS, History
@@ -201,6 +201,27 @@ def test_a_register_that_cannot_be_read_is_made_again_from_the_second_place(
     copy = register.copies / COPIES[2]
     assert [it[1:] for it in restored] == [(str(copy), register.file)]
     assert made.waiting() == [[3]]
+
+
+def test_people_that_cannot_be_read_come_from_the_copy_too(
+    made: "Made", takes_over: "Takeover"
+) -> None:
+    """As after a fault of the disk that has the register, too. What is there is kept."""
+    path = office_store.path_of(made.register)
+    path.parent.mkdir()
+    path.write_bytes(b"no database")
+
+    def done() -> int:
+        assert not path.exists()
+        made.all_of_it(takes_over.given)
+        return 0
+
+    with pytest.raises(Refused, match="office.db cannot be read: .*: nothing was changed"):
+        takes_over.ended(done)
+    assert path.read_bytes() == b"no database"
+    assert takes_over.ended(done, "--yes") == 0
+    [kept] = (made.register.office / office_store.ASIDE).iterdir()
+    assert kept.read_bytes() == b"no database" and made.waiting() == [[3]]
 
 
 def test_a_place_without_the_register(

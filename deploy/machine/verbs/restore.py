@@ -20,7 +20,6 @@ example:
   admissions-admin restore secondary-2025 nightly-000012-2025-03-03T023000.db
 """
 import argparse
-import datetime
 import os
 import pathlib
 
@@ -28,14 +27,12 @@ from office.core import drills
 from register_files import Refused
 
 from .. import (
-    answers, brought, copies, files, histories, office_restore, office_store, repairs, second_copy,
+    answers, brought, copies, histories, office_restore, office_store, repairs, second_copy,
     serving, settings_copy,
 )
 from ..programs import USER, call, is_booted, program
 from ..registers import Register, stored
 from . import copy as copy_verb
-
-ASIDE = "aside"
 
 
 def arguments(reader: argparse.ArgumentParser) -> None:
@@ -150,19 +147,8 @@ def bring_people(register: Register, copy: pathlib.Path) -> list[str]:
     """Puts the file of the application aside and brings back that of the copy; or puts back what
     was there."""
     data = settings_copy.members_of(copy)[office_store.NAME]
-    path, moved = office_store.path_of(register), list[tuple[pathlib.Path, str, tuple[int, int]]]()
-    now = datetime.datetime.now().strftime(f"{copies.TIME}-%f")
-    aside = register.office / ASIDE
-    try:
-        for it in (path, *(path.with_name(f"{path.name}-{end}") for end in ("wal", "shm"))):
-            if os.path.lexists(it):
-                name = f"{now}-{it.name}"
-                moved.append((it, name, files.put_aside(it, aside, name)))
+    with office_store.put_aside(register) as aside:
         return [*office_store.restored(register, data, f"{office_store.NAME} of {copy.name}"),
                 f"what was there is kept in {aside}: remove it when all is well. Whoever was"
                 f" removed or locked since may sign in again: admissions-admin people"
                 f" {register.name}"]
-    except BaseException:
-        for it, name, was in moved:
-            files.put_back(it, aside, name, was)
-        raise

@@ -11,10 +11,11 @@ then recording is paused. What else people did since is counted. COPY is the
 name of an older copy there, from which it is made in place of the last one, and
 FILE of --history another history, as of a machine that was broken into. HOST is
 another name of the site. What is encrypted is opened with the identity file,
-which is asked for unless it is given. A register that is here and cannot be
-read is kept beside the one that is made. A takeover that was interrupted goes
-on when it is typed again. With --no-copies this machine leaves PLACE as it is,
-as after a break-in, and copies nowhere until a second place is named.
+which is asked for unless it is given. A register, or the people of one, that
+are here and cannot be read are kept beside those of the copy. A takeover that
+was interrupted goes on when it is typed again. With --no-copies this machine
+leaves PLACE as it is, as after a break-in, and copies nowhere until a second
+place is named.
 
 example:
   admissions-admin takeover secondary-2025 /mnt/copies
@@ -26,7 +27,10 @@ import typing
 
 from register_files import Refused
 
-from .. import answers, brought, certificates, copies, fetching, sealed, second_copy, serving
+from .. import (
+    answers, brought, certificates, copies, fetching, office_store, people, sealed, second_copy,
+    serving,
+)
 from ..programs import USER, program
 from ..registers import SETTINGS, Register, all_registers, named, stored
 from . import setup
@@ -116,6 +120,7 @@ def taken(given: argparse.Namespace) -> int:
     if register.is_made:
         # (it may be damaged, or open)
         serving.stop(register)
+    put_people_aside(register, given.yes)
     status = setup.set_up_as_given(given)
     own_places(register, given.place)
     if given.no_copies:
@@ -123,6 +128,19 @@ def taken(given: argparse.Namespace) -> int:
         second_copy.keep_line("")
     brought.forget(register)
     return status
+
+
+def put_people_aside(register: Register, is_confirmed: bool) -> None:
+    """Puts the file of an application that is here and cannot be read aside: that of the copy takes
+    its place."""
+    try:
+        people.users_of(register)
+    except Refused as error:
+        answers.confirm(f"{error}. It is kept aside on {os.uname().nodename}, and the one beside"
+                        " the copy takes its place", is_confirmed)
+        serving.stop(register)
+        with office_store.put_aside(register) as aside:
+            print(f"what was there is kept in {aside}: remove it when all is well", flush=True)
 
 
 def copy_nowhere() -> None:
