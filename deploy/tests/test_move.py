@@ -4,6 +4,7 @@ import argparse
 import contextlib
 import pathlib
 import shutil
+import types
 import typing
 
 import pytest
@@ -205,6 +206,42 @@ def test_a_register_is_moved_away_and_brought_back(
     with pytest.raises(Refused, match="are not equal, and both stay"):
         typed("move", NAME, "--back", str(disk))
     assert register.history.read_text() == "another register's"
+
+
+@pytest.mark.parametrize("at", range(4))
+def test_a_move_to_a_disk_without_room_is_taken_back(
+    at: int, disk: pathlib.Path, register: registers.Register, machine: pathlib.Path,
+    systemd: Systemd, monkeypatch: pytest.MonkeyPatch,
+) -> None:
+    """It is refused before anything is stopped. Where the disk is full within, or its cable is
+    loose, what is here stays, and what was moved comes back."""
+    before = here(machine)
+    free = types.SimpleNamespace(free=sum(map(len, before.values())) - 1)
+    with monkeypatch.context() as patch:
+        patch.setattr(shutil, "disk_usage", lambda _: free)
+        with pytest.raises(Refused, match="bytes free, and .* are needed: nothing was moved"):
+            typed("move", NAME, "--away", str(disk), "--yes")
+    assert systemd.calls == [] and here(machine) == before
+    number = [0]
+
+    def call(*words: object) -> object:
+        done = programs.call(*words)
+        if words[0] == shutil.which("cp"):
+            number[0] += 1
+            if number[0] == at + 1:
+                first = next(it for it in sorted(disk.rglob("*")) if it.is_file()
+                             and it.relative_to(disk / NAME / str(machine)[1:]).parts[0] == (
+                                 ("lib", "office", "backups", "etc")[at]))
+                first.unlink()
+                raise Refused("cp: No space left on device")
+        return done
+
+    with monkeypatch.context() as patch, pytest.raises(Refused, match="No space left"):
+        patch.setattr(move, "call", call)
+        typed("move", NAME, "--away", str(disk), "--yes")
+    assert typed("move", NAME, "--back", str(disk)) == 0
+    assert here(machine) == before and not list(machine.glob("*/*.moved"))
+    assert systemd.calls[-1] == f"start admissions-drill@{NAME}.timer"
 
 
 @pytest.mark.parametrize("words, said", [

@@ -25,8 +25,8 @@ import typing
 from register_files import Refused
 
 from .. import (
-    answers, brought, certificates, files, history_copies, office_copy, sealed, second_copy,
-    serving, sites,
+    answers, brought, certificates, files, history_copies, office_copy, office_delete, sealed,
+    second_copy, serving, sites,
 )
 from ..programs import OFFICE, USER, call, tool
 from ..registers import COPIES, OFFICES, REGISTERS, SETTINGS, Register, named
@@ -170,6 +170,7 @@ def away(register: Register, place: pathlib.Path, is_confirmed: bool) -> None:
         raise Refused(f"{kept} is of a move that has ended: give it another name")
     if not any(map(os.path.lexists, (*folders_of(register), kept))):
         raise Refused(f"no register {register.name} is here: nothing was moved", 2)
+    see_room(register, place)
     answers.confirm(f"all files of {register.name} ({register.host or 'without a site'}) move from"
                     f" {os.uname().nodename} to {kept}", is_confirmed)
     files.folder(kept, 0o700)
@@ -189,6 +190,18 @@ def away(register: Register, place: pathlib.Path, is_confirmed: bool) -> None:
           f" {register.name} --back {place}")
 
 
+def see_room(register: Register, place: pathlib.Path) -> None:
+    """Refuses a disk without room, before anything is stopped: what one that was killed has copied
+    there takes no more."""
+    here = [it for it in folders_of(register) if os.path.lexists(it)]
+    there = [at(place, register, it) for it in here]
+    needed = office_delete.counted(here)[1] - office_delete.counted(there)[1]
+    free = shutil.disk_usage(place).free
+    if needed > free:
+        raise Refused(f"{place} has {free:,} bytes free, and {needed:,} are needed: nothing was"
+                      " moved")
+
+
 def moved_from(folder: pathlib.Path, kept: pathlib.Path, target: pathlib.Path) -> None:
     """Copies a folder, compares it, and removes it."""
     aside = folder.with_name(f"{folder.name}.{MOVED}")
@@ -202,19 +215,24 @@ def moved_from(folder: pathlib.Path, kept: pathlib.Path, target: pathlib.Path) -
 
 
 def back(register: Register, place: pathlib.Path) -> None:
-    """Brings all files back, where nothing of this name is here; or what is missing of them."""
+    """Brings all files back, where nothing of this name is here; or what is missing of them. Of a
+    move that has not ended, what is here was not moved."""
     kept = place / register.name
+    has_ended = (kept / MOVED).exists()
     if not kept.is_dir():
         raise Refused(f"{kept} is not there: nothing was moved", 2)
     for folder in folders_of(register):
         source = at(place, register, folder)
         if os.path.lexists(folder):
-            compare(source, folder)
+            if has_ended:
+                compare(source, folder)
         elif source.is_dir():
             new = folder.with_name(f"{folder.name}.new")
             remove(new)
             call(tool("cp", "coreutils"), "-a", source, new)
             new.rename(folder)
+            # (what was compared, and not wholly removed)
+            remove(folder.with_name(f"{folder.name}.{MOVED}"))
     serving.report(serving.make_folders(register))
     serving.report(sites.make_all())
     serving.report(serving.other_problems(None))
