@@ -163,6 +163,7 @@ def test_copies_that_were_changed_are_named(
     assert typed("evidence", NAME, "--compare", str(there)) == 0
     assert f"{COPY} is not in {there / NAME}\n" in capsys.readouterr().out
     for words, said in (([NAME, "--compare", "/gone"], "is not there: is the disk mounted"),
+                        (["--open", "/gone"], "SHA256SUMS is not there: is the disk mounted"),
                         (["other", "--compare", str(there)], "first admissions-admin evidence"),
                         (["--compare", str(there)], "NAME is missing")):
         with pytest.raises(Refused, match=said):
@@ -196,6 +197,8 @@ def test_encrypted_copies_are_decrypted_aside(
         done = subprocess.run(["age-keygen", "-y", it], check=True, capture_output=True, text=True)
         public.append(done.stdout.strip())
     add(there / "history/history-000001-0123456789abcdef.gz", "who did what")
+    (there / "nightly-000014-2025-03-05T023000.db.age").symlink_to("/dev/zero")
+    (there / "history/others").symlink_to(kept)
     for path in [it for it in there.rglob("*") if it.is_file() and it.suffix != ".tar"]:
         key = public[path.name == LATER]
         sealed.encrypt(path, path.with_name(f"{path.name}.age"), key)
@@ -208,6 +211,8 @@ def test_encrypted_copies_are_decrypted_aside(
         monkeypatch.setattr(sys, "stdin", Terminal(f"{keys[0]}\n"))
         assert typed(*words, *more) == 0
         said = capsys.readouterr().out
+        for name in ("nightly-000014-2025-03-05T023000.db.age", "others"):
+            assert f"{name} is no file\n" in said
         assert f"{LATER}.age does not open" in said and f"{LATER} is not in " in said
         assert "3 of 4 files of nights are equal" in said
     room = kept / "root/copies" / NAME

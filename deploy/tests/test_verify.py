@@ -164,5 +164,5 @@ def test_all_is_removed_but_not_what_cannot_be_made_again(
     assert typed("uninstall", "--yes") == 0
     assert not any((left / it).exists() for it in ("lib", "office", "backups", "etc", "log"))
     assert not (left / "admissions.list").exists()
-    assert "next: apt purge admissions-pdf admissions; userdel" in capsys.readouterr().out
+    assert "next: dpkg --purge admissions-pdf admissions; userdel" in capsys.readouterr().out
     assert typed("uninstall", "--yes") == 0

@@ -135,6 +135,8 @@ def keep(place: pathlib.Path) -> int:
 
 def unpack(place: pathlib.Path, is_confirmed: bool) -> int:
     """Unpacks what was kept, as it was kept, and names programs that are none of this release."""
+    if not (place / SUMS).is_file():
+        raise Refused(f"{place / SUMS} is not there: is the disk mounted?", 2)
     sums = (place / SUMS).read_text(encoding="ascii")
     print(f"compare with what you wrote down: {hashlib.sha256(sums.encode()).hexdigest()}")
     for line in sums.splitlines():
@@ -181,7 +183,8 @@ def compare(register: Register, place: pathlib.Path, identity: str | None) -> in
     """Names the nightly copies of the machine that are others than at the second place."""
     here, there = seized_of(COPIES, register), place / register.name
     if not there.is_dir():
-        raise Refused(f"{there} is not there: is the disk mounted?", 2)
+        raise Refused(f"{there} is not there: is the disk mounted? What another machine has is"
+                      " brought to this one first", 2)
     if any(there.rglob(f"*{sealed.END}")):
         there = decrypted(there, register, identity)
     bad = 0
@@ -210,8 +213,12 @@ def decrypted(there: pathlib.Path, register: Register, identity: str | None) -> 
     room.mkdir(parents=True, mode=0o700)
     for it in sorted(there.rglob("*")):
         target = room / it.relative_to(there)
-        if it.is_dir():
+        if it.is_dir() and not it.is_symlink():
             target.mkdir(exist_ok=True)
+            continue
+        # (whoever broke in may have put there what has no end)
+        if it.is_symlink() or not it.is_file():
+            print(f"{it.name} is no file")
             continue
         shutil.copy2(it, target)
         if it.name.endswith(sealed.END):

@@ -6,8 +6,7 @@ If a register, a copy, the file of an application, a key of a site or the
 identity file is left, it names them and removes nothing; nor where an account
 `admissions` takes the copies of another machine. Otherwise it removes the
 folders of this package with the records of deletions, and the source of apt
-with its key. Then apt removes the package, and with it the two users are
-removed: the last line says how.
+with its key. The last line says how the package and its two users are removed.
 
 example:
   admissions-admin uninstall
@@ -52,6 +51,7 @@ def main(given: argparse.Namespace) -> int:
         else:
             it.unlink()
         print(f"removed {it}", flush=True)
-    print("next: apt purge admissions-pdf admissions; userdel admissions; userdel"
+    # (apt purges nothing where it does not know one of them, and its source is gone)
+    print("next: dpkg --purge admissions-pdf admissions; userdel admissions; userdel"
           " admissions-office")
     return 0
