@@ -33,6 +33,11 @@ class Begun(typing.NamedTuple):
     is_brought: bool = False
     line: str = ""
 
+    @property
+    def verb(self) -> str:
+        """By which it was begun."""
+        return self.line.split()[1] if self.line else "takeover"
+
 
 def place(register: Register) -> pathlib.Path:
     """The file that has it."""
@@ -55,9 +60,9 @@ def unfinished(register: Register) -> str:
     found = begun(register)
     if not found:
         return ""
-    if found.line:
-        return f"its set-up from a copy has not ended: {found.line}"
-    return f"its takeover has not ended: admissions-admin takeover {register.name}"
+    what = "set-up from a copy" if found.verb == "setup" else found.verb
+    line = found.line or f"admissions-admin takeover {register.name}"
+    return f"its {what} has not ended: {line}"
 
 
 def keep(register: Register, found: Begun) -> None:

@@ -157,10 +157,13 @@ def test_another_copy_is_restored_where_the_first_was_the_wrong_one(
     assert found == [[2], [1, 2], [1, 2], [2]]
 
 
+# what is done when the office is open
+AFTER = ((copy_verb, "made"), (copy_verb, "sent"))
+
+
 @pytest.mark.parametrize("place", [
     (serving, "stop"), (restore, "restore"), (files, "put_aside"), (office_store, "restored"),
-    (files, "copy_as_desk"), (brought, "begin"), (serving, "start"), (copy_verb, "made"),
-    (copy_verb, "sent")])
+    (files, "copy_as_desk"), (brought, "begin"), (serving, "start"), *AFTER])
 def test_killed_at_each_step_and_typed_again_it_goes_on(
     place: tuple[typing.Any, str], damaged: registers.Register, systemd: Systemd,
     monkeypatch: pytest.MonkeyPatch,
@@ -169,6 +172,13 @@ def test_killed_at_each_step_and_typed_again_it_goes_on(
         patch.setattr(*place, killed)
         with pytest.raises(KeyboardInterrupt):
             typed("restore", NAME, COPY, "--people", "--yes")
+    # (until it is typed again nothing opens the office, and each part says so)
+    how = f"its restore has not ended: admissions-admin restore {NAME} {COPY} --people"
+    if place not in ((serving, "stop"), (serving, "start"), *AFTER):
+        with pytest.raises(Refused, match=f"^{how}$"):
+            typed("open")
+        found = status.report(damaged)
+        assert {found[it].text for it in ("register", "desk", "site", "units")} == {how}
     systemd.calls.clear()
     (damaged.copies / "nightly-000013-2025-03-04T023000.db").unlink(missing_ok=True)
     assert typed("restore", NAME, COPY, "--people", "--yes") == 0
@@ -206,6 +216,32 @@ def test_people_alone_come_back_and_the_register_stays(
 
 def fail(*_: object) -> typing.NoReturn:
     raise Refused("No space left on device")
+
+
+def test_a_register_that_cannot_be_replaced_is_opened_as_it_was(
+    damaged: registers.Register, systemd: Systemd, machine: pathlib.Path,
+    monkeypatch: pytest.MonkeyPatch,
+) -> None:
+    """But not one that an earlier line has replaced, as long as what came since does not wait."""
+    real = machine / "admissions-restore"
+    good = real.read_text(encoding="ascii")
+    real.write_text("#!/bin/sh\necho no room; exit 1\n", encoding="ascii")
+    with pytest.raises(Refused, match="no room"):
+        typed("restore", NAME, COPY, "--yes")
+    assert not (damaged.settings / brought.BEGUN).exists()
+    assert typed("open") == 0
+    real.write_text(good, encoding="ascii")
+    with monkeypatch.context() as patch:
+        patch.setattr(brought, "begin", fail)
+        with pytest.raises(Refused, match="No space left"):
+            typed("restore", NAME, COPY, "--yes")
+    other = damaged.copies / "nightly-000011-2025-03-01T023000.db"
+    other.write_text(document(), encoding="utf-8")
+    real.write_text("#!/bin/sh\necho no room; exit 1\n", encoding="ascii")
+    with pytest.raises(Refused, match="no room"):
+        typed("restore", NAME, other.name, "--yes")
+    with pytest.raises(Refused, match=f"has not ended: admissions-admin restore {NAME} {COPY}$"):
+        typed("open")
 
 
 def test_people_that_cannot_be_brought_back_leave_those_of_now(

@@ -471,9 +471,11 @@ def test_a_register_from_a_copy_that_was_killed_goes_on(
         patch.setattr(*step, killed)
         typed("setup", *words)
     how = f"its set-up from a copy has not ended: admissions-admin setup {' '.join(words)}"
-    for verb in ("open", "setup", "takeover"):
+    for verb in ("open", "setup", "restore"):
         with pytest.raises(Refused, match=f"^{how}$"):
             typed(verb, register.name)
+    with pytest.raises(Refused, match="is there already, so this machine does not take over"):
+        typed("takeover", register.name)
     assert status.file_of(register) == (False, how)
     for _ in range(2):
         assert typed("setup", *words) == 0

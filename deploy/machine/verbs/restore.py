@@ -56,12 +56,14 @@ def main(given: argparse.Namespace) -> int:
                     given.yes)
     serving.stop(register)
     if not given.people_alone:
-        restore(register, copy)
+        put(register, copy, given.people)
     if has_people:
         serving.report(bring_people(register, copy))
-    # (without a site it has no application)
-    if register.host and not given.people_alone:
-        serving.report(brought.begin(register, copy, others))
+    if not given.people_alone:
+        # (without a site it has no application)
+        if register.host:
+            serving.report(brought.begin(register, copy, others))
+        brought.forget(register)
     if not serving.start(register):
         return 1
     print(f"{register.name} is open; new copies are made", flush=True)
@@ -96,7 +98,10 @@ def see(register: Register, copy: pathlib.Path, has_people: bool) -> None:
     if has_people and office_store.NAME not in settings_copy.members_of(copy):
         raise Refused(f"{copy.name} has no people beside it: restore without --people, or take"
                       " another copy")
-    if said := brought.unfinished(register) or second_copy.taken_over(register):
+    found = brought.begun(register)
+    if found and found.verb != "restore":
+        raise Refused(brought.unfinished(register))
+    if said := second_copy.taken_over(register):
         raise Refused(said)
     if os.path.lexists(register.history) and (
             problem := histories.of_register(register).problem):
@@ -131,6 +136,22 @@ def shown(register: Register, copy: pathlib.Path, has_people: bool, is_alone: bo
     if others:
         print(f"since then people also did this, which is undone: {others}")
     return others
+
+
+def put(register: Register, copy: pathlib.Path, has_people: bool) -> None:
+    """Puts the copy in the place of the register. That it has not ended is kept until what came
+    since waits to be sent again; not where it failed, and the register is as it was."""
+    before, line = brought.begun(register), f"admissions-admin restore {register.name} {copy.name}"
+    begun = brought.Begun(copy.name, line=f"{line}{' --people' * has_people}")
+    brought.keep(register, begun)
+    try:
+        restore(register, copy)
+    except (OSError, Refused):
+        if before:
+            brought.keep(register, before)
+        elif not office_restore.is_equal(copy, register.file):
+            brought.forget(register)
+        raise
 
 
 def restore(register: Register, copy: pathlib.Path) -> None:

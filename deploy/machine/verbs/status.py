@@ -223,7 +223,10 @@ def closed(register: Register) -> str:
 
 
 def see_open(register: Register) -> None:
-    """Fails where an administrator has closed the office, or another machine has taken it over."""
+    """Fails where the register is made from a copy, an administrator has closed the office, or
+    another machine has taken it over."""
+    if said := brought.unfinished(register):
+        raise Failed(said)
     if serving.is_closed(register):
         raise Failed(closed(register))
     copies_status.see_taken_over(register)
@@ -305,7 +308,7 @@ def units_of(register: Register) -> State:
         return False, f"its site is not set up: {site_command(register)}"
     if serving.is_closed(register):
         return False, closed(register)
-    if said := second_copy.taken_over(register):
+    if said := brought.unfinished(register) or second_copy.taken_over(register):
         return False, said
     backup, drill, hourly = (
         f"admissions-{it}@{register.name}.timer" for it in ("backup", "drill", "second-copy"))

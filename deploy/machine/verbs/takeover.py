@@ -95,9 +95,7 @@ def taken(given: argparse.Namespace) -> int:
     register = named(given.name)
     wanted = (given.copy or "").removesuffix(sealed.END)
     found = brought.begun(register)
-    if found and found.line:
-        if register.is_made:
-            raise Refused(brought.unfinished(register))
+    if found and found.verb != "takeover":
         found = None
     if found and wanted not in ("", found.copy):
         if register.is_made:
