@@ -203,20 +203,37 @@ def test_a_key_that_others_have_is_replaced_and_is_nowhere_afterwards(
     assert "have the CA revoke its certificate" in capsys.readouterr().out
 
 
+@pytest.mark.parametrize("step", [
+    (pathlib.Path, "unlink"), (certificates, "make"), (sites, "make_all")])
 def test_a_key_that_is_lost_is_made_anew(
-    at_site: registers.Register, tmp_path: pathlib.Path
+    step: tuple[typing.Any, str], at_site: registers.Register, tmp_path: pathlib.Path,
+    monkeypatch: pytest.MonkeyPatch, capsys: pytest.CaptureFixture[str],
 ) -> None:
-    """By what the status says, and set-up makes none for which the site has no certificate."""
+    """By what the status says, and set-up makes none for which the site has no certificate. The new
+    one serves at once, with a certificate for a trial: without any, nginx would not start again.
+    Killed and typed again, it goes on."""
     how = f"admissions-admin request {at_site.name} --new-key"
     (at_site.settings / "site.key").unlink()
     found = status.report(at_site)["certificate"]
     assert found.level.label == "FAILED" and found.text.endswith(f"cannot serve the site: {how}")
     with pytest.raises(Refused, match=f"site.key is not there, .*: {how}$"):
         list(certificates.make(at_site, HOST))
-    request = tmp_path / "new.csr"
+    request, first = tmp_path / "new.csr", (at_site.settings / "site.crt").read_bytes()
+    with monkeypatch.context() as patch, pytest.raises(KeyboardInterrupt):
+        patch.setattr(*step, killed)
+        typed("request", "--new-key")
+    capsys.readouterr()
     assert typed("request", "--new-key") == 0
+    printed = capsys.readouterr()
+    assert printed.out.startswith("-----BEGIN CERTIFICATE REQUEST-----\n")
+    assert "let nobody past this certificate until a CA has signed" in printed.err
+    assert certificates.key_problem(at_site) is None
+    assert status.report(at_site)["certificate"].text.endswith("no CA has signed it")
+    assert (at_site.settings / "site.crt.before").read_bytes() == first
     key = at_site.settings / "site.key.new"
-    request.write_text(certificates.requested(key, HOST), encoding="ascii")
+    assert certificates.public_key("req", "-in", at_site.settings / "site.csr", "-pubkey", "-noout"
+                                   ) == certificates.public_key("pkey", "-pubout", "-in", key)
+    request.write_text(printed.out, encoding="ascii")
     assert typed("certificate", str(signed(tmp_path, "new", request, key)), "--yes") == 0
     assert certificates.key_problem(at_site) is None
     assert set(content(at_site)) == {*NAMES, "site-name"}

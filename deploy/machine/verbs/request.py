@@ -6,17 +6,21 @@ Without an option it is the request of the site by its key, as for a renewal.
 With --site it is of another name by the same key: so the CA can sign it before
 the name is changed (admissions-admin site). With --new-key a new key is made,
 which is used once its certificate is taken (admissions-admin certificate): as
-where others may have the one before. The site goes on meanwhile.
+where others may have the one before. The site goes on meanwhile. If the key is
+lost, the new one is used at once, with a certificate for a trial: without a key
+nginx starts with no site of this machine.
 
 example:
   admissions-admin request secondary-2025 --new-key > request.csr
 """
 import argparse
+import pathlib
 import sys
 
 from register_files import Refused
 
-from .. import answers, certificates, files
+from .. import answers, certificates, files, sites
+from ..registers import Register
 
 
 def arguments(reader: argparse.ArgumentParser) -> None:
@@ -27,15 +31,19 @@ def arguments(reader: argparse.ArgumentParser) -> None:
 
 def main(given: argparse.Namespace) -> int:
     register = answers.register_of(given)
-    key, _, request = certificates.paths(register)
+    key, certificate, _ = certificates.paths(register)
+    new = certificates.later(key)
     host = answers.host(given.site) if given.site else register.host
     if host is None:
         raise Refused(f"{register.name} has no site: admissions-admin setup {register.name}")
     if given.new_key:
-        key = certificates.later(key)
         # (one that is there may be with the CA)
-        if not key.exists():
-            files.write(key, certificates.new_key(), 0o600)
+        if not new.exists():
+            files.write(new, certificates.new_key(), 0o600)
+        is_there = key.exists() and certificate.exists()
+        if not is_there or key.read_bytes() == new.read_bytes():
+            serve_meanwhile(register, new, register.host or host)
+        key = new
     print(certificates.requested(key, host), end="")
     how = certificates.command(register)
     if host != register.host:
@@ -43,3 +51,18 @@ def main(given: argparse.Namespace) -> int:
     print("next: let a CA sign it, put its answer into FILE, with the intermediate certificates"
           f" below it, and type: {how}", file=sys.stderr)
     return 0
+
+
+def serve_meanwhile(register: Register, key: pathlib.Path, host: str) -> None:
+    """Has the site served by a new key in the place of one that is lost, until a CA has signed its
+    certificate. (The request alone is printed on the standard output.)"""
+    to_key, certificate, request = certificates.paths(register)
+    if not to_key.exists():
+        certificates.keep_before(certificate)
+        for it in (certificate, request):
+            it.unlink(missing_ok=True)
+        files.write(to_key, key.read_bytes(), 0o600)
+    for line in (*certificates.make(register, host), *sites.make_all()):
+        print(line, file=sys.stderr)
+    print(f"WARNING: browsers that know {host} let nobody past this certificate until a CA has"
+          " signed the next one", file=sys.stderr)
