@@ -59,6 +59,14 @@ def is_register(register: Register) -> bool:
     return True
 
 
+def why_silent(register: Register) -> str:
+    """Which file of an office keeps it from starting, with the line to type; or ""."""
+    if not is_register(register):
+        return f"{register.file} cannot be read: {register_line(register)}"
+    found = cause(register)
+    return f"A file of its application cannot be read, or was changed: {found}" if found else ""
+
+
 def cause(register: Register) -> str:
     """What is typed where the application cannot start, because of its own files; or ""."""
     try:

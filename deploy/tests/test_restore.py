@@ -412,6 +412,23 @@ def test_a_server_that_refuses_everything_is_restarted(
         assert capsys.readouterr().out.startswith("restarted") == bool(wanted)
 
 
+def test_an_office_that_does_not_open_names_the_file_and_the_line(
+    damaged: registers.Register, monkeypatch: pytest.MonkeyPatch
+) -> None:
+    """Without the line systemd names its own."""
+    monkeypatch.setattr(serving, "begin", fail)
+    with pytest.raises(Refused, match="^No space left on device. .*/reg.db cannot be read:"
+                                      f" admissions-admin restore {NAME}$"):
+        typed("open")
+    damaged.file.write_text(document(), encoding="utf-8")
+    with pytest.raises(Refused, match="^No space left on device$"):
+        typed("open")
+    office_store.path_of(damaged).write_bytes(b"no database")
+    with pytest.raises(Refused, match="application cannot be read, or was changed: admissions-admin"
+                                      f" restore {NAME} {COPY} --people-alone$"):
+        typed("open")
+
+
 def test_an_office_is_closed_until_it_is_opened(
     users: registers.Register, systemd: Systemd, machine: pathlib.Path,
     monkeypatch: pytest.MonkeyPatch, capsys: pytest.CaptureFixture[str],

@@ -13,7 +13,7 @@ import argparse
 
 from register_files import Refused
 
-from .. import answers, brought, second_copy, serving
+from .. import answers, brought, repairs, second_copy, serving
 from ..desk import status_of
 
 
@@ -28,7 +28,13 @@ def main(given: argparse.Namespace) -> int:
     if status_of(register.socket) == serving.STOPPED:
         serving.systemctl("restart", serving.desk(register))
         print(f"restarted {serving.desk(register)}", flush=True)
-    if not serving.start(register):
+    try:
+        has_started = serving.start(register)
+    except Refused as error:
+        if found := repairs.why_silent(register):
+            raise Refused(f"{error}. {found}") from error
+        raise
+    if not has_started:
         return 1
     print(f"{register.name} is open at https://{register.host}/")
     return 0
