@@ -144,6 +144,11 @@ def is_closed(register: Register) -> bool:
     return path.is_symlink() and os.readlink(path) == os.devnull
 
 
+def close(register: Register) -> None:
+    """Closes an office: nothing but a verb that opens it starts it."""
+    systemctl("mask", "--now", *application(register), desk(register))
+
+
 def unmask(register: Register) -> None:
     """Has an office that was closed start again."""
     if is_closed(register):

@@ -90,9 +90,10 @@ def test_what_the_second_place_does_not_have_goes_along_to_a_new_machine(
         assert not (disk / f"{NAME}.tar").exists()
     systemd.calls.clear()
     assert typed("move", "--pack", str(disk), "--yes") == 0
-    calls = systemd.lines("disable", "start")
+    calls = systemd.lines("disable", "start", "mask")
     assert calls[0].startswith(f"disable --now {APPLICATION} admissions-backup@{NAME}.timer")
-    assert calls[-1] == f"disable --now admissions@{NAME}.service"
+    assert calls[-2:] == [f"disable --now admissions@{NAME}.service",
+                          f"mask --now {APPLICATION} admissions@{NAME}.service"]
     assert {it.stat().st_mode & 0o077 for it in disk.iterdir()} == {0}
     with pytest.raises(Refused, match="is there already: give it another name"):
         typed("move", "--pack", str(disk), "--yes")

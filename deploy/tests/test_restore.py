@@ -12,7 +12,7 @@ import pytest
 from conftest import Systemd, Terminal, document, typed
 from machine import (
     brought, copies, files, history_copies, office_copy, office_store, people, registers,
-    second_copy, serving,
+    second_copy, serving, sites,
 )
 from machine.verbs import copy as copy_verb, open as open_verb, restore, status
 from office.web.register.history import ANSWER, SENDS, History
@@ -362,6 +362,11 @@ def test_another_verb_does_not_open_an_office_that_was_closed(
     with pytest.raises(Refused, match=f"is closed, and would open: admissions-admin open {NAME}"):
         typed("setup", NAME, "--user", "jane")
     assert systemd.calls == []
+    # (as an upgrade does)
+    monkeypatch.setattr(sites, "make_all", list)
+    monkeypatch.setattr(serving, "make_folders", lambda _: [])
+    monkeypatch.setattr(serving, "other_problems", lambda _: [])
+    assert typed("sites") == 0 and systemd.lines("unmask", "start", "enable") == []
 
 
 def test_a_machine_that_was_taken_over_restores_nothing(

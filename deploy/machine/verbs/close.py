@@ -22,6 +22,6 @@ def main(given: argparse.Namespace) -> int:
     register = answers.register_of(given)
     answers.confirm(f"the office of {register.name} is closed: nobody can read or record",
                     given.yes)
-    serving.systemctl("mask", "--now", *serving.application(register), serving.desk(register))
+    serving.close(register)
     print(f"{register.name} is closed; next: admissions-admin open {register.name}")
     return 0

@@ -88,6 +88,8 @@ def pack(register: Register, place: pathlib.Path, is_confirmed: bool) -> None:
     copy = copy_verb.made(register)
     problem = copy_verb.sent(register)
     serving.systemctl("disable", "--now", serving.desk(register))
+    # (neither an upgrade nor another verb opens it again)
+    serving.close(register)
     report = register.copies / second_copy.REPORT
     line = files.content(report).decode("utf-8") if report.exists() else ""
     if problem or f"{copy.name}{sealed.END} is in {there}/{register.name}, " not in line:

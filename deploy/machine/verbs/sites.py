@@ -26,7 +26,8 @@ def main(given: argparse.Namespace) -> int:
         serving.report(serving.make_folders(register))
     serving.report(sites.make_all())
     serving.report(serving.other_problems(None))
-    serving.begin([unit for it in registers for unit in serving.application(it)])
+    serving.begin([unit for it in registers if not serving.is_closed(it)
+                   for unit in serving.application(it)])
     for register in registers:
         if not people.users_of(register):
             how = f"admissions-admin people {register.name} --user NAME --role head"
