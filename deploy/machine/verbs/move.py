@@ -75,7 +75,8 @@ def pack(register: Register, place: pathlib.Path, is_confirmed: bool) -> None:
     """Makes the last copy once the office is closed, and puts the rest onto the disk."""
     target = place / f"{register.name}.tar"
     if target.exists():
-        raise Refused(f"{target} is there already: give it another name")
+        raise Refused(f"{target} is there already: give it another name, unless it is of this move:"
+                      f" then {register.name} is packed")
     there = second_copy.place_of()
     if there is None:
         raise Refused("a move needs a second place that both machines reach: admissions-admin"
