@@ -12,7 +12,7 @@ from office.web.people import roles
 from office.web.register import history
 from register_files import Refused
 
-from . import answers, copies, files, histories, office_copy
+from . import answers, copies, files, histories, office_copy, office_requests
 from .programs import OFFICE
 from .registers import Register
 
@@ -115,6 +115,8 @@ def begin(register: Register, copy: pathlib.Path, others: str = "") -> typing.It
     """Has the application know that the register is that of a copy, and what came since wait.
     `others` is what else people did since that its own file lacks. Returns lines that say so."""
     who, since = roles.Person(answers.teller(), ""), copies.moment(copy)
+    # (one that was killed would be done again, when the application starts)
+    office_requests.drop(register, "restore")
     with application(register) as parts:
         number = parts.copies.next_number(f"restored by IT support: {copy.stem}", who.name)
     path = register.office_copies / f"office-{number:06}-{since.strftime(copies.TIME)}.db"

@@ -154,6 +154,15 @@ def forget(folder: int, begun: str) -> None:
         os.rename(begun, aside, src_dir_fd=folder, dst_dir_fd=folder)
 
 
+def drop(register: Register, name: str) -> None:
+    """Has nobody do a request any more, also one that is begun."""
+    if os.path.lexists(register.office / FOLDER):
+        with opened(register) as folder:
+            for it in (name, name + BEGUN):
+                with contextlib.suppress(FileNotFoundError):
+                    forget(folder, it)
+
+
 def unit_of(register: Register) -> str:
     """The unit that serves a register."""
     return f"admissions@{register.name}.service"

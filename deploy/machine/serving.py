@@ -129,11 +129,12 @@ def start(register: Register) -> bool:
 
 
 def stop(register: Register) -> None:
-    """Stops all that has a register open, and the nightly backup, which starts the server at its
-    end."""
+    """Stops all that has a register open: first the nightly backup, and a restore by the office,
+    which start the server at their end."""
     name = register.name
-    systemctl("stop", f"admissions-backup@{name}.timer", f"admissions-backup@{name}.service")
-    systemctl("stop", *application(register), desk(register))
+    systemctl("stop", f"admissions-backup@{name}.timer", f"admissions-backup@{name}.service",
+              *application(register), f"admissions-office-restore@{name}.service")
+    systemctl("stop", desk(register))
     # (one that has given up starts anew)
     systemctl("reset-failed", desk(register), may_fail=True)
 

@@ -24,9 +24,10 @@ RESTORE = """#!/bin/sh
 [ ! -e "$2" ] || cp "$2" "$2.before-restore-1"
 cp "$1" "$2" && echo "reg.db is restored from $1"
 """
-STOPS = [f"stop admissions-backup@{NAME}.timer admissions-backup@{NAME}.service",
-         f"stop admissions-office@{NAME}.socket admissions-office@{NAME}.service"
-         f" admissions@{NAME}.service"]
+STOPS = [f"stop admissions-backup@{NAME}.timer admissions-backup@{NAME}.service"
+         f" admissions-office@{NAME}.socket admissions-office@{NAME}.service"
+         f" admissions-office-restore@{NAME}.service",
+         f"stop admissions@{NAME}.service"]
 STARTS = [f"start {it}" for it in (
     f"admissions@{NAME}.service", f"admissions-office@{NAME}.socket",
     f"admissions-office@{NAME}.service", f"admissions-backup@{NAME}.timer",
@@ -191,6 +192,18 @@ def test_killed_at_each_step_and_typed_again_it_goes_on(
     # (what was there is kept once)
     kept = pathlib.Path(f"{damaged.file}.before-restore-1")
     assert kept.read_text(encoding="ascii") == "damaged"
+
+
+def test_a_restore_by_the_office_that_was_killed_is_not_done_after_it(
+    damaged: registers.Register, systemd: Systemd
+) -> None:
+    """It would put its own copy in the place of this one, when the application starts."""
+    requests = damaged.office / "requests"
+    requests.mkdir()
+    for it in ("restore", "restore.begun", "copy"):
+        (requests / it).write_text("1", encoding="ascii")
+    assert typed("restore", NAME, COPY, "--yes") == 0
+    assert sorted(it.name for it in requests.iterdir()) == ["copy"]
 
 
 def test_without_a_history_the_copy_is_restored_with_a_warning(
