@@ -159,12 +159,14 @@ def machine() -> str:
 
 def owner_of(register: Register, place: str, as_user: str | None = None) -> str:
     """The machine whose place the folder of a register there is, by its number and its name; or
-    ""."""
+    "". The folder is made if it is not there."""
+    there = f"{place}/{register.name}/"
     with tempfile.TemporaryDirectory() as room:
         if as_user:
             os.chown(room, *files.numbers(as_user, as_user))
-        rsync("--recursive", "--include", f"/{OWNER}", "--exclude", "*",
-              f"{place}/{register.name}/", f"{room}/", as_user=as_user)
+        rsync("--recursive", f"{room}/", there, as_user=as_user)
+        rsync("--recursive", "--include", f"/{OWNER}", "--exclude", "*", there, f"{room}/",
+              as_user=as_user)
         path = pathlib.Path(room, OWNER)
         return path.read_text(encoding="utf-8", errors="replace") if path.is_file() else ""
 
@@ -179,8 +181,6 @@ def see_owner(register: Register, place: str) -> None:
     """Refuses the place of another machine, and keeps that this one was taken over where the place
     was its own before. A place without an owner gets this one."""
     there, number = f"{place}/{register.name}", machine()
-    with tempfile.TemporaryDirectory() as room:
-        rsync("--recursive", f"{room}/", f"{there}/")
     owner = owner_of(register, place)
     # (which a register that was moved here, or a clone of the machine, has of another one)
     kept, line = register.copies / OWNER, f"{number} {place}\n"
