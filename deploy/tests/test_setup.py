@@ -471,7 +471,7 @@ def test_a_register_from_a_copy_that_was_killed_goes_on(
         patch.setattr(*step, killed)
         typed("setup", *words)
     how = f"its set-up from a copy has not ended: admissions-admin setup {' '.join(words)}"
-    for verb in ("open", "setup", "restore"):
+    for verb in ("open", "setup"):
         with pytest.raises(Refused, match=f"^{how}$"):
             typed(verb, register.name)
     with pytest.raises(Refused, match="is there already, so this machine does not take over"):
