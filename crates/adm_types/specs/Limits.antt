@@ -9,29 +9,34 @@ pub use Rattle.adm_types.specs.Numbers.{is_from, is_child_number, first_day, las
 use Rattle.std.specs.Cmp.Lexicographic.{pointwise, slice_cmp}
 use Rattle.std.specs.Ordering.{nat_cmp}
 use Rattle.std.specs.declared.cmp.Ordering.{Ordering}
+use Rattle.adm_types.specs.declared.seasons.Size.{Size}
+use Rattle.adm_types.specs.declared.seasons.Size.TheVariants.{Standard, Large}
 use Rattle.adm_types.specs.declared.rows.Point.{Point}
 use Rattle.adm_types.specs.declared.rows.School.{School}
 use Rattle.adm_types.specs.declared.rows.Child.{Child}
 
--- how many schools and how many children a register has at the most
-abbrev pub most_schools : ℕ
-most_schools = 200
+-- how many schools a register of a season of this size has at the most
+abbrev pub most_schools : Size → ℕ
+most_schools Standard = 200
+most_schools Large = 1000
 
--- the most children that a register has
-abbrev pub most_children : ℕ
-most_children = 2000
+-- the most children that it has
+abbrev pub most_children : Size → ℕ
+most_children Standard = 2000
+most_children Large = 40000
 
 -- how many schools an application lists at the most
 abbrev pub most_preferences : ℕ
 most_preferences = 10
 
--- how many draws, and how many lots of all draws together, it has at the most
+-- how many draws it has at the most
 abbrev pub most_draws : ℕ
 most_draws = 10000
 
 -- the most lots that all draws of a register have together
-abbrev pub most_lots : ℕ
-most_lots = 1000000
+abbrev pub most_lots : Size → ℕ
+most_lots Standard = 1000000
+most_lots Large = 20000000
 
 -- 1 to 80 bytes without control characters
 abbrev pub is_name : List ℕ → Bool

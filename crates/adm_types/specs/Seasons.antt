@@ -6,12 +6,14 @@ use Rattle.jiff_core.specs.Calendar.{days_from_civil, weekday_number}
 use Rattle.adm_types.specs.Numbers.{first_day, last_day}
 use Rattle.adm_types.specs.declared.seasons.Phase.{Phase}
 use Rattle.adm_types.specs.declared.seasons.Phase.TheVariants.{Primary, Secondary}
+use Rattle.adm_types.specs.declared.seasons.Size.{Size}
 
--- a phase, an entry year, and the holidays, each once and in order
+-- a phase, an entry year, the holidays, each once and in order, and how large its register may become
 pub record SeasonFacts : Type 0 where
   pub phase : Phase
   pub year : ℕ
   pub holidays : List ℕ
+  pub size : Size
 
 -- a day from 1990-01-01 to 2110-12-31
 abbrev pub IsDay : ℕ → Type 0

@@ -30,6 +30,6 @@ pub use rows::{
     Application, Child, LeftPair, Place, PlaceRow, PlaceState, Point, PresentRow, Row, School,
 };
 pub use school_code::SchoolCode;
-pub use seasons::{Phase, Season, SeasonFault};
+pub use seasons::{Phase, Season, SeasonFault, Size};
 pub use seq::Seq;
 pub use text::Text;

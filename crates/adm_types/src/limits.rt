@@ -1,29 +1,54 @@
 // The limits that the tests of commands name: of names, points, schools, children and lists.
-ghost use Rattle.std.specs.Prelude.{◌≡◌};
+ghost use Rattle.std.specs.Prelude.{◌≡◌, ◌≤◌};
 ghost use Rattle.std.specs.List.{list_any, list_all};
 ghost use Rattle.std.specs.Str.{chars};
 ghost use Rattle.std.specs.Char.{is_control};
 ghost use Rattle.adm_types.specs.Code.{is_code};
 ghost use Rattle.adm_types.specs.Criteria.{is_criterion};
-ghost use Rattle.adm_types.specs.Limits.{is_name, is_on_map, is_code_or_none, is_pan, is_school_in_range, is_listed, is_without_repeat, is_child_in_range};
+ghost use Rattle.adm_types.specs.declared.seasons.Size.TheVariants.{Large};
+ghost use Rattle.adm_types.specs.Limits.{most_schools, most_children, most_lots, is_name, is_on_map, is_code_or_none, is_pan, is_school_in_range, is_listed, is_without_repeat, is_child_in_range};
 
 use crate::criteria::is_criterion;
-use crate::{Child, Criterion, Point, School, SchoolCode, Text};
-
-/// How many schools a register has at the most.
-pub const MOST_SCHOOLS: usize = 200;
-
-/// How many children a register has at the most.
-pub const MOST_CHILDREN: usize = 2000;
+use crate::{Child, Criterion, Point, School, SchoolCode, Size, Text};
 
 /// How many draws a register has at the most.
 pub const MOST_DRAWS: u32 = 10_000;
 
-/// How many lots the draws of a register have together at the most.
-pub const MOST_LOTS: usize = 1_000_000;
-
 /// How many schools an application lists at the most.
 pub const MOST_PREFERENCES: usize = 10;
+
+impl Size {
+    /// How many schools a register of this size has at the most.
+    pub fn most_schools(self) -> usize
+        ensures { result ≡ most_schools self }
+    {
+        match self {
+            Size::Standard => 200,
+            Size::Large => 1_000,
+        }
+    }
+
+    /// How many children it has at the most.
+    pub fn most_children(self) -> usize
+        ensures { result ≡ most_children self }
+    {
+        match self {
+            Size::Standard => 2_000,
+            Size::Large => 40_000,
+        }
+    }
+
+    /// How many lots its draws have together at the most.
+    pub fn most_lots(self) -> usize
+        ensures value { result ≡ most_lots self }
+        ensures upper { result ≤ most_lots Large }
+    {
+        match self {
+            Size::Standard => 1_000_000,
+            Size::Large => 20_000_000,
+        }
+    }
+}
 
 /// Whether a text has a control character.
 fn has_control(text: &str) -> bool

@@ -9,6 +9,7 @@ ghost use Rattle.adm_types.specs.Seasons.{IsRising, IsSeason, IsDay};
 ghost use Rattle.std.specs.List.{list_any};
 ghost use Rattle.adm_types.specs.Seasons.{national_day_of, is_working_day, IsOfferDay, reaches_offer_day};
 ghost use Rattle.jiff_core.specs.Calendar.{days_in_month};
+ghost use Rattle.adm_types.specs.declared.seasons.Size.TheVariants.{Standard};
 
 use crate::{Day, Exact, Seq};
 use jiff::civil::Date;
@@ -23,12 +24,20 @@ pub enum Phase {
     Secondary,
 }
 
-/// One phase, one entry year from 2000 to 2100, and at most 40 holidays.
+/// How large the register of a season may become.
+#[derive(Clone, Copy, PartialEq, Eq, Debug)]
+pub enum Size {
+    Standard,
+    Large,
+}
+
+/// One phase, one entry year from 2000 to 2100, at most 40 holidays, and a size.
 #[derive(Drop)]
 pub struct Season {
     phase: Phase,
     year: u16,
     holidays: Seq<Day>,
+    size: Size,
 }
 
 impl Model for Season {
@@ -36,9 +45,9 @@ impl Model for Season {
 
     ghost Value = { SeasonFacts };
 
-    ghost view = { λ s. record { phase = s.phase; year = s.year; holidays = s.holidays } };
+    ghost view = { λ s. record { phase = s.phase; year = s.year; holidays = s.holidays; size = s.size } };
 
-    ghost invariant = { λ s. IsSeason (record { phase = s.phase; year = s.year; holidays = s.holidays }) };
+    ghost invariant = { λ s. IsSeason (record { phase = s.phase; year = s.year; holidays = s.holidays; size = s.size }) };
 }
 
 impl Clone for Season {
@@ -49,6 +58,7 @@ impl Clone for Season {
             phase: self.phase,
             year: self.year,
             holidays: self.holidays.clone()?,
+            size: self.size,
         })
     }
 }
@@ -76,7 +86,7 @@ impl From<AllocError> for SeasonFault {
 }
 
 impl Season {
-    /// The season of a phase and an entry year, with these holidays.
+    /// The season of a phase and an entry year, with these holidays, of the standard size.
     pub fn new(
         alloc: Global,
         phase: Phase,
@@ -86,6 +96,7 @@ impl Season {
         ensures year_range { (result ≡ Err SeasonFault.YearRange) ↔ (is_from 2000 2100 year ≡ false) }
         ensures too_many { (result ≡ Err SeasonFault.TooManyHolidays) ↔ IsTrue (is_from 2000 2100 year && nat_lt 40 (length holidays.now)) }
         ensures season { IfOk result (λ season. (season.phase ≡ phase) × (season.year ≡ year) × IsRising holidays.now season.holidays) }
+        ensures size { IfOk result (λ season. season.size ≡ Standard) }
     {
         if year < 2000 || 2100 < year {
             return Err(SeasonFault::YearRange);
@@ -98,7 +109,33 @@ impl Season {
             phase,
             year: year as u16,
             holidays,
+            size: Size::Standard,
         })
+    }
+
+    /// The same season, of this size.
+    pub fn of_size(self, size: Size) -> Season
+        ensures { result ≡ record self { size = size } }
+    {
+        let Season {
+            phase,
+            year,
+            holidays,
+            size: _,
+        } = self;
+        Season {
+            phase,
+            year,
+            holidays,
+            size,
+        }
+    }
+
+    /// How large its register may become.
+    pub fn size(&self) -> Size
+        ensures { result ≡ self.now.size }
+    {
+        self.size
     }
 
     pub fn phase(&self) -> Phase
