@@ -99,10 +99,10 @@ module _ (old : State) (change : Difference) where
   base_fits : BaseFits old.season old.schools old.children old.applications → BasePut old change → BaseFits new.season new.schools new.children new.applications
   base_fits base put = record {
     season_is = base.season_is;
-    few_schools = few (λ (s : School). s.code) most_schools old.schools change.schools base.few_schools put.few_schools;
+    few_schools = few (λ (s : School). s.code) (most_schools old.season.size) old.schools change.schools base.few_schools put.few_schools;
     schools_fit = AllRows-put_all nat_list_cmp_total code_cmp-IsAntisymmetric (λ (s : School). s.code) SchoolFits old.schools change.schools
         (λ code row there still. base.schools_fit code row there) put.schools;
-    few_children = few (λ (c : Child). c.no) most_children old.children change.children base.few_children put.few_children;
+    few_children = few (λ (c : Child). c.no) (most_children old.season.size) old.children change.children base.few_children put.few_children;
     children_fit = AllRows-put_all nat_cmp_total nat_cmp-IsAntisymmetric (λ (c : Child). c.no) (ChildFits new.schools) old.children change.children
         (λ number row there still. ChildFits-grows old.schools new.schools more_schools number row (base.children_fit number row there)) put.children;
     applications_fit = AllRows-put_all nat_cmp_total nat_cmp-IsAntisymmetric (λ (a : Application). a.child)

@@ -4,6 +4,7 @@ use Rattle.std.specs.List.{list_all}
 use Rattle.std.specs.Ordering.{nat_cmp}
 use Rattle.std.specs.FinMap.{FinMap, values, contains_key}
 use Rattle.adm_types.specs.Limits.{first_day, most_draws, most_lots, code_cmp}
+use Rattle.adm_types.specs.declared.seasons.Size.TheVariants.{Large}
 use Rattle.adm_types.specs.Seasons.{SeasonFacts, reaches_offer_day, lists_end}
 use Rattle.adm_types.specs.declared.rows.School.{School}
 use Rattle.adm_types.specs.declared.rows.Child.{Child}
@@ -42,11 +43,11 @@ count_draws before (draw ∷ draws) = count_draws (count_draw before draw) draws
 abbrev pub draws_so_far : State → DrawsSoFar
 draws_so_far s = count_draws no_draws (values s.draws)
 
--- no more than there may be
+-- no more than there may be in a register of any size
 pub record IsWithin (before : DrawsSoFar) : Type 0 where
   pub rounds : before.rounds ≤ before.draws
   pub draws : before.draws ≤ most_draws
-  pub lots : before.lots ≤ most_lots
+  pub lots : before.lots ≤ most_lots Large
 
 -- ---- which draw may come next
 
@@ -63,7 +64,7 @@ is_numbered before draw = nat_eq draw.number (before.draws + 1) && (if is_round 
 abbrev pub is_next : SeasonFacts → DrawsSoFar → Draw → Bool
 is_next season before draw =
     is_numbered before draw && nat_lt before.draws most_draws && is_due season before.day draw.day && nat_le draw.day (lists_end season)
-    && nat_le (before.lots + length draw.lots) most_lots
+    && nat_le (before.lots + length draw.lots) (most_lots season.size)
 
 -- each draw is the next after those before it
 abbrev pub are_in_order : SeasonFacts → DrawsSoFar → List Draw → Bool

@@ -31,9 +31,9 @@ FewAfter limit rows (row ∷ put) = len rows ≤ limit
 pub record BasePut (old : State) (change : Difference) : Type 0 where
   pub schools : AllByRecursion (λ (s : School). SchoolFits s.code s) change.schools
   pub kept_schools : AllByRecursion (λ (s : School). (was : School) → get old.schools s.code ≡ Some was → IsRaised was s) change.schools
-  pub few_schools : FewAfter most_schools (after old change).schools change.schools
+  pub few_schools : FewAfter (most_schools old.season.size) (after old change).schools change.schools
   pub children : AllByRecursion (λ (c : Child). ChildFits (after old change).schools c.no c) change.children
-  pub few_children : FewAfter most_children (after old change).children change.children
+  pub few_children : FewAfter (most_children old.season.size) (after old change).children change.children
   pub applications : AllByRecursion (λ (a : Application). ApplicationFits (lists_end old.season) (after old change).schools (after old change).children a.child a) change.applications
 
 -- What is written to the places fits the rows after the change. A child that keeps its place keeps its application, if it has one. There is room at each school.

@@ -96,12 +96,12 @@ pub record LeftPairFits (schools : FinMap code_cmp School) (children : FinMap na
   pub school : IsTrue (contains_key schools pair.school)
   pub no_place : IsTrue (not (is_unplanned_at (get places pair.child) pair.school))
 
--- the season and the values are in their limits, each child and school that a row names is there, and there are at most 200 schools and 2,000 children
+-- the season and the values are in their limits, each child and school that a row names is there, and there are no more schools and children than its size allows
 pub record BaseFits (season : SeasonFacts) (schools : FinMap code_cmp School) (children : FinMap nat_cmp Child) (applications : FinMap nat_cmp Application) : Type 0 where
   pub season_is : IsSeason season
-  pub few_schools : len schools ≤ most_schools
+  pub few_schools : len schools ≤ most_schools season.size
   pub schools_fit : AllRows SchoolFits schools
-  pub few_children : len children ≤ most_children
+  pub few_children : len children ≤ most_children season.size
   pub children_fit : AllRows (ChildFits schools) children
   pub applications_fit : AllRows (ApplicationFits (lists_end season) schools children) applications
 

@@ -14,7 +14,7 @@ use crate::draws_so_far::are_in_order;
 use crate::tables::{Tables, is_plan};
 use adm_draws::is_draw;
 use adm_table::{Piece, Shared, Table};
-use adm_types::limits::{MOST_CHILDREN, MOST_SCHOOLS, is_listed, is_name, is_school_in_range};
+use adm_types::limits::{is_listed, is_name, is_school_in_range};
 use adm_types::{ChildNo, Draw, LeftPair, Lot, Outcome, PlaceRow, PlaceState, School, SchoolCode};
 use std::alloc::{AllocError, Global};
 
@@ -102,11 +102,12 @@ impl<K, T: RowCheck<K>> RowCheck<K> for Shared<T> {
     }
 }
 
-/// Whether there are at most 200 schools and 2,000 children.
+/// Whether there are no more schools and children than the season's size allows.
 fn are_few(tables: &Tables) -> bool
-    ensures { IsTrue result ↔ ((len tables.now.schools ≤ most_schools) × (len tables.now.children ≤ most_children)) }
+    ensures { IsTrue result ↔ ((len tables.now.schools ≤ most_schools tables.now.season.size) × (len tables.now.children ≤ most_children tables.now.season.size)) }
 {
-    tables.school_count() <= MOST_SCHOOLS && tables.child_count() <= MOST_CHILDREN
+    let size = tables.season().size();
+    tables.school_count() <= size.most_schools() && tables.child_count() <= size.most_children()
 }
 
 impl RowCheck<SchoolCode> for School {

@@ -1,14 +1,15 @@
 // How far the draws of a register have come, and which draw may come next.
-ghost use Rattle.std.specs.Prelude.{◌≡◌, ◌<◌, ◌≤◌, ◌+◌, length, true, IfOk};
+ghost use Rattle.std.specs.Prelude.{◌≡◌, ◌<◌, ◌≤◌, ◌+◌, nat_le, length, true, IfOk};
 ghost use Rattle.std.specs.FinMap as rows;
 ghost use Rattle.adm_types.specs.Limits.{most_draws, most_lots};
+ghost use Rattle.adm_types.specs.declared.seasons.Size.TheVariants.{Large};
 ghost use Rattle.adm_types.specs.Seasons.{SeasonFacts};
 ghost use Rattle.adm_register.specs.Draws.{no_draws, is_round, count_draw, count_draws, is_due, is_numbered, is_next, are_in_order, IsWithin, draws_so_far};
 ghost use Rattle.adm_register.specs.WellFormed.{WellFormed};
 
 use crate::tables::Tables;
 use adm_table::Shared;
-use adm_types::limits::{MOST_DRAWS, MOST_LOTS};
+use adm_types::limits::MOST_DRAWS;
 use adm_types::{Day, Draw, Season};
 use std::alloc::{AllocError, Global};
 
@@ -39,7 +40,7 @@ impl DrawsSoFar {
     fn with(&self, draw: &Draw) -> DrawsSoFar
         requires draws { self.now.draws < most_draws }
         requires rounds { self.now.rounds ≤ self.now.draws }
-        requires lots { self.now.lots + length draw.now.lots ≤ most_lots }
+        requires lots { self.now.lots + length draw.now.lots ≤ most_lots Large }
         ensures { result ≡ count_draw self.now draw.now }
     {
         DrawsSoFar {
@@ -95,18 +96,25 @@ impl DrawsSoFar {
         draw.number == self.draws + 1 && numbered
     }
 
+    /// Whether there may be so many more lots.
+    pub fn has_room_for(&self, season: &Season, lots: usize) -> bool
+        ensures { result ≡ nat_le (self.now.lots + lots) (most_lots season.now.size) }
+    {
+        let most = season.size().most_lots();
+        self.lots <= most && lots <= most - self.lots
+    }
+
     /// Whether the draw may come next.
     fn allows(&self, season: &Season, draw: &Draw) -> bool
         requires { IsWithin self.now }
         ensures { result ≡ is_next season.now self.now draw.now }
     {
-        let most = MOST_LOTS - self.lots;
         let day = draw.day;
         self.is_number_of(draw)
             && self.draws < MOST_DRAWS
             && is_due(season, self.day, day)
             && day <= season.lists_end()
-            && draw.lots.len() <= most
+            && self.has_room_for(season, draw.lots.len())
     }
 }
 
