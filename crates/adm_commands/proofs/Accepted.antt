@@ -82,7 +82,7 @@ add_school-fit old school kept well passes =
       base = record {
         schools = (record { own_code = refl; code_form = kept.code_form; text = kept.text; name = (pass refusal.BadText); in_range = (pass refusal.OutOfRange) }, tt);
         kept_schools = (λ was there. absurd (none-some was (sym (none_of _ (pass refusal.SchoolKnown)) ∙ there)), tt);
-        few_schools = len-insert_room nat_list_cmp_total old.schools school.code school most_schools (ltb-true _ _ (pass refusal.RegisterFull));
+        few_schools = len-insert_room nat_list_cmp_total old.schools school.code school (most_schools old.season.size) (ltb-true _ _ (pass refusal.RegisterFull));
         children = tt;
         few_children = tt;
         applications = tt;
@@ -103,7 +103,7 @@ add_school-fit old school kept well passes =
     }
 
 -- a child that fits is written
-pub put_child-fit : (old : State) (child : Child) → WellFormed old → ChildFits old.schools child.no child → len (insert old.children child.no child) ≤ most_children → Fit old (change_of_child child)
+pub put_child-fit : (old : State) (child : Child) → WellFormed old → ChildFits old.schools child.no child → len (insert old.children child.no child) ≤ most_children old.season.size → Fit old (change_of_child child)
 put_child-fit old child well fits few = record {
   base = record { schools = tt; kept_schools = tt; few_schools = tt; children = (fits, tt); few_children = few; applications = tt };
   places = places_stay old (child ∷ []) well;
@@ -126,7 +126,7 @@ add_child-fit old child kept well passes =
       flags = kept.flags;
       siblings = (pass refusal.UnknownSchool);
     })
-    (len-insert_room nat_cmp_total old.children child.no child most_children (ltb-true _ _ (pass refusal.RegisterFull)))
+    (len-insert_room nat_cmp_total old.children child.no child (most_children old.season.size) (ltb-true _ _ (pass refusal.RegisterFull)))
 
 pub amend-fit : (old : State) (child : Child) → KeptByChild child → WellFormed old → first_failing (amend.tests old child) ≡ None → Fit old (change_of_child child)
 unfolding amend.tests

@@ -128,7 +128,7 @@ module _ (old : State) (draw : ℕ) (school : List ℕ) (day : ℕ) (numbers : L
       let room = and_parts (nat_lt so_far.draws most_draws) _ (pass refusal.RegisterFull) in
       let few = lots-few (fill_pairs old school) numbers in
       let most = leb-true _ _ room.1 in
-      let fits : nat_le (so_far.lots + length (fill_lots old school numbers)) most_lots ≡ true = le-leb _ _ (omega (arith, few, most)) in
+      let fits : nat_le (so_far.lots + length (fill_lots old school numbers)) (most_lots old.season.size) ≡ true = le-leb _ _ (omega (arith, few, most)) in
       let held : nat_lt 0 so_far.rounds ≡ true = lt-ltb 0 so_far.rounds (some_round old ordered was_round) in
       λ i. (pass refusal.WrongDraw) i && held i && room.0 i && (pass refusal.TooSoon) i && (pass refusal.ListClosed) i && fits i && true
 

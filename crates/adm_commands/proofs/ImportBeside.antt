@@ -102,11 +102,11 @@ module _ (old : State) (added : List (ℕ × ImportRow)) (seen : State) (beside 
 
   module _ (new : is_some (row_at nat_cmp added row.child.no) ≡ false) where
     -- the tests of a child that is not among the new rows
-    pub add_beside : add_child.tests seen row.child ≡ add_child.tests_with_room (most_children - length added) old row.child
+    pub add_beside : add_child.tests seen row.child ≡ add_child.tests_with_room (most_children old.season.size - length added) old row.child
     unfolding add_child.tests
     add_beside =
         let child = beside.children row.child.no ∙ ap (λ b. b || contains_key old.children row.child.no) new in
-        let few = ap (λ n. nat_lt n most_children) beside.count ∙ sym (room_left (len old.children) (length added) most_children) in
+        let few = (λ i. nat_lt (beside.count i) (most_children (beside.season i).size)) ∙ sym (room_left (len old.children) (length added) (most_children old.season.size)) in
         λ i. (not (child i), refusal.ChildKnown) ∷ (is_name row.child.name, refusal.BadText) ∷ (is_child_in_range row.child, refusal.OutOfRange)
         ∷ (are_schools (beside.schools i) row.child.siblings, refusal.UnknownSchool) ∷ (few i, refusal.RegisterFull) ∷ []
 
@@ -134,7 +134,7 @@ module _ (old : State) (added : List (ℕ × ImportRow)) (seen : State) (beside 
 
   -- what refuses a child that is not there, or else its application
   pub new_refusal : is_known seen row ≡ false → (is_some (row_at nat_cmp added row.child.no) || contains_key old.children row.child.no) ≡ false
-      → refusal_of_row seen row ≡ or_next (first_failing (add_child.tests_with_room (most_children - length added) old row.child)) (first_failing (apply.further_tests old (application_of row)))
+      → refusal_of_row seen row ≡ or_next (first_failing (add_child.tests_with_room (most_children old.season.size - length added) old row.child)) (first_failing (apply.further_tests old (application_of row)))
   new_refusal unknown new =
       let apart = first_false _ _ new in
       refusal_of_new seen row unknown (beside.children row.child.no ∙ new)

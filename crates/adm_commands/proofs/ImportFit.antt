@@ -91,7 +91,7 @@ import-fit old rows added well kept accepted permuted sorted =
         few_schools = tt;
         children = each_map (λ (r : ImportRow). r.child) (λ (c : Child). ChildFits old.schools c.no c) added
             (each_weaker (λ (r : ImportRow). KeptByImportRow r × IsAddable old r) (λ (r : ImportRow). ChildFits old.schools r.child.no r.child) (λ r it. child_fits old r it.0 it.1) added both);
-        few_children = few_after most_children children (map (λ (r : ImportRow). r.child) added) (omega (arith, count, same, room));
+        few_children = few_after (most_children old.season.size) children (map (λ (r : ImportRow). r.child) added) (omega (arith, count, same, room));
         applications = each_map application_of (λ (a : Application). ApplicationFits (lists_end old.season) old.schools children a.child a) added
             (each_weaker (λ (r : ImportRow). (KeptByImportRow r × IsAddable old r) × (contains_key children r.child.no ≡ true))
             (λ (r : ImportRow). ApplicationFits (lists_end old.season) old.schools children r.child.no (application_of r)) (λ r it. application_fits old children r it.0.0 it.0.1 it.1) added known);

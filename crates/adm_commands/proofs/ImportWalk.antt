@@ -36,7 +36,7 @@ pub record IsAddable (s : State) (row : ImportRow) : Type 0 where
   pub preferences : (is_from 1 most_preferences (length row.preferences) && is_without_repeat row.preferences) ≡ true
   pub listed : are_schools s.schools row.preferences ≡ true
 
-addable : (s : State) (row : ImportRow) → first_failing (row_tests s row) ≡ None → IsAddable s row × (len s.children < most_children)
+addable : (s : State) (row : ImportRow) → first_failing (row_tests s row) ≡ None → IsAddable s row × (len s.children < most_children s.season.size)
 unfolding row_tests add_child.tests apply.tests
 addable s row passes =
     let of_child : List (Bool × Refusal) = add_child.tests s row.child in
@@ -65,7 +65,7 @@ none_refused number (Some reason) later none = cc
 -- of the rows that are added: each passed its tests, there is room for all, and no two are of one child
 pub record AreAddable (s : State) (added : List ImportRow) : Type 0 where
   pub each : AllByRecursion (IsAddable s) added
-  pub room : len s.children ≤ most_children → len s.children + length added ≤ most_children
+  pub room : len s.children ≤ most_children s.season.size → len s.children + length added ≤ most_children s.season.size
   pub apart : IsDistinct (eq_by_cmp nat_cmp) (map (λ (r : ImportRow). r.child.no) added)
 
 module _ (s : State) (row : ImportRow) where
@@ -105,7 +105,7 @@ module _ (s : State) (row : ImportRow) where
     listed = fits.listed;
   }
 
-  one_more : (added : List ImportRow) → IsAddable s row → len s.children < most_children → AreAddable next added → AreAddable s (row ∷ added)
+  one_more : (added : List ImportRow) → IsAddable s row → len s.children < most_children s.season.size → AreAddable next added → AreAddable s (row ∷ added)
   unfolding with_row change_of
   one_more added fits few more =
       let count : len next.children ≡ len s.children + 1 = len-insert nat_cmp_total s.children row.child.no row.child

@@ -181,15 +181,15 @@ module _ {old : State} {numbers : List ℕ} {outcomes : List Outcome} (facts : I
 
   -- and is the next
   pub draw_next : draw ≡ (draws_so_far old).draws + 1 → nat_le day (lists_end old.season) ≡ true → is_due old.season (draws_so_far old).day day ≡ true → length numbers ≡ length (round_pairs old)
-      → (nat_lt (draws_so_far old).draws most_draws && nat_le ((draws_so_far old).lots + length numbers) most_lots) ≡ true → is_next old.season (draws_so_far old) it ≡ true
+      → (nat_lt (draws_so_far old).draws most_draws && nat_le ((draws_so_far old).lots + length numbers) (most_lots old.season.size)) ≡ true → is_next old.season (draws_so_far old) it ≡ true
   draw_next number in_time due count room =
       let so_far = draws_so_far old in
-      let both = and_parts (nat_lt so_far.draws most_draws) (nat_le (so_far.lots + length numbers) most_lots) room in
+      let both = and_parts (nat_lt so_far.draws most_draws) (nat_le (so_far.lots + length numbers) (most_lots old.season.size)) room in
       let next : nat_eq draw (so_far.draws + 1) ≡ true = (unsigned_Decides draw (so_far.draws + 1)).1 number in
       let round : nat_lt 0 (so_far.rounds + 1) ≡ true = lt-ltb 0 (so_far.rounds + 1) (omega arith) in
       let round_next : nat_eq (so_far.rounds + 1) (so_far.rounds + 1) ≡ true = (unsigned_Decides (so_far.rounds + 1) (so_far.rounds + 1)).1 refl in
       let many : length numbers ≡ length lots = count ∙ sym (length_pairs lots (round_pairs old) facts.posed.lots_drawn) in
       let numbered : (nat_eq draw (so_far.draws + 1) && (if nat_lt 0 (so_far.rounds + 1) then nat_eq (so_far.rounds + 1) (so_far.rounds + 1) else nat_lt 0 so_far.rounds)) ≡ true =
       (λ i. next i && (if round i then round_next i else nat_lt 0 so_far.rounds)) in
-      let few : nat_le (so_far.lots + length lots) most_lots ≡ true = ap (λ n. nat_le (so_far.lots + n) most_lots) (sym many) ∙ both.1 in
+      let few : nat_le (so_far.lots + length lots) (most_lots old.season.size) ≡ true = ap (λ n. nat_le (so_far.lots + n) (most_lots old.season.size)) (sym many) ∙ both.1 in
       λ i. numbered i && both.0 i && due i && in_time i && few i

@@ -36,7 +36,7 @@ round-next old draw day numbers outcomes passes =
     let room = and_parts (nat_lt (draws_so_far old).draws most_draws) _ (pass refusal.RegisterFull) in
     let few = lots-few (round_pairs old) numbers in
     let most = leb-true _ _ room.1 in
-    let fits : nat_le ((draws_so_far old).lots + length (round_lots old numbers)) most_lots ≡ true = le-leb _ _ (omega (arith, few, most)) in
+    let fits : nat_le ((draws_so_far old).lots + length (round_lots old numbers)) (most_lots old.season.size) ≡ true = le-leb _ _ (omega (arith, few, most)) in
     let round_is : nat_lt 0 ((draws_so_far old).rounds + 1) ≡ true = lt-ltb 0 ((draws_so_far old).rounds + 1) (omega arith) in
     let numbered : (if nat_lt 0 ((draws_so_far old).rounds + 1) then nat_eq ((draws_so_far old).rounds + 1) ((draws_so_far old).rounds + 1) else nat_lt 0 (draws_so_far old).rounds) ≡ true =
     ap (λ b. if b then nat_eq ((draws_so_far old).rounds + 1) ((draws_so_far old).rounds + 1) else nat_lt 0 (draws_so_far old).rounds) round_is

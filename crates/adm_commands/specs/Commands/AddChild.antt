@@ -21,9 +21,9 @@ tests_with_room room old child =
     ∷ (nat_lt (len old.children) room, RegisterFull)
     ∷ []
 
--- these tests, with room for 2,000 children
+-- these tests, with room for as many children as the season's size allows
 unfoldable pub tests : State → Child → List (Bool × Refusal)
-tests old child = tests_with_room most_children old child
+tests old child = tests_with_room (most_children old.season.size) old child
 
 -- the command: the child is written
 abbrev pub rules : Child → Rules

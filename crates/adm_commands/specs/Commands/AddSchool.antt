@@ -11,13 +11,13 @@ use Rattle.adm_register.specs.Change.{no_change}
 use Rattle.adm_commands.specs.KeptByTypes.{KeptBySchool}
 use Rattle.adm_commands.specs.Rules.{Rules, changes_just}
 
--- its code is new, its name and its numbers are in their limits, and there are fewer than 200 schools
+-- its code is new, its name and its numbers are in their limits, and there are fewer schools than the season's size allows
 unfoldable pub tests : State → School → List (Bool × Refusal)
 tests old school =
     (not (contains_key old.schools school.code), SchoolKnown)
     ∷ (is_name school.name, BadText)
     ∷ (is_school_in_range school, OutOfRange)
-    ∷ (nat_lt (len old.schools) most_schools, RegisterFull)
+    ∷ (nat_lt (len old.schools) (most_schools old.season.size), RegisterFull)
     ∷ []
 
 -- the school is written

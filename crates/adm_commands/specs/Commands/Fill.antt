@@ -51,7 +51,7 @@ tests old draw school day numbers =
     ∷ (is_due old.season (draws_so_far old).day day, TooSoon)
     ∷ (nat_eq (length numbers) (length (waiting_at old school)), LotCount)
     ∷ (not (repeats_lot (fill_lots old school numbers)), LotsRepeated)
-    ∷ (nat_lt (draws_so_far old).draws most_draws && nat_le ((draws_so_far old).lots + length numbers) most_lots, RegisterFull)
+    ∷ (nat_lt (draws_so_far old).draws most_draws && nat_le ((draws_so_far old).lots + length numbers) (most_lots old.season.size), RegisterFull)
     ∷ []
 
 -- the draw of a fill with these lots, by which the child was moved to the school

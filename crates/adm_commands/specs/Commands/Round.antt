@@ -92,7 +92,7 @@ tests old draw day numbers =
     ∷ (is_due old.season (draws_so_far old).day day, TooSoon)
     ∷ (is_lot_count old numbers, LotCount)
     ∷ (are_lots_apart old numbers, LotsRepeated)
-    ∷ (nat_lt (draws_so_far old).draws most_draws && nat_le ((draws_so_far old).lots + length numbers) most_lots, RegisterFull)
+    ∷ (nat_lt (draws_so_far old).draws most_draws && nat_le ((draws_so_far old).lots + length numbers) (most_lots old.season.size), RegisterFull)
     ∷ []
 
 -- the outcomes are those of the child-optimal stable allocation

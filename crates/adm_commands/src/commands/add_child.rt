@@ -8,7 +8,7 @@ use crate::child_values::put_child;
 use crate::command_result::{CommandResult, done, refused};
 use crate::failing::first_failing;
 use adm_register::Tables;
-use adm_types::limits::{MOST_CHILDREN, is_child_in_range, is_name};
+use adm_types::limits::{is_child_in_range, is_name};
 use adm_types::{Child, Refusal};
 use std::alloc::{AllocError, Global};
 
@@ -17,7 +17,7 @@ use std::alloc::{AllocError, Global};
 fn refusal_of(old: &Tables, child: &Child) -> Option<Refusal>
     ensures { result ≡ first_failing (tests old.now child.now) }
 {
-    refusal_with_room(MOST_CHILDREN, old, child)
+    refusal_with_room(old.season().size().most_children(), old, child)
 }
 
 /// Why the child is refused where there is room for so many children.

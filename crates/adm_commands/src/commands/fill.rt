@@ -20,7 +20,7 @@ use adm_draws::has_repeated_lot;
 use adm_register::draws_so_far::{DrawsSoFar, is_due};
 use adm_register::{Difference, Tables};
 use adm_table::Shared;
-use adm_types::limits::{MOST_DRAWS, MOST_LOTS};
+use adm_types::limits::MOST_DRAWS;
 use adm_types::{
     Child, ChildNo, Day, Draw, Lot, Outcome, PlaceState, Refusal, Reply, SchoolCode, Season, Seq,
 };
@@ -55,7 +55,10 @@ fn refusal_of(
         (is_due(old.season(), so_far.day, day), Refusal::TooSoon),
         (lots.len() == waiting, Refusal::LotCount),
         (!repeated, Refusal::LotsRepeated),
-        (has_room(so_far, lots.len()), Refusal::RegisterFull),
+        (
+            has_room(old.season(), so_far, lots.len()),
+            Refusal::RegisterFull,
+        ),
     ])
 }
 
@@ -106,11 +109,10 @@ fn are_lists_open(season: &Season, day: Day) -> bool
 }
 
 /// Whether there may be one more draw, with so many lots.
-fn has_room(so_far: &DrawsSoFar, lots: usize) -> bool
-    requires { IsWithin so_far.now }
-    ensures { result ≡ (nat_lt so_far.now.draws most_draws && nat_le (so_far.now.lots + lots) most_lots) }
+fn has_room(season: &Season, so_far: &DrawsSoFar, lots: usize) -> bool
+    ensures { result ≡ (nat_lt so_far.now.draws most_draws && nat_le (so_far.now.lots + lots) (most_lots season.now.size)) }
 {
-    so_far.draws < MOST_DRAWS && lots <= MOST_LOTS - so_far.lots
+    so_far.draws < MOST_DRAWS && so_far.has_room_for(season, lots)
 }
 
 /// Whether the school has a vacancy.

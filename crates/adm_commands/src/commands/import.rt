@@ -20,7 +20,6 @@ use crate::commands::{add_child, apply};
 use crate::kept::kept_by_row;
 use adm_register::{Difference, Tables};
 use adm_table::{Same, Shared};
-use adm_types::limits::MOST_CHILDREN;
 use adm_types::{Application, Child, ChildNo, Refusal, Reply, Row, Seq};
 use std::alloc::{AllocError, Global};
 use std::collections::BTreeMap;
@@ -143,7 +142,8 @@ fn refusal_of_row(old: &Tables, added: &Added, row: &Row) -> Option<Refusal>
     if has_child(old, added, row.child.no) {
         return Some(Refusal::RowDiffers);
     }
-    let room = MOST_CHILDREN.saturating_sub(added.len());
+    let most = old.season().size().most_children();
+    let room = most.saturating_sub(added.len());
     match add_child::refusal_with_room(room, old, &row.child) {
         Some(refusal) => Some(refusal),
         None => apply::further_refusal_of(old, row.child.no, row.day, row.preferences.as_slice()),

@@ -16,7 +16,7 @@ use adm_register::draws_so_far::{DrawsSoFar, is_due};
 use adm_register::{Difference, Tables};
 use adm_round::{allot, counts};
 use adm_table::Shared;
-use adm_types::limits::{MOST_DRAWS, MOST_LOTS};
+use adm_types::limits::MOST_DRAWS;
 use adm_types::{Day, Draw, Lot, Outcome, Place, PlaceRow, PlaceState, Refusal, Reply, Seq};
 use std::alloc::{AllocError, Global};
 
@@ -37,7 +37,7 @@ fn refusal_of(
     requires apart { is_lot_count old.now lots.now ≡ true → apart ≡ are_lots_apart old.now lots.now }
     ensures { result ≡ first_failing (tests old.now draw day lots.now) }
 {
-    let room = so_far.draws < MOST_DRAWS && lots.len() <= MOST_LOTS - so_far.lots;
+    let room = so_far.draws < MOST_DRAWS && so_far.has_room_for(old.season(), lots.len());
     first_failing(&[
         (draw == so_far.draws + 1, Refusal::WrongDraw),
         (day <= old.season().lists_end(), Refusal::ListClosed),
