@@ -6,3 +6,4 @@ pub mod History
 pub mod Imports
 pub mod NoBetterList
 pub mod Places
+pub mod Sizes

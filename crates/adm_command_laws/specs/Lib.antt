@@ -3,3 +3,4 @@ pub mod History
 pub mod Imports
 pub mod NextRound
 pub mod Places
+pub mod Sizes

@@ -4,6 +4,7 @@ ghost use Rattle.adm_command_laws.specs.Imports.{ImportOnce};
 ghost use Rattle.adm_command_laws.specs.Steps.{OneStep, RepeatSafe, SomeStep, StepKeeps};
 ghost use Rattle.adm_command_laws.specs.NextRound.{RoundIsPosed, NoBetterList};
 ghost use Rattle.adm_command_laws.specs.Places.{PlacesHaveCause};
+ghost use Rattle.adm_command_laws.specs.Sizes.{SeasonStays, StandardIsSmall};
 
 use adm_match_laws::{no_gain, one_best};
 use adm_round::{allotment_fits, one_allotment, posed_without_fault};
@@ -76,3 +77,13 @@ pub fn no_better_list()
     posed_without_fault();
     no_gain();
 }
+
+/// A register of the standard size has at most 200 schools, 2,000 children and 1,000,000 lots.
+pub fn standard_is_small()
+    ensures { StandardIsSmall }
+{}
+
+/// No accepted command changes the season of a register, of which its size is a part.
+pub fn season_stays()
+    ensures { SeasonStays }
+{}

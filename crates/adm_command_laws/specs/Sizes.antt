@@ -1,0 +1,23 @@
+-- What holds of a register of the standard size: it has the limits that every register had before there were two sizes, and stays of its size.
+use Rattle.std.specs.Prelude.{◌≡◌, ◌≤◌}
+use Rattle.std.specs.FinMap.{len}
+use Rattle.adm_types.specs.declared.commands.Command.{Command}
+use Rattle.adm_types.specs.declared.seasons.Size.TheVariants.{Standard}
+use Rattle.adm_register.specs.State.{State}
+use Rattle.adm_register.specs.WellFormed.{WellFormed}
+use Rattle.adm_register.specs.Draws.{draws_so_far}
+use Rattle.adm_commands.specs.Steps.{Accepts}
+
+-- at most 200 schools, 2,000 children, and 1,000,000 lots of all draws together
+pub record IsSmall (s : State) : Type 0 where
+  pub schools : len s.schools ≤ 200
+  pub children : len s.children ≤ 2000
+  pub lots : (draws_so_far s).lots ≤ 1000000
+
+-- a well-formed register of the standard size is as small
+abbrev pub StandardIsSmall : Type 0
+StandardIsSmall = (s : State) → WellFormed s → s.season.size ≡ Standard → IsSmall s
+
+-- no accepted command changes the season, or the size in it
+abbrev pub SeasonStays : Type 0
+SeasonStays = (old new : State) (command : Command) → Accepts old command new → new.season ≡ old.season
