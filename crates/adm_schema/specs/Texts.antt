@@ -8,11 +8,11 @@ use Rattle.adm_schema.specs.Columns.{insert_text, select_text, added_terms, give
 use Rattle.adm_schema.specs.Schema.{meta, school, child, application, place, left_list, draw, offer, lot, imported, present}
 
 abbrev pub insert_meta : List ℕ
-insert_meta = codes "INSERT INTO meta (one, version, phase, year, holidays, draws) VALUES (1, 2, ?1, ?2, ?3, 0)"
+insert_meta = codes "INSERT INTO meta (one, version, phase, year, holidays, draws) VALUES (1, ?1, ?2, ?3, ?4, 0)"
 
 -- the rowid, and then each column
 abbrev pub meta_terms : List Term
-meta_terms = lit (Int (pos 1)) ∷ lit Null ∷ lit (Int (pos 2)) ∷ col 0 0 ∷ col 0 1 ∷ col 0 2 ∷ lit (Int (pos 0)) ∷ []
+meta_terms = lit (Int (pos 1)) ∷ lit Null ∷ col 0 0 ∷ col 0 1 ∷ col 0 2 ∷ col 0 3 ∷ lit (Int (pos 0)) ∷ []
 
 abbrev pub update_meta : List ℕ
 update_meta = codes "UPDATE meta SET draws = ?1"

@@ -31,7 +31,7 @@ pub fn create_meta() -> &'static str
 pub fn insert_meta() -> &'static str
     ensures { result.now ≡ insert_meta }
 {
-    "INSERT INTO meta (one, version, phase, year, holidays, draws) VALUES (1, 2, ?1, ?2, ?3, 0)"
+    "INSERT INTO meta (one, version, phase, year, holidays, draws) VALUES (1, ?1, ?2, ?3, ?4, 0)"
 }
 
 /// Sets the count of draws.
