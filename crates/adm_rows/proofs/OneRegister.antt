@@ -58,7 +58,7 @@ one_in v w db r s held other same = in_one v db r s held (subst (λ u. HoldsRegi
     in_one v db r s one two =
         let a = one.formed in
         let b = two.formed in
-        let season = season_back v v db r s.season _ (two.rows.each meta (meta_in v)) b.base.season_is one in
+        let season = season_back v v db r s.season _ (two.rows.each meta (meta_in v)) b.base.season_is two.rows.sized one in
         let rows = rows_held v db s (rows_in_order r) two one.rows (read_back r a) season in
         let schools = same_by_rows nat_list_cmp_total (slice_cmp-IsAntisymmetric nat_cmp-IsAntisymmetric) (λ x. x.code) r.schools s.schools
         (λ k x there. (a.base.schools_fit k x there).own_code) (λ k x there. (b.base.schools_fit k x there).own_code) rows.schools in

@@ -15,7 +15,7 @@ use Rattle.sqlite.specs.Tree.{Trees}
 use Rattle.sqlite.proofs.Callers.{one_permutation}
 use Rattle.std.proofs.lemmas.List.Sorted.{IsPermutation-sym, IsPermutation-trans}
 use Rattle.adm_draws.specs.Draws.{row_of}
-use Rattle.adm_rows.specs.Represents.{HoldsRegister}
+use Rattle.adm_rows.specs.Represents.{IsSizedIn, HoldsRegister}
 use Rattle.adm_rows.specs.Reads.{HoldsSeason, AreReadBack}
 use Rattle.adm_register.specs.Rows.{rows_in_order}
 use Rattle.adm_rows.specs.Faults.{IsSchool, IsReadAgain, IsChild, IsApplication, IsImportRow, IsImportReadAgain, AreReadAgain}
@@ -41,9 +41,9 @@ read_back r formed = record {
 }
 
 -- the season that was read is that of the register, and so is the count of draws
-pub season_back : (v w : Version) (db : Trees) (r : Register) (season : SeasonFacts) (count : ℕ) → HoldsSeason w season count db → IsSeason season → HoldsRegister v db r → r.season ≡ season
-season_back v w db r season count one formed held =
-    same_season v w r.season season _ count held.formed.base.season_is formed (one_row _ _ (IsPermutation-trans _ _ _ (held.rows.each meta (meta_in v)) (IsPermutation-sym _ _ one)))
+pub season_back : (v w : Version) (db : Trees) (r : Register) (season : SeasonFacts) (count : ℕ) → HoldsSeason w season count db → IsSeason season → IsSizedIn w season.size → HoldsRegister v db r → r.season ≡ season
+season_back v w db r season count one formed sized held =
+    same_season v w r.season season _ count held.formed.base.season_is formed held.rows.sized sized (one_row _ _ (IsPermutation-trans _ _ _ (held.rows.each meta (meta_in v)) (IsPermutation-sym _ _ one)))
 
 pub count_back : (v w : Version) (db : Trees) (r : Register) (season : SeasonFacts) (count : ℕ) → HoldsSeason w season count db → HoldsRegister v db r → length (values r.draws) ≡ count
 count_back v w db r season count one held =

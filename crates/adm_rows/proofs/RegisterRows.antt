@@ -13,7 +13,7 @@ use Rattle.std.specs.List.Sorted.{IsPermutation}
 use Rattle.std.specs.FinMap.{values}
 use Rattle.adm_lists.proofs.Each.{each_append}
 use Rattle.adm_types.specs.Limits.{is_child_number, is_code_or_none}
-use Rattle.adm_types.specs.Seasons.{lists_end}
+use Rattle.adm_types.specs.Seasons.{SeasonFacts, lists_end}
 use Rattle.adm_types.specs.declared.rows.Child.{Child}
 use Rattle.adm_types.specs.declared.rows.School.{School}
 use Rattle.adm_register.specs.State.{State as Register}
@@ -32,7 +32,7 @@ use Rattle.adm_rows.specs.Forms.{season_row, school_row, child_row, application_
 use Rattle.adm_rows.specs.DrawForms.{draw_row, offer_row, lot_row, IsDrawRow, IsOfferRow, IsLotRow}
 use Rattle.adm_rows.proofs.DrawRows.{draw_from, draw_back, offer_from, offer_back, lot_from, lot_back}
 use Rattle.adm_rows.proofs.DrawFits.{draws_fit, offers_fit, lots_fit}
-use Rattle.adm_rows.specs.Represents.{HasRows, HoldsRows, HoldsRegister, IsSaidIn, fits_first_version, written_in, written_tables}
+use Rattle.adm_rows.specs.Represents.{IsSizedIn, HasRows, HoldsRows, HoldsRegister, IsSaidIn, fits_first_version, written_in, written_tables}
 use Rattle.adm_rows.specs.Present.{present_columns}
 use Rattle.adm_rows.specs.Reads.{HoldsFirst, HoldsPresent, AreReadBack}
 use Rattle.adm_register.specs.declared.register_rows.Rows.{Rows}
@@ -241,6 +241,7 @@ holds_register v db r rows held are formed = record {
       ),
     ) t listed (held.each t listed);
     said = same_said v rows (rows_in_order r) are.schools are.children are.imported held.said;
+    sized = subst (λ (s : SeasonFacts). IsSizedIn v s.size) are.season held.sized;
   };
   formed = formed;
 }

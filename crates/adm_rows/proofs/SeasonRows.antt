@@ -1,8 +1,8 @@
 -- Which rows are that of no season.
-use Rattle.std.proofs.Common.{◌≡◌, ◌∙◌, ◌<◌, ◌^◌, ℕ, zero, suc, true, false, subst, List, Some, None, pos, refl, sym, ap, arith}
+use Rattle.std.proofs.Common.{◌≡◌, ◌∙◌, ◌<◌, ◌^◌, ℕ, zero, suc, true, false, subst, List, [], ◌∷◌, Some, None, pos, refl, sym, ap, arith}
 use Rattle.std.specs.Prelude.{◌==◌}
 use Rattle.std.specs.List.{list_any}
-use Rattle.sqlite.specs.declared.types.Value.TheVariants.{Int}
+use Rattle.sqlite.specs.declared.types.Value.TheVariants.{Int, Text}
 use Rattle.adm_schema.specs.declared.version.Version.{Version}
 use Rattle.adm_schema.specs.declared.version.Version.TheVariants.{First, Second}
 use Rattle.adm_rows.specs.FirstFault.{is_known_version}
@@ -10,6 +10,9 @@ use Rattle.sqlite.specs.Order.{Row, column}
 use Rattle.adm_types.specs.Seasons.{SeasonFacts, IsSeason, IsRising}
 use Rattle.adm_types.specs.declared.seasons.Phase.{Phase}
 use Rattle.adm_types.specs.declared.seasons.Phase.TheVariants.{Primary, Secondary}
+use Rattle.adm_types.specs.declared.seasons.Size.{Size}
+use Rattle.adm_types.specs.declared.seasons.Size.TheVariants.{Standard, Large}
+use Rattle.adm_rows.specs.Represents.{IsSizedIn}
 use Rattle.adm_rows.specs.Forms.{phase_code, version_code, days_text, days_of, season_row}
 use Rattle.adm_rows.specs.Faults.{HasSeasonColumns}
 use Rattle.adm_rows.proofs.RowLemmas.{number_in, text_in}
@@ -26,39 +29,61 @@ same_phase Secondary Primary e = absurd (omega (arith, e))
 season_parts : (v w : Version) (a b : SeasonFacts) (m n : ℕ) → season_row v a m ≡ season_row w b n → (a.phase ≡ b.phase) × (a.year ≡ b.year) × (days_text a.holidays ≡ days_text b.holidays)
 season_parts v w a b m n e = (same_phase a.phase b.phase (ap (λ cells. number_in (column cells 2)) e), ap (λ cells. number_in (column cells 3)) e, ap (λ cells. text_in (column cells 4)) e)
 
-same_code : (v w : Version) → version_code v ≡ version_code w → v ≡ w
-same_code First First e = refl
-same_code Second Second e = refl
-same_code First Second e = absurd (omega (arith, e))
-same_code Second First e = absurd (omega (arith, e))
+same_code : (v w : Version) (a b : Size) → version_code v a ≡ version_code w b → v ≡ w
+same_code First First a b e = refl
+same_code Second Second a b e = refl
+same_code First Second a Standard e = absurd (omega (arith, e))
+same_code First Second a Large e = absurd (omega (arith, e))
+same_code Second First Standard b e = absurd (omega (arith, e))
+same_code Second First Large b e = absurd (omega (arith, e))
+
+-- versions that are named alike, and sizes that they can name
+same_size : (v w : Version) (a b : Size) → IsSizedIn v a → IsSizedIn w b → version_code v a ≡ version_code w b → a ≡ b
+same_size First First a b one two e = one ∙ sym two
+same_size Second Second Standard Standard one two e = refl
+same_size Second Second Large Large one two e = refl
+same_size Second Second Standard Large one two e = absurd (omega (arith, e))
+same_size Second Second Large Standard one two e = absurd (omega (arith, e))
+same_size First Second a Standard one two e = absurd (omega (arith, e))
+same_size First Second a Large one two e = absurd (omega (arith, e))
+same_size Second First Standard b one two e = absurd (omega (arith, e))
+same_size Second First Large b one two e = absurd (omega (arith, e))
 
 pub same_version : (v w : Version) (a b : SeasonFacts) (m n : ℕ) → season_row v a m ≡ season_row w b n → v ≡ w
-same_version v w a b m n e = same_code v w (ap (λ cells. number_in (column cells 1)) e)
+same_version v w a b m n e = same_code v w a.size b.size (ap (λ cells. number_in (column cells 1)) e)
 
-pub is_its_version : (v w : Version) (row : Row) (season : SeasonFacts) (draws : ℕ) → column row 1 ≡ Int (pos (version_code w)) → row ≡ season_row v season draws → row ≡ season_row w season draws
-is_its_version v w row season draws named is = subst (λ u. row ≡ season_row u season draws) (same_code v w (ap number_in (sym (ap (λ cells. column cells 1) is) ∙ named))) is
+pub code_known : (v : Version) (size : Size) → is_known_version (Int (pos (version_code v size))) ≡ true
+code_known First size = refl
+code_known Second Standard = refl
+code_known Second Large = refl
 
-pub code_known : (v : Version) → is_known_version (Int (pos (version_code v))) ≡ true
-code_known First = refl
-code_known Second = refl
-
-pub no_code : (n : ℕ) → ((v : Version) → n ≡ version_code v → ⊥) → is_known_version (Int (pos n)) ≡ false
+pub no_code : (n : ℕ) → ((v : Version) (size : Size) → n ≡ version_code v size → ⊥) → is_known_version (Int (pos n)) ≡ false
 no_code zero none = refl
-no_code (suc zero) none = absurd (none First refl)
-no_code (suc (suc zero)) none = absurd (none Second refl)
-no_code (suc (suc (suc n))) none = refl
+no_code (suc zero) none = absurd (none First Standard refl)
+no_code (suc (suc zero)) none = absurd (none Second Standard refl)
+no_code (suc (suc (suc zero))) none = absurd (none Second Large refl)
+no_code (suc (suc (suc (suc n)))) none = refl
 
-pub has_season_columns : (v : Version) (row : Row) (season : SeasonFacts) (draws : ℕ) → IsSeason season → draws < 2 ^ 32 → row ≡ season_row v season draws
-    → HasSeasonColumns row v season.phase season.year draws (days_text season.holidays)
-has_season_columns v row season draws formed few is = record { row_is = is; holidays_text = days_utf8 season.holidays formed.days; year_fits = omega (arith, formed.year.1); draws_fit = few }
+-- a season's row has the columns of one in the version and the size that the row names
+pub has_season_columns : (v w : Version) (size : Size) (row : Row) (season : SeasonFacts) (draws : ℕ) → IsSeason season → draws < 2 ^ 32
+    → column row 1 ≡ Int (pos (version_code w size)) → row ≡ season_row v season draws → HasSeasonColumns row w size season.phase season.year draws (days_text season.holidays)
+has_season_columns v w size row season draws formed few named is =
+    let code : version_code v season.size ≡ version_code w size = ap number_in (sym (ap (λ cells. column cells 1) is) ∙ named) in
+    record {
+      row_is = subst (λ n. row ≡ Int (pos 1) ∷ Int (pos n) ∷ Int (pos (phase_code season.phase)) ∷ Int (pos season.year) ∷ Text (days_text season.holidays) ∷ Int (pos draws) ∷ []) code is;
+      holidays_text = days_utf8 season.holidays formed.days;
+      year_fits = omega (arith, formed.year.1);
+      draws_fit = few;
+    }
 
 -- two seasons that are written alike are the same
-pub same_season : (v w : Version) (a b : SeasonFacts) (m n : ℕ) → IsSeason a → IsSeason b → season_row v a m ≡ season_row w b n → a ≡ b
-same_season v w a b m n one two e =
+pub same_season : (v w : Version) (a b : SeasonFacts) (m n : ℕ) → IsSeason a → IsSeason b → IsSizedIn v a.size → IsSizedIn w b.size → season_row v a m ≡ season_row w b n → a ≡ b
+same_season v w a b m n one two here there e =
     let parts = season_parts v w a b m n e in
     let days : Some a.holidays ≡ Some b.holidays = sym (days_again a.holidays one.days) ∙ ap days_of parts.2 ∙ days_again b.holidays two.days in
     let holidays : a.holidays ≡ b.holidays = cc in
-    λ k. record { phase = parts.0 k; year = parts.1 k; holidays = holidays k }
+    let size = same_size v w a.size b.size here there (ap (λ cells. number_in (column cells 1)) e) in
+    λ k. record { phase = parts.0 k; year = parts.1 k; holidays = holidays k; size = size k }
 
 -- and so are their counts of draws
 pub same_count : (v w : Version) (a b : SeasonFacts) (m n : ℕ) → season_row v a m ≡ season_row w b n → m ≡ n

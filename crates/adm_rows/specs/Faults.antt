@@ -6,6 +6,7 @@ use Rattle.adm_types.specs.Code.{is_code}
 use Rattle.adm_types.specs.Joined.{codes_of}
 use Rattle.adm_types.specs.Limits.{is_from, is_child_number, first_day, is_school_in_range, is_child_in_range}
 use Rattle.adm_types.specs.declared.seasons.Phase.{Phase}
+use Rattle.adm_types.specs.declared.seasons.Size.{Size}
 use Rattle.adm_types.specs.declared.rows.School.{School}
 use Rattle.adm_types.specs.declared.rows.Child.{Child}
 use Rattle.adm_types.specs.declared.rows.Application.{Application}
@@ -65,9 +66,9 @@ pub record HasSchoolColumns (row : Row) (code name criteria : List ℕ) (pan eas
   pub east_fits : east < 2 ^ 32
   pub north_fits : north < 2 ^ 32
 
--- the row is that of a season in this version, with a year and a count of draws of 32 bits, and a text for the holidays
-pub record HasSeasonColumns (row : Row) (v : FileVersion) (phase : Phase) (year draws : ℕ) (holidays : List ℕ) : Type 0 where
-  pub row_is : row ≡ Int (pos 1) ∷ Int (pos (version_code v)) ∷ Int (pos (phase_code phase)) ∷ Int (pos year) ∷ Text holidays ∷ Int (pos draws) ∷ []
+-- the row is that of a season of this size in this version, with a year and a count of draws of 32 bits, and a text for the holidays
+pub record HasSeasonColumns (row : Row) (v : FileVersion) (size : Size) (phase : Phase) (year draws : ℕ) (holidays : List ℕ) : Type 0 where
+  pub row_is : row ≡ Int (pos 1) ∷ Int (pos (version_code v size)) ∷ Int (pos (phase_code phase)) ∷ Int (pos year) ∷ Text holidays ∷ Int (pos draws) ∷ []
   pub holidays_text : IsUtf8 holidays
   pub year_fits : year < 2 ^ 32
   pub draws_fit : draws < 2 ^ 32

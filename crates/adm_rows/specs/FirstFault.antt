@@ -18,9 +18,10 @@ use Rattle.adm_rows.specs.declared.fault.OpenFault.TheVariants.{NotOurs, Version
 abbrev pub is_known_version : Value → Bool
 is_known_version (Int (pos (suc zero))) = true
 is_known_version (Int (pos (suc (suc zero)))) = true
+is_known_version (Int (pos (suc (suc (suc zero))))) = true
 is_known_version other = false
 
--- what is wrong first with a file that represents no register, by the rows of its table `meta`: there is none; its row names another version than the two; anything else
+-- what is wrong first with a file that represents no register, by the rows of its table `meta`: there is none; its row names a version that is not known; anything else
 abbrev pub first_open_fault : List Row → OpenFault
 first_open_fault [] = NotOurs
 first_open_fault (cells ∷ []) = if is_known_version (column cells 1) then BadRow else Version

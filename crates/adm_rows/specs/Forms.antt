@@ -8,6 +8,8 @@ use Rattle.adm_types.specs.Numbers.{is_from, first_day, last_day}
 use Rattle.adm_types.specs.Joined.{joined, items_of}
 use Rattle.adm_types.specs.declared.seasons.Phase.{Phase}
 use Rattle.adm_types.specs.declared.seasons.Phase.TheVariants.{Primary, Secondary}
+use Rattle.adm_types.specs.declared.seasons.Size.{Size}
+use Rattle.adm_types.specs.declared.seasons.Size.TheVariants.{Standard, Large}
 use Rattle.adm_types.specs.declared.criteria.Criterion.{Criterion}
 use Rattle.adm_types.specs.declared.rows.School.{School}
 use Rattle.adm_types.specs.declared.rows.Child.{Child}
@@ -38,14 +40,15 @@ days_text days = joined (map decimal days)
 abbrev pub criteria_text : List Criterion → List ℕ
 criteria_text criteria = joined (map criterion_text criteria)
 
--- as the row of `meta` names the version
-abbrev pub version_code : Version → ℕ
-version_code First = 1
-version_code Second = 2
+-- as the row of `meta` names the version, and from the second on the size
+abbrev pub version_code : Version → Size → ℕ
+version_code First size = 1
+version_code Second Standard = 2
+version_code Second Large = 3
 
 -- the key 1, the version, the season, and how many draws there are
 abbrev pub season_row : Version → SeasonFacts → ℕ → Row
-season_row v s draws = Int (pos 1) ∷ Int (pos (version_code v)) ∷ Int (pos (phase_code s.phase)) ∷ Int (pos s.year) ∷ Text (days_text s.holidays) ∷ Int (pos draws) ∷ []
+season_row v s draws = Int (pos 1) ∷ Int (pos (version_code v s.size)) ∷ Int (pos (phase_code s.phase)) ∷ Int (pos s.year) ∷ Text (days_text s.holidays) ∷ Int (pos draws) ∷ []
 
 -- a row of `school`: the code, the name, the admission number, the two coordinates, and the criteria
 abbrev pub school_row : School → Row

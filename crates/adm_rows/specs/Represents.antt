@@ -5,6 +5,8 @@ use Rattle.adm_types.specs.Children.{presents_of}
 use Rattle.adm_types.specs.Criteria.{came_later}
 use Rattle.adm_types.specs.declared.rows.School.{School}
 use Rattle.adm_types.specs.Seasons.{SeasonFacts}
+use Rattle.adm_types.specs.declared.seasons.Size.{Size}
+use Rattle.adm_types.specs.declared.seasons.Size.TheVariants.{Standard}
 use Rattle.adm_register.specs.State.{only_season, State as Register}
 use Rattle.adm_register.specs.Rows.{rows_in_order}
 use Rattle.adm_register.specs.WellFormed.{WellFormed}
@@ -61,10 +63,16 @@ abbrev pub IsSaidIn : Version → Rows → Type 0
 IsSaidIn First rows = (list_all fits_first_version rows.schools ≡ true) × (presents_of rows.children rows.imported ≡ [])
 IsSaidIn Second rows = Unit {0}
 
+-- the sizes that a file of this version can name: one of the first the standard size alone
+abbrev pub IsSizedIn : Version → Size → Type 0
+IsSizedIn First size = size ≡ Standard
+IsSizedIn Second size = Unit {0}
+
 -- each table of this version has the rows that are written in it, and no other row
 pub record HoldsRows (v : Version) (db : Trees) (rows : Rows) : Type 0 where
   pub each : (t : Table) → Has (schema_of v).tables t → HasRows t (written_in (written_tables v rows) t) db
   pub said : IsSaidIn v rows
+  pub sized : IsSizedIn v rows.season.size
 
 -- the tables hold the rows of the register, and no other row
 pub record HoldsRegister (v : Version) (db : Trees) (r : Register) : Type 0 where

@@ -7,7 +7,7 @@ ghost use Rattle.adm_schema.specs.declared.version.Version.{Version as FileVersi
 ghost use Rattle.adm_schema.specs.declared.version.Version.TheVariants.{First, Second};
 ghost use Rattle.adm_schema.specs.Schema.{schema_of};
 ghost use Rattle.std.specs.List.{list_all};
-ghost use Rattle.adm_rows.specs.Represents.{HoldsRows, HoldsRegister, fits_first_version};
+ghost use Rattle.adm_rows.specs.Represents.{HoldsRows, HoldsRegister, IsSizedIn, fits_first_version};
 ghost use Rattle.adm_rows.specs.Reads.{ReadsIn, SeesTheSame, HoldsFirst, HoldsSeason, AreReadBack, FindsNone, FindsNoneNamed, FindsNoneWith};
 ghost use Rattle.adm_rows.specs.FirstFault.{IsFirstFault};
 ghost use Rattle.adm_rows.specs.Faults.{IsNoRegister};
@@ -136,6 +136,7 @@ fn with_presents<S: Alter>(
     version: Version,
     rows: Rows,
 ) -> Result<Rows, OpenFault>
+    requires { IsSizedIn version rows.season.size }
     ensures same_reference { tx.new.conn.ghost_name ≡ tx.old.conn.ghost_name }
     ensures season { IfOk result (λ all. all.season ≡ rows.season) }
     ensures ok { IfOk result (λ all. ReadsIn version (λ db. HoldsFirst version rows db → HoldsRows version db all) (state S.Store tx.old.conn.now) (state S.Store tx.new.conn.now)) }
@@ -184,6 +185,7 @@ fn rows_in<S: Alter>(
     tx: &mut Transaction<'_, S>,
     first: MetaRow,
 ) -> Result<Rows, OpenFault>
+    requires { IsSizedIn first.version first.season.size }
     ensures same_reference { tx.new.conn.ghost_name ≡ tx.old.conn.ghost_name }
     ensures season { IfOk result (λ rows. rows.season ≡ first.season) }
     ensures ok { IfOk result (λ rows. ReadsIn first.version (λ db. HoldsSeason first.version first.season first.draws db → HoldsRows first.version db rows) (state S.Store tx.old.conn.now) (state S.Store tx.new.conn.now)) }

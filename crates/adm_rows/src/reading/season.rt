@@ -10,6 +10,8 @@ ghost use Rattle.sqlite.specs.Order.{column};
 ghost use Rattle.sqlite.specs.State.{HasCleanDisk, Survives};
 ghost use Rattle.adm_schema.specs.Texts.{select_meta};
 ghost use Rattle.adm_schema.specs.declared.version.Version.{Version as FileVersion};
+ghost use Rattle.adm_rows.specs.Represents.{IsSizedIn};
+ghost use Rattle.adm_types.specs.declared.seasons.Size.{Size as SizeOf};
 ghost use Rattle.adm_rows.specs.Reads.{Finds, HoldsSeason, SeesTheSame};
 ghost use Rattle.adm_rows.specs.FirstFault.{is_known_version, first_open_fault, IsFirstFault};
 ghost use Rattle.adm_rows.specs.Faults.{IsNoRegister, HasSeasonColumns};
@@ -21,7 +23,7 @@ use crate::{OpenFault, lists};
 use adm_register::RowsFault;
 use adm_schema::Version;
 use adm_schema::tables::meta::select_meta;
-use adm_types::{Day, Phase, Season, SeasonFault};
+use adm_types::{Day, Phase, Season, SeasonFault, Size};
 use sqlite::{Alter, Row, Transaction};
 use std::alloc::Global;
 
@@ -36,14 +38,16 @@ fn phase_of(number: u32) -> Option<Phase>
     }
 }
 
-/// The version of a number.
-fn version_of(number: u32) -> Option<Version>
-    ensures found { IfSome result (λ v. number ≡ version_code v) }
-    ensures none { result ≡ None → (v : FileVersion) → number ≡ version_code v → ⊥ }
+/// The version of a number, and the size that it names.
+fn version_of(number: u32) -> Option<(Version, Size)>
+    ensures found { IfSome result (λ v. number ≡ version_code v.0 v.1) }
+    ensures sized { IfSome result (λ v. IsSizedIn v.0 v.1) }
+    ensures none { result ≡ None → (v : FileVersion) (size : SizeOf) → number ≡ version_code v size → ⊥ }
 {
     match number {
-        1 => Some(Version::First),
-        2 => Some(Version::Second),
+        1 => Some((Version::First, Size::Standard)),
+        2 => Some((Version::Second, Size::Standard)),
+        3 => Some((Version::Second, Size::Large)),
         _ => None,
     }
 }
@@ -66,9 +70,10 @@ pub(super) struct MetaRow {
     pub(super) draws: u32,
 }
 
-/// The version that the row names.
-fn version_in(row: &Row) -> Result<Version, OpenFault>
-    ensures ok { IfOk result (λ v. column row.now 1 ≡ Int (pos (version_code v))) }
+/// The version that the row names, and the size.
+fn version_in(row: &Row) -> Result<(Version, Size), OpenFault>
+    ensures ok { IfOk result (λ v. column row.now 1 ≡ Int (pos (version_code v.0 v.1))) }
+    ensures sized { IfOk result (λ v. IsSizedIn v.0 v.1) }
     ensures bad { IfErr result (λ e. (e ≡ OpenFault.Memory) ⊎ ((e ≡ OpenFault.Version) × (is_known_version (column row.now 1) ≡ false))) }
 {
     if row.column_count() < 2 {
@@ -80,16 +85,16 @@ fn version_in(row: &Row) -> Result<Version, OpenFault>
         Err(RowsFault::BadRow) => return Err(OpenFault::Version),
     };
     match version_of(number) {
-        Some(version) => Ok(version),
+        Some(named) => Ok(named),
         None => Err(OpenFault::Version),
     }
 }
 
-/// The other columns of a row that names this version.
-fn season_columns(row: &Row, version: Version) -> Result<SeasonColumns, RowsFault>
-    requires { column row.now 1 ≡ Int (pos (version_code version)) }
-    ensures ok { IfOk result (λ c. row.now ≡ Int (pos 1) ∷ Int (pos (version_code version)) ∷ Int (pos (phase_code c.phase)) ∷ Int (pos c.year) ∷ TextValue (string_bytes c.holidays) ∷ Int (pos c.draws) ∷ []) }
-    ensures bad { IfErr result (λ e. e ≡ RowsFault.BadRow → (phase : Phase) (year draws : ℕ) (holidays : List ℕ) → HasSeasonColumns row.now version phase year draws holidays → ⊥) }
+/// The other columns of a row that names this version and this size.
+fn season_columns(row: &Row, version: Version, size: Size) -> Result<SeasonColumns, RowsFault>
+    requires { column row.now 1 ≡ Int (pos (version_code version size)) }
+    ensures ok { IfOk result (λ c. row.now ≡ Int (pos 1) ∷ Int (pos (version_code version size)) ∷ Int (pos (phase_code c.phase)) ∷ Int (pos c.year) ∷ TextValue (string_bytes c.holidays) ∷ Int (pos c.draws) ∷ []) }
+    ensures bad { IfErr result (λ e. e ≡ RowsFault.BadRow → (phase : Phase) (year draws : ℕ) (holidays : List ℕ) → HasSeasonColumns row.now version size phase year draws holidays → ⊥) }
 {
     if row.column_count() != 6 {
         return Err(RowsFault::BadRow);
@@ -171,14 +176,17 @@ fn season_with(alloc: Global, columns: &SeasonColumns) -> Result<Season, RowsFau
 /// The season and the count of draws from their row.
 fn season_in(alloc: Global, row: &Row) -> Result<MetaRow, OpenFault>
     ensures ok { IfOk result (λ it. row.now ≡ season_row it.version it.season it.draws) }
+    ensures sized { IfOk result (λ it. IsSizedIn it.version it.season.size) }
     ensures season { IfOk result (λ it. IsSeason it.season) }
     ensures bad { IfErr result (λ e. IsNoRegister e → (v : FileVersion) (season : SeasonFacts) (draws : ℕ) → IsSeason season → draws < 2 ^ 32 → row.now ≡ season_row v season draws → ⊥) }
     ensures first { IfErr result (λ e. IsNoRegister e → e ≡ first_open_fault (row.now ∷ [])) }
     ensures disk { IfErr result (λ e. e ≡ OpenFault.Disk → ⊥) }
 {
-    let version = version_in(row)?;
-    let columns = season_columns(row, version)?;
-    let season = season_with(alloc, &columns)?;
+    let (version, size) = version_in(row)?;
+    let columns = season_columns(row, version, size)?;
+    let season = season_with(alloc, &columns)?.of_size(size);
+    // read only so that the check sees that it is one
+    let _year = season.year();
     Ok(MetaRow {
         version,
         season,
@@ -189,6 +197,7 @@ fn season_in(alloc: Global, row: &Row) -> Result<MetaRow, OpenFault>
 /// The season and the count of draws of the one row that there may be.
 fn season_of(alloc: Global, rows: &[Row]) -> Result<MetaRow, OpenFault>
     ensures ok { IfOk result (λ it. rows.now ≡ season_row it.version it.season it.draws ∷ []) }
+    ensures sized { IfOk result (λ it. IsSizedIn it.version it.season.size) }
     ensures season { IfOk result (λ it. IsSeason it.season) }
     ensures bad { IfErr result (λ e. IsNoRegister e → (v : FileVersion) (season : SeasonFacts) (draws : ℕ) → IsSeason season → draws < 2 ^ 32 → rows.now ≡ season_row v season draws ∷ [] → ⊥) }
     ensures first { IfErr result (λ e. IsNoRegister e → e ≡ first_open_fault rows.now) }
@@ -207,6 +216,7 @@ pub(super) fn read_season<S: Alter>(
     tx: &mut Transaction<'_, S>,
 ) -> Result<MetaRow, OpenFault>
     ensures same_reference { tx.new.conn.ghost_name ≡ tx.old.conn.ghost_name }
+    ensures sized { IfOk result (λ it. IsSizedIn it.version it.season.size) }
     ensures ok { IfOk result (λ it. Finds (HoldsSeason it.version it.season it.draws) (state S.Store tx.old.conn.now) (state S.Store tx.new.conn.now)) }
     ensures season { IfOk result (λ it. IsSeason it.season) }
     ensures same { OnOk result (SeesTheSame (state S.Store tx.old.conn.now) (state S.Store tx.new.conn.now)) }

@@ -14,6 +14,7 @@ use Rattle.adm_rows.proofs.ReadingLemmas.{still, seen_before, seen_after}
 use Rattle.adm_rows.proofs.ReadBack.{season_back, version_back, count_back}
 use Rattle.adm_rows.proofs.RegisterRows.{holds_register, rows_held}
 use Rattle.adm_rows.proofs.RowsFit.{few_enough}
+use Rattle.sqlite.proofs.StateLemmas.{survives_then}
 use Rattle.adm_rows.proofs.reading.register_in.Goals as goal
 
 -- the version that the row names is that of the tables
@@ -50,7 +51,7 @@ returns-in_err-rows-clause-bad g c =
     let own : w ≡ v = version_back w v _ r c.in_ok-first.first.season _ one held in
     let here : old.now.schema ≡ schema_of v = has ∙ ap schema_of own in
     let same = c.in_ok-first.ensures.same v in
-    let season = season_back w v _ r c.in_ok-first.first.season _ one c.in_ok-first.ensures.season held in
+    let season = season_back w v _ r c.in_ok-first.first.season _ one c.in_ok-first.ensures.season c.in_ok-first.ensures.sized held in
     let count = count_back w v _ r c.in_ok-first.first.season _ one held in
     c.in_err-rows.ensures.bad structural r (season, count) clean (still v old mid same early here)
     (seen_after v old mid same early here (λ db. HoldsSeason v c.in_ok-first.first.season c.in_ok-first.first.draws db) (c.in_ok-first.ensures.ok v early here))
@@ -80,7 +81,7 @@ returns-in-Err-clause-bad g c structural r w clean has held =
     let same = c.in_ok-first.ensures.same v in
     let there = seen_before v old mid same early here (λ db. HoldsSeason v season c.in_ok-first.first.draws db
     → HoldsRows v db rows) (c.in_ok-rows.ensures.ok clean (still v old mid same early here)) one in
-    let back = season_back w v _ r season _ one c.in_ok-first.ensures.season held in
+    let back = season_back w v _ r season _ one c.in_ok-first.ensures.season c.in_ok-first.ensures.sized held in
     let reported = bad_rows _ (subst IsNoRegister c.from.ensures structural) in
     c.from_rows.ensures.bad_row (c.in-Err.is ∙ ap Err reported) r held.formed
     (rows_held v _ r rows (subst (λ u. HoldsRegister u old.now.trees r) own held) there c.in_ok-rows.ensures.again (c.in_ok-rows.ensures.season ∙ sym back))
@@ -110,3 +111,6 @@ returns-in_err-rows-clause-disk g c =
     rw (p.1, p.2) (λ is. cause_here v old (state g.S.Store c.rows_in.new.tx.conn.now)
     (failed_in old (state g.S.Store c.read_season.new.tx.conn.now) (state g.S.Store c.rows_in.new.tx.conn.now) v c.read_season.ensures.survives c.rows_in.ensures.survives
     (c.in_ok-first.ensures.same v) (c.in_err-rows.ensures.disk is)) (tables ∙ ap schema_of (sym named)))
+
+pub returns-in-Ok-clause-survives : goal.returns-in-Ok-clause-survives
+returns-in-Ok-clause-survives g c = survives_then _ _ _ (λ _. ⊥) (λ _. ⊥) (λ _. ⊥) (λ clean db none. none) (λ clean db none. none) c.read_season.ensures.survives c.rows_in.ensures.survives

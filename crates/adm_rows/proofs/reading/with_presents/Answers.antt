@@ -79,6 +79,7 @@ returns-clause-ok g c clean has first =
     record {
       each = λ t listed. each_table v (λ t. HasRows t (written_in (written_tables v rows) t) db) tables t listed;
       said = presents_said v db rows all (λ is. sym (c.are_said.ensures.first is ∙ ap (list_all fits_first_version) c.as_slice.ensures) ∙ c.if-not-are_said.false) joined held;
+      sized = c.requires;
     }
 
 pub returns-clause-again : goal.returns-clause-again

@@ -59,7 +59,7 @@ returns-clause-version g c clean =
     let row = sym c.as_slice.ensures.value ∙ c.in_ok-meta_row.ensures.ok in
     first_by_rows _ c.in_ok-rows.rows.items BadRow (rw (c.select_meta.ensures) at c.in_ok-rows.ensures.answered clean)
     (λ v has. IsPermutation-sym _ _ (c.in_ok-rows.ensures.ok v meta (asks v _ c.select_meta.ensures) clean has))
-    (sym (ap first_open_fault row ∙ ap (λ b. if b then BadRow else NoVersion) (code_known c.in_ok-meta_row.meta_row.version)))
+    (sym (ap first_open_fault row ∙ ap (λ b. if b then BadRow else NoVersion) (code_known c.in_ok-meta_row.meta_row.version c.in_ok-meta_row.meta_row.season.size)))
 
 pub returns-in_err-rows-clause-disk : goal.returns-in_err-rows-clause-disk
 returns-in_err-rows-clause-disk g c =
