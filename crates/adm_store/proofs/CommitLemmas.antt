@@ -177,6 +177,7 @@ new_trees was now old new changes step held sound moves = let are = step.changes
         ),
       ) t listed (held.rows.each t listed) (moves t listed);
       said = tt;
+      sized = tt;
     };
     formed = step.formed;
   };

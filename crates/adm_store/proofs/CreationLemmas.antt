@@ -53,7 +53,7 @@ pub represents_new : (made last : State) (season : SeasonFacts) (row : SeasonRow
 represents_new made last season row it none wrote = record {
   sound = subst (λ s. IsSound s last.now.trees) (wrote.schema ∙ none.schema_is) wrote.sound;
   holds = record {
-    rows = record { said = tt; each = λ t listed. subst (λ rows. HasRows t (written_in (written_tables Second rows) t) last.now.trees) (sym (only_rows season)) (table t listed) };
+    rows = record { said = tt; sized = tt; each = λ t listed. subst (λ rows. HasRows t (written_in (written_tables Second rows) t) last.now.trees) (sym (only_rows season)) (table t listed) };
     formed = only_season-WellFormed season it.season_is;
   };
 }

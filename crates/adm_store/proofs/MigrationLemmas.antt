@@ -1,5 +1,5 @@
 -- What the migration of a file leaves.
-use Rattle.std.proofs.Common.{◌≡◌, ◌≢◌, ◌≤◌, ◌∙◌, inl, inr, true, Ok, Err, Result, OnOk, length, List, [], ◌∷◌, map, refl, sym, ap, subst, arith, IsTrue}
+use Rattle.std.proofs.Common.{ℕ, pos, ◌≡◌, ◌≢◌, ◌≤◌, ◌∙◌, inl, inr, true, Ok, Err, Result, OnOk, length, List, [], ◌∷◌, map, refl, sym, ap, subst, arith, IsTrue}
 use Rattle.std.specs.List.Sorted.{IsPermutation}
 use Rattle.std.proofs.lemmas.List.Sorted.{IsPermutation-refl}
 use Rattle.sqlite.specs.Order.{Row}
@@ -26,7 +26,10 @@ use Rattle.adm_schema.specs.Effects.{AddsTable, MarksSecond, with_second}
 use Rattle.adm_schema.specs.Rows.{rows_of, columns_of}
 use Rattle.adm_schema.specs.Schema.{meta, school, child, application, place, left_list, draw, offer, lot, imported, present, schema_of, register_schema}
 use Rattle.adm_schema.proofs.Listed.{meta_in, school_in, child_in, application_in, place_in, left_list_in, draw_in, offer_in, lot_in, imported_in, has_present}
-use Rattle.adm_rows.specs.Forms.{season_row}
+use Rattle.adm_rows.specs.Forms.{season_row, version_code, phase_code, days_text}
+use Rattle.adm_types.specs.Seasons.{SeasonFacts}
+use Rattle.adm_types.specs.declared.seasons.Size.TheVariants.{Standard}
+use Rattle.sqlite.specs.declared.types.Value.TheVariants.{Int, Text}
 use Rattle.adm_rows.specs.Present.{present_columns}
 use Rattle.adm_store.specs.Migration.{MakesPresent, MakesSecond, IsMigrated}
 use Rattle.adm_rows.specs.Represents.{IsStarted, RepresentsIn, RepresentsNow, Represents, LeavesAll, HasRows, HoldsRegister, written_in, written_tables}
@@ -66,6 +69,10 @@ module _ (begun mid last : State) (adds : AddsTable (schema_of First) register_s
   none_there rows none = subst (λ xs. IsPermutation xs (rows_of present last.now.trees)) (sym none)
       (subst (λ xs. IsPermutation [] (map (columns_of present) xs)) (sym (after_made present has_present (λ e. absurd (omega (arith, e))) ∙ adds.none)) (IsPermutation-refl []))
 
+  -- the row of a season of the standard size is that of the second version then
+  marked_row : (season : SeasonFacts) (draws : ℕ) → season.size ≡ Standard → with_second (season_row First season draws) ≡ season_row Second season draws
+  marked_row season draws sized = ap (λ size. Int (pos 1) ∷ Int (pos (version_code Second size)) ∷ Int (pos (phase_code season.phase)) ∷ Int (pos season.year) ∷ Text (days_text season.holidays) ∷ Int (pos draws) ∷ []) (sym sized)
+
   -- a file of the first version is one of the second then, and represents the same register
   pub second_file : (r : Register) → HoldsRegister First begun.now.trees r → RepresentsIn Second last.now.trees r
   second_file r held = record {
@@ -73,7 +80,7 @@ module _ (begun mid last : State) (adds : AddsTable (schema_of First) register_s
     holds = record {
       rows = record {
         each = each_table Second (λ t. HasRows t (written_in (written_tables Second (rows_in_order r)) t) last.now.trees) (
-          season_marked (season_row First r.season (length (rows_in_order r).draws)) (season_row Second r.season (length (rows_in_order r).draws)) refl refl (held.rows.each meta (meta_in First)),
+          season_marked (season_row First r.season (length (rows_in_order r).draws)) (season_row Second r.season (length (rows_in_order r).draws)) (marked_row r.season (length (rows_in_order r).draws) held.rows.sized) refl (held.rows.each meta (meta_in First)),
           (
             kept school _ (school_in First) (school_in Second) (λ e. absurd (omega (arith, e))) (held.rows.each school (school_in First)),
             (
@@ -104,6 +111,7 @@ module _ (begun mid last : State) (adds : AddsTable (schema_of First) register_s
           ),
         );
         said = tt;
+        sized = tt;
       };
       formed = held.formed;
     };

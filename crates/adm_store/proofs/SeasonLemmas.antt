@@ -18,19 +18,20 @@ use Rattle.adm_schema.proofs.DrawCount.{sets_draws}
 use Rattle.adm_types.specs.declared.draws.DrawRow.{DrawRow}
 use Rattle.adm_store.specs.declared.rows.SeasonRow.{SeasonRow}
 use Rattle.adm_store.specs.Changes.{written_season, written_count}
-use Rattle.adm_rows.specs.Forms.{phase_code}
+use Rattle.adm_rows.specs.Forms.{phase_code, version_code}
+use Rattle.adm_schema.specs.declared.version.Version.TheVariants.{Second}
 use Rattle.adm_store.specs.Writes.{Adds, Sets, Writes, write_of}
 use Rattle.adm_store.proofs.LogLemmas.{add_keyed, set_one}
 
 -- the parameters, and the row before it is cast
 abbrev pub season_values : SeasonRow → Row
-season_values it = Int (pos (phase_code it.phase)) ∷ Int (pos it.year) ∷ Text it.holidays ∷ []
+season_values it = Int (pos (version_code Second it.size)) ∷ Int (pos (phase_code it.phase)) ∷ Int (pos it.year) ∷ Text it.holidays ∷ []
 
 abbrev source : SeasonRow → Row
-source it = Int (pos 1) ∷ Null ∷ Int (pos 2) ∷ Int (pos (phase_code it.phase)) ∷ Int (pos it.year) ∷ Text it.holidays ∷ Int (pos 0) ∷ []
+source it = Int (pos 1) ∷ Null ∷ Int (pos (version_code Second it.size)) ∷ Int (pos (phase_code it.phase)) ∷ Int (pos it.year) ∷ Text it.holidays ∷ Int (pos 0) ∷ []
 
 stored_season : (it : SeasonRow) (rows : List Row) → with_rowid Chosen rows (cast_row meta (source it)) ≡ source it
-stored_season it rows = rw (cast_null, cast_int (pos 1), cast_int (pos 2), cast_int (pos (phase_code it.phase)), cast_int (pos it.year), cast_int (pos 0))
+stored_season it rows = rw (cast_null, cast_int (pos 1), cast_int (pos (version_code Second it.size)), cast_int (pos (phase_code it.phase)), cast_int (pos it.year), cast_int (pos 0))
 
 pub adds_season : (old new : State) (count : ℕ) (it : SeasonRow) → doubt old.is_clean ≤ doubt new.is_clean
     → (HasCleanDisk new → ExecutesInside 0 insert_meta (season_values it) old new (Ok count)) → Writes (write_of Adds meta written_season (it ∷ []) ∷ []) old new

@@ -22,7 +22,7 @@ use Rattle.adm_store.specs.declared.rows.ChildRow.{ChildRow}
 use Rattle.adm_store.specs.declared.rows.ApplicationRow.{ApplicationRow}
 use Rattle.adm_store.specs.declared.rows.ImportedRow.{ImportedRow}
 use Rattle.adm_store.specs.declared.rows.Changes.{Changes}
-use Rattle.adm_rows.specs.Forms.{phase_code, season_row, school_row, child_row, application_row, imported_row, truth_code}
+use Rattle.adm_rows.specs.Forms.{phase_code, version_code, season_row, school_row, child_row, application_row, imported_row, truth_code}
 use Rattle.adm_schema.specs.declared.version.Version.TheVariants.{Second}
 use Rattle.sqlite.specs.Tree.{Trees}
 use Rattle.adm_rows.specs.Present.{present_removed_of, present_added_of}
@@ -31,7 +31,7 @@ use Rattle.adm_rows.specs.Represents.{RepresentsIn, LeavesOnly, LeavesEither}
 
 -- the rows as they are written
 abbrev pub written_season : SeasonRow → Row
-written_season r = Int (pos 1) ∷ Int (pos 2) ∷ Int (pos (phase_code r.phase)) ∷ Int (pos r.year) ∷ Text r.holidays ∷ Int (pos 0) ∷ []
+written_season r = Int (pos 1) ∷ Int (pos (version_code Second r.size)) ∷ Int (pos (phase_code r.phase)) ∷ Int (pos r.year) ∷ Text r.holidays ∷ Int (pos 0) ∷ []
 
 -- a row of `school`, as its values are written
 abbrev pub written_school : SchoolRow → Row

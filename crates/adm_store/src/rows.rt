@@ -5,7 +5,7 @@ ghost use Rattle.adm_store.specs.Changes.{last_draw, draw_count};
 use crate::to_rows::{HomeRow, WishRow};
 use adm_types::{
     ChildNo, Day, DrawRow, LeftPair, LotRow, OfferRow, Phase, PlaceRow, PresentRow, SchoolCode,
-    Seq, Text,
+    Seq, Size, Text,
 };
 
 /// The number of a day, as it is written.
@@ -15,9 +15,10 @@ pub(crate) fn number_of(day: Day) -> u32
     day.number() as u32
 }
 
-/// The row of the table `meta`, as it is written, less its key, its version and the count of draws.
+/// The row of the table `meta`, as it is written, less its key and the count of draws.
 #[derive(Drop)]
 pub(crate) struct SeasonRow {
+    pub(crate) size: Size,
     pub(crate) phase: Phase,
     pub(crate) year: u32,
     /// Day numbers counted from 1970-01-01, joined by `;`.

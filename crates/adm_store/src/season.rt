@@ -2,13 +2,14 @@
 ghost use Rattle.std.specs.Prelude.{◌≡◌};
 ghost use Rattle.adm_schema.specs.Schema.{meta};
 ghost use Rattle.adm_store.specs.Changes.{written_season, written_count};
-ghost use Rattle.adm_rows.specs.Forms.{phase_code};
+ghost use Rattle.adm_rows.specs.Forms.{phase_code, version_code};
+ghost use Rattle.adm_schema.specs.declared.version.Version.TheVariants.{Second};
 ghost use Rattle.adm_store.specs.Writes.{Adds, Sets};
 
 use crate::rows::SeasonRow;
 use crate::statement::Statement;
 use adm_schema::tables::meta::{insert_meta, update_meta};
-use adm_types::{DrawRow, Phase};
+use adm_types::{DrawRow, Phase, Size};
 use sqlite::{Alter, Error, Transaction, params};
 
 fn number_of(phase: Phase) -> u32
@@ -17,6 +18,16 @@ fn number_of(phase: Phase) -> u32
     match phase {
         Phase::Primary => 1,
         Phase::Secondary => 2,
+    }
+}
+
+/// The number of the second version, with this size.
+fn version_of(size: Size) -> u32
+    ensures { result ≡ version_code Second size }
+{
+    match size {
+        Size::Standard => 2,
+        Size::Large => 3,
     }
 }
 
@@ -32,9 +43,10 @@ impl Statement for AddSeason {
     ghost row_of = { written_season };
 
     fn run<S: Alter>(tx: &mut Transaction<'_, S>, row: &SeasonRow) -> Result<(), Error> {
+        let version = version_of(row.size);
         let phase = number_of(row.phase);
         let holidays = row.holidays.as_str();
-        tx.execute(insert_meta(), params![phase, row.year, holidays])?;
+        tx.execute(insert_meta(), params![version, phase, row.year, holidays])?;
         Ok(())
     }
 }

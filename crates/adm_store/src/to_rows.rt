@@ -37,6 +37,7 @@ impl ToRow for Season {
     fn to_row(&self, alloc: Global) -> Result<SeasonRow, AllocError> {
         let holidays = lists::days_text(alloc, self.holidays())?;
         Ok(SeasonRow {
+            size: self.size(),
             phase: self.phase(),
             year: self.year(),
             holidays: Text::from_string(holidays),

@@ -11,6 +11,8 @@ returns-clause-writes g c =
       c.params-to_sql.ensures,
       c.params-to_sql-2.ensures,
       c.params-to_sql-3.ensures,
+      c.params-to_sql-4.ensures,
+      c.version_of-version.ensures,
       c.number_of-phase.ensures,
       c.as_str-holidays.ensures.value,
     ) at c.in_ok-execute.ensures.runs clean (is_inside _ _ _ _ c.in_ok-execute.ensures.ended))
