@@ -6,7 +6,7 @@ use adm_register::RowsFault;
 pub enum OpenFault {
     /// There is no table `meta`, or it has no row.
     NotOurs = 1,
-    /// The row of `meta` names another version than 1 and 2.
+    /// The row of `meta` names another version than 1, 2 and 3.
     Version = 2,
     /// A table is missing or made otherwise, one too many is there, or the rows are no register's.
     BadRow = 3,
