@@ -159,7 +159,7 @@ def test_what_a_later_release_has_written_is_refused(tmp_path: pathlib.Path) -> 
     """And stays as it is."""
     season = Season(tmp_path / "later", 2025)
     season.upgrade()
-    for path, line in ((season.file, "UPDATE meta SET version=3"),
+    for path, line in ((season.file, "UPDATE meta SET version=4"),
                        (season.office, f"PRAGMA user_version={len(STEPS) + 1}")):
         with contextlib.closing(sqlite3.connect(path)) as db:
             db.execute(line)
