@@ -34,6 +34,12 @@ def year(text: str) -> int:
     return int(text)
 
 
+def yes_or_no(text: str) -> bool:
+    if text not in ("yes", "no"):
+        raise Refused(f"{text!r} is no answer: type yes or no", 2)
+    return text == "yes"
+
+
 def is_day(text: str) -> bool:
     """Whether a word is meant for a day, and not for the name of a register."""
     return text == NONE or text[:1].isdigit() and not text[-1:].isalpha()

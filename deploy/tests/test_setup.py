@@ -136,7 +136,7 @@ def test_a_plain_setup_asks_for_holidays_and_a_role(
     monkeypatch.setattr(setup, "AUTHORITY", machine / "etc/authority")
     found = completed(
         monkeypatch,
-        "primary\n2028\n2028-04-17 2028-04-14\nprimary.admissions.example\nmary\nhead\nnone\n",
+        "primary\n2028\nno\n2028-04-17 2028-04-14\nprimary.admissions.example\nmary\nhead\nnone\n",
     )
     assert (found.name, found.phase, found.year, found.holiday) == (
         "primary-2028",
@@ -381,16 +381,20 @@ def test_an_empty_file_of_a_register_is_none(
     """As a crash leaves it while the program makes it: it is asked for as if there were none."""
     register.file.write_bytes(b"")
     monkeypatch.setattr(setup, "AUTHORITY", machine / "etc/authority")
-    typed = "secondary\n2025\n2025-04-18\njane\nhead\nnone\n"
+    typed = "secondary\n2025\nyes\n2025-04-18\njane\nhead\nnone\n"
     found = completed(monkeypatch, typed, register.name)
-    assert (found.phase, found.year, found.holiday) == ("secondary", 2025, ["2025-04-18"])
+    assert (found.phase, found.year, found.large, found.holiday) == (
+        "secondary", 2025, True, ["2025-04-18"])
     monkeypatch.setattr(setup, "program", lambda name: name)
     made: list[tuple[object, ...]] = []
     monkeypatch.setattr(setup, "call", lambda *words, as_user: made.append(words))
     assert list(setup.make_register(register, found)) == [
-        f"made {register.file}, for secondary 2025, holidays 2025-04-18"
+        f"made {register.file}, for secondary 2025, holidays 2025-04-18, for at most 40,000"
+        " children and 1,000 schools"
     ]
-    assert made == [("admissions", "init", register.file, "secondary", 2025, "2025-04-18")]
+    assert made == [
+        ("admissions", "init", register.file, "secondary", 2025, "2025-04-18", "--large")
+    ]
 
 
 @pytest.mark.parametrize("has_people", [False, True])

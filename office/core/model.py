@@ -20,7 +20,7 @@ from typing import Any, NamedTuple, Protocol
 import register_files as files
 from register_files import Refused
 
-from . import senders, texts
+from . import rules, senders, texts
 
 PRIMARY, SECONDARY = "primary", "secondary"
 OFFERED, ACCEPTED, PLAN = "offered", "accepted", "plan"
@@ -220,6 +220,7 @@ class Register(Members):
     phase: str
     year: int
     holidays: tuple[datetime.date, ...]
+    is_large: bool
     # the closing day, the offer day and the last day of the lists
     days: tuple[datetime.date, datetime.date, datetime.date]
     # by draws: the school of each child that took part, or None; and whether it is a new offer
@@ -227,6 +228,10 @@ class Register(Members):
     fresh: dict[int, dict[int, bool]]
     source: Source = dataclasses.field(repr=False, compare=False)
     _drawn: dict[int, Drawn] = dataclasses.field(default_factory=dict, repr=False, compare=False)
+
+    def most(self, name: str) -> int:
+        """How many schools, children or lots it has at the most, by its size."""
+        return (rules.LARGE if self.is_large else rules.LIMITS)[name].most
 
     def lots(self, draw: int) -> Lots:
         """The lots of a draw, if there is such a draw."""
@@ -319,7 +324,8 @@ class Register(Members):
 
 def same_season(before: Register, after: Register) -> None:
     """Refuses two registers of different seasons."""
-    if (before.phase, before.days, before.holidays) != (after.phase, after.days, after.holidays):
+    one, other = ((it.phase, it.days, it.holidays, it.is_large) for it in (before, after))
+    if one != other:
         raise Refused(f"{before.name} and {after.name} are of different seasons")
 
 
@@ -500,7 +506,7 @@ def of_document(
     date = datetime.date.fromisoformat
     return Register(
         name=source.name, phase=season["phase"], year=season["year"],
-        holidays=tuple(map(date, season["holidays"])),
+        holidays=tuple(map(date, season["holidays"])), is_large=season.get("size") == "large",
         days=(date(season["closing"]), date(season["offer_day"]), date(season["last_list_day"])),
         **members_of(found["schools"], children),
         draws=[Draw(it["draw"], it["round"], it["school"], date(it["day"])) for it in draws],

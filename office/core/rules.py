@@ -63,6 +63,12 @@ LIMITS = {
     for name, it in RULES["limits"].items()
     if isinstance(it.get("most"), int)
 }
+# the limits of a large register that are not those of every register
+LARGE = {
+    name: Limit(it["least"], it["large"])
+    for name, it in RULES["limits"].items()
+    if "large" in it
+}
 COMMANDS = {name: fields_of(it) for name, it in RULES["commands"].items()}
 COLUMNS = fields_of(RULES["columns"])
 CRITERIA = [

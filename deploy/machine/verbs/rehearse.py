@@ -39,7 +39,7 @@ def arguments(reader: argparse.ArgumentParser) -> None:
     add("--end", action="store_true", help="delete what was rehearsed")
     answers.add_yes(reader)
     reader.set_defaults(is_takeover=True, no_copies=False, history=None, phase=None, year=None,
-                        holiday=[], user=None, role=None, authority=None)
+                        large=False, holiday=[], user=None, role=None, authority=None)
 
 
 def main(given: argparse.Namespace) -> int:

@@ -1,13 +1,15 @@
 """Makes a register on this machine, with its site, its users, its units and
 its timers.
 
-  admissions-admin setup [NAME] [--phase PHASE --year YEAR] [--holiday DAY]..
+  admissions-admin setup [NAME] [--phase PHASE --year YEAR] [--large] [--holiday DAY]..
     [--site HOST] [--authority TEXT] [--user USER --role ROLE]
   admissions-admin setup [NAME] --copy FILE [--history FILE]
 
 It asks on a terminal for what is not given; without one, holidays must be
 given too, or none. A holiday outside of the season, one on a weekend and a NAME
-with another year are shown before. It makes what is missing, and changes
+with another year are shown before. A register is for at most 2,000 children and 200
+schools, late ones included; with --large, for 40,000 and 1,000. It cannot be
+changed later, and a season cannot be divided. It makes what is missing, and changes
 nothing that is there: typed twice, it does nothing the second time. Each
 register has a NAME, such as secondary-2025, a HOST of its own, such as
 secondary.admissions.example, and people of its own. USER is the first of them,
@@ -30,7 +32,7 @@ import shlex
 import sys
 import typing
 
-from office.core import model
+from office.core import model, rules
 from register_files import Refused
 
 from .. import (
@@ -43,6 +45,10 @@ from ..registers import PHASES, SETTINGS, Register, all_registers, named, stored
 from . import holidays
 
 AUTHORITY = SETTINGS / "authority"
+STANDARD, LARGE = (
+    f"{it['children'].most:,} children and {it['schools'].most:,} schools"
+    for it in (rules.LIMITS, rules.LARGE)
+)
 CHECKS = {"site": answers.host, "user": people.checked_name, "role": people.checked_role,
           "authority": answers.authority}
 
@@ -57,6 +63,7 @@ def arguments(reader: argparse.ArgumentParser) -> None:
     )
     add("--phase", choices=list(PHASES))
     add("--year", help="the year of entry, from 2000 to 2100")
+    add("--large", action="store_true", help=f"for at most {LARGE}; otherwise {STANDARD}")
     add(
         "--holiday",
         action="append",
@@ -133,8 +140,9 @@ def checked(given: argparse.Namespace) -> None:
             CHECKS[name](getattr(given, name))
     if given.role is not None and given.user is None:
         raise Refused("--role needs --user: whose role?", 2)
-    if given.copy and (given.phase or given.year or given.has_holidays):
-        raise Refused("--phase, --year and --holiday are for a new register: a copy has its own", 2)
+    if given.copy and (given.phase or given.year or given.has_holidays or given.large):
+        raise Refused("--phase, --year, --holiday and --large are for a new register: a copy has"
+                      " its own", 2)
     if given.history and not given.copy:
         raise Refused("--history needs --copy: since which copy?", 2)
     if given.history:
@@ -155,6 +163,12 @@ def completed(given: argparse.Namespace) -> Register:
         given.phase = given.phase or ask("--phase (primary or secondary)", answers.phase)
         given.year = given.year or ask("--year of entry", answers.year)
         given.name = given.name or name_of(given)
+        if not given.large and not named(given.name).is_made and sys.stdin.isatty():
+            given.large = ask(
+                f"--large, for {LARGE} in place of {STANDARD} (yes or no)",
+                answers.yes_or_no,
+                "no",
+            )
         if not given.has_holidays and not named(given.name).is_made:
             given.holiday = ask(
                 "--holiday days (YYYY-MM-DD, separated by blanks), or none",
@@ -279,6 +293,8 @@ def make_register(register: Register, given: argparse.Namespace) -> typing.Itera
                 f"{file} is the register of {found.phase} {found.year} already:"
                 " give another one another NAME"
             )
+        if given.large and not found.is_large:
+            raise Refused(f"{file} is made already, for at most {STANDARD}, and stays so")
         if given.copy:
             # (a run that was killed after the restore left it of root)
             give_to_desk(register)
@@ -297,10 +313,12 @@ def make_register(register: Register, given: argparse.Namespace) -> typing.Itera
             given.phase,
             given.year,
             *given.holiday,
+            *["--large"] * given.large,
             as_user=USER,
         )
         days = f"holidays {' '.join(given.holiday)}" if given.holiday else "without holidays"
-        yield f"made {file}, for {given.phase} {given.year}, {days}"
+        size = f", for at most {LARGE}" if given.large else ""
+        yield f"made {file}, for {given.phase} {given.year}, {days}{size}"
 
 
 def give_to_desk(register: Register) -> None:

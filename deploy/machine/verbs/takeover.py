@@ -47,8 +47,8 @@ def arguments(reader: argparse.ArgumentParser) -> None:
     add("--no-copies", action="store_true",
         help="copy to no second place, until one is named: refused on a machine in use")
     answers.add_yes(reader)
-    reader.set_defaults(is_takeover=True, phase=None, year=None, holiday=[], user=None, role=None,
-                        authority=None)
+    reader.set_defaults(is_takeover=True, phase=None, year=None, large=False, holiday=[], user=None,
+                        role=None, authority=None)
 
 
 def checked(given: argparse.Namespace) -> None:

@@ -10,7 +10,6 @@ from typing import Any
 
 from office.core import fields, texts
 from office.core.model import PLAN, Register, School
-from office.core.rules import LIMITS
 from office.core.wording import sentence
 
 from . import across, points, row_check
@@ -250,7 +249,7 @@ def differing(row: row_check.Row, register: Register) -> Differences:
 
 def too_many(new: int, register: Register) -> str:
     """Why so many children have no place in a register, or ""."""
-    most, has = LIMITS["children"].most, len(register.children)
+    most, has = register.most("children"), len(register.children)
     if has + new <= most:
         return ""
     return f"a register has at most {most:,} children: it has {has:,}, and {new:,} are new"

@@ -8,8 +8,8 @@ from collections.abc import Iterable, Mapping
 
 from register_files import Refused
 
-from office.core.model import School
-from office.core.rules import LIMITS
+from office.core.model import Register
+from office.core.rules import LARGE
 from office.web.copies.copies import Copies
 from office.web.copies.safeguard import copied
 from office.web.machinery.jobs import Jobs
@@ -21,7 +21,7 @@ from office.web.register.store import Store
 from . import rows as schools
 from .rows import FLAG, Cells, Line
 
-MOST = LIMITS["schools"].most
+MOST = LARGE["schools"].most
 PURPOSE = "before schools are stored"
 THERE = Result(DONE, "The register has it already, with the same data.")
 CHANGED = Result(DIFFERS, "The line was changed or removed since it was shown. Nothing was stored"
@@ -81,8 +81,8 @@ class Draft(Outbox[Item]):
                 self.put(DRAFT, 0, it)
             db.execute("UPDATE sending SET place=number WHERE kind=? AND place=0", (self.kind,))
             if (count := len(self.left(DRAFT))) > MOST:
-                raise Refused(f"a register has at most {MOST} schools, and the draft would have"
-                              f" {count}")
+                raise Refused(f"a register has at most {MOST:,} schools, and the draft would have"
+                              f" {count:,}")
 
     def correct(self, number: int, cells: Cells, seen: str) -> None:
         """Replaces a line that is still as it was seen."""
@@ -107,7 +107,7 @@ class Draft(Outbox[Item]):
         self, who: Person, words: Mapping[int, str], shown: str, wait: float,
     ) -> None:
         """Begins to store the draft as it was shown, and waits for the end for some seconds."""
-        lines = lines_shown(self.desk.now().schools, self, words, shown)
+        lines = lines_shown(self.desk.now(), self, words, shown)
         if not self.jobs.run(
                 self.job(DRAFT), who.name, lambda: self.send_all(who, lines), wait):
             raise Refused("the draft is being stored already")
@@ -206,14 +206,14 @@ def nameless(lines: Iterable[Line], words: Mapping[int, str]) -> list[int]:
 
 
 def lines_shown(
-    known: Mapping[str, School], draft: Draft, words: Mapping[int, str], shown: str,
+    register: Register, draft: Draft, words: Mapping[int, str], shown: str,
 ) -> list[Line]:
     """The lines of a draft as it was shown, each of which can be stored."""
-    lines = schools.lines_of(draft.rows(), known, words)
+    lines = schools.lines_of(draft.rows(), register.schools, words)
     if digest(lines) != shown:
         raise Refused("the draft was changed since it was shown: look at it again. Nothing was"
                       " stored")
     if not is_ready(lines):
         raise Refused("the draft has lines that are not right. Nothing was stored")
-    schools.see_count(lines, known)
+    schools.see_count(lines, register)
     return lines

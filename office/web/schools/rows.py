@@ -7,7 +7,7 @@ from register_files import Refused
 
 from office.core import child_fields, commands, fields, rules, texts
 from office.core.fields import Field
-from office.core.model import School
+from office.core.model import Register, School
 from office.core.rules import LIMITS
 from office.core.wording import label
 from office.files import header
@@ -138,13 +138,13 @@ def lines_of(
     return found
 
 
-def see_count(lines: list[Line], known: Mapping[str, School]) -> None:
+def see_count(lines: list[Line], register: Register) -> None:
     """Refuses more schools than a register can have."""
-    count = len(known) + sum(not it.is_there for it in lines)
-    most = LIMITS["schools"].most
+    count = len(register.schools) + sum(not it.is_there for it in lines)
+    most = register.most("schools")
     if count > most:
-        raise Refused(f"a register has at most {most} schools, and with these it would have"
-                      f" {count}: remove some")
+        raise Refused(f"this register has at most {most:,} schools, and with these it would have"
+                      f" {count:,}: remove some")
 
 
 def differences(school: School, command: Command) -> str:

@@ -264,7 +264,7 @@ def question(
     """
     words = flags.present()
     try:
-        lines = drafts.lines_shown(parts().desk.now().schools, draft(), words, shown)
+        lines = drafts.lines_shown(parts().desk.now(), draft(), words, shown)
     except Refused as error:
         return page(said=sentence(str(error)), status=409)
     return flask.render_template(
@@ -290,7 +290,7 @@ def store() -> Answer:
         return question(shown, typed, wrong, "Nothing was stored: see the fields that are marked.")
     try:
         draft().look(DRAFT)
-        drafts.lines_shown(parts().desk.now().schools, draft(), known, shown)
+        drafts.lines_shown(parts().desk.now(), draft(), known, shown)
         if typed:
             flags.change(parts().store, form.get("seen", ""), words,
                          lambda before: guard.record("named flags", words=words, before=before))
