@@ -16,7 +16,9 @@ import time
 
 TABLES = ("meta", "school", "child", "application", "place", "left_list", "draw", "offer", "lot", "imported", "present")
 FIRST_DAY, LAST_DAY = 7305, 51498
-MOST_SCHOOLS, MOST_CHILDREN, MOST_DRAWS, MOST_LOTS, MOST_NUMBER = 200, 2000, 10_000, 1_000_000, 2**32 - 1
+MOST_DRAWS, MOST_NUMBER = 10_000, 2**32 - 1
+# the most schools, children and lots of all draws, by the version of the file
+MOST = {2: (200, 2000, 1_000_000), 3: (1000, 40_000, 20_000_000)}
 OFFERED, ACCEPTED, PLAN = 1, 2, 3
 is_code = re.compile(r"[A-Z0-9]{1,8}").fullmatch
 criterion = re.compile(r"sibling|within:([1-9][0-9]*)|flag:(0|[1-9][0-9]*)|feeder:[A-Z0-9]{1,8}").fullmatch
@@ -64,17 +66,18 @@ class Rows:
         self.places = {child: (code, kind) for child, code, kind, _, _ in self.rows["place"]}
 
     def are_few(self):
-        return len(self.rows["school"]) <= MOST_SCHOOLS and len(self.rows["child"]) <= MOST_CHILDREN
+        return all(len(self.rows[name]) <= most for name, most in zip(("school", "child", "lot"), MOST[self.version]))
 
     def has_season(self):
         if len(self.rows["meta"]) != 1:
             return False
-        ((one, version, phase, self.year, holidays, draws),) = self.rows["meta"]
+        ((one, self.version, phase, self.year, holidays, draws),) = self.rows["meta"]
         self.holidays = [int(it) for it in items(holidays)]
         self.end = number(self.year, 12, 31)
         self.national = number(self.year, 4, 16) if phase == 1 else number(self.year, 3, 1)
         return (
-            (one, version) == (1, 2)
+            one == 1
+            and self.version in MOST
             and phase in (1, 2)
             and 2000 <= self.year <= 2100
             and len(self.holidays) <= 40
@@ -182,8 +185,7 @@ class Rows:
         """No pair is duplicated in a draw, and no lot at one school in a draw."""
         lots, draws, codes, children = self.rows["lot"], len(self.rows["draw"]), self.codes, self.children
         return (
-            len(lots) <= MOST_LOTS
-            and len({row[:3] for row in lots}) == len(lots)
+            len({row[:3] for row in lots}) == len(lots)
             and len({(draw, code, lot) for draw, code, _, lot in lots}) == len(lots)
             and all(1 <= draw <= draws and code in codes and child in children and 0 <= lot <= MOST_NUMBER for draw, code, child, lot in lots)
         )
