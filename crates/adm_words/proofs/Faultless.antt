@@ -13,7 +13,8 @@ use Rattle.clap.specs.Walk.{Row, Rule, Text, Held, Outcome, Step, Waiting, Walk,
 use Rattle.clap.specs.Faults as f
 use Rattle.clap.specs.Takes.{is_given}
 use Rattle.clap.specs.declared.error.kind.ErrorKind.TheVariants as kind
-use Rattle.adm_words.proofs.FoundRows.{branch, both_empty, row_in, head_passes, row_passes, Good, used_other}
+use Rattle.clap.specs.declared.parser.matches.ValueSource.TheVariants.{DefaultValue}
+use Rattle.adm_words.proofs.FoundRows.{branch, both_empty, row_in, head_passes, row_passes, Good, values_other, used_other}
 
 -- a property of each of a list
 abbrev pub Each : (Rule → Type 0) → List Rule → Type 0
@@ -199,20 +200,28 @@ module _ (s : Shape) (a : Rule) (each : Each (IsItOr a) s.rules) (uses : UsesWel
 
 -- ---- after the walk
 
-abbrev pub HasNoDefaults : List Rule → Type 0
-HasNoDefaults = Each (λ a. a.defaults ≡ [])
+-- an argument without a default, or with another id
+plain_or_other : (a b : Rule) → a.defaults ≡ [] → IsItOr a b → (b.defaults ≡ []) ⊎ (bytes_eq b.id a.id ≡ false)
+plain_or_other a b none (inl e) = inl (subst (λ (x : Rule). x.defaults ≡ []) (sym e) none)
+plain_or_other a b none (inr apart) = inr apart
 
--- arguments without defaults add nothing
-pub undefaulted : (rules : List Rule) (rows : List Row) → HasNoDefaults rules → fold w.with_default rows rules ≡ rows
-undefaulted [] rows none = refl
-undefaulted (a ∷ rest) rows none = ap (λ r. fold w.with_default r rest) (one (has_row a.id rows) a.defaults none.0) ∙ undefaulted rest rows none.1
+-- its default leaves the first value of this one
+default_good : (a b : Rule) (rows : List Row) → (b.defaults ≡ []) ⊎ (bytes_eq b.id a.id ≡ false) → Good a rows → Good a (w.with_default rows b)
+default_good a b rows other good = go (has_row b.id rows) b.defaults other
   where
-    one : (b : Bool) (defaults : List Text) → defaults ≡ [] → cond b rows (w.default_rows a.id (w.reading_by a) defaults rows) ≡ rows
-    one true defaults e = refl
-    one false defaults e = ap (λ d. w.default_rows a.id (w.reading_by a) d rows) e
+    go : (t : Bool) (defaults : List Text) → (defaults ≡ []) ⊎ (bytes_eq b.id a.id ≡ false) → Good a (cond t rows (w.default_rows b.id (w.reading_by b) defaults rows))
+    go true defaults o = good
+    go false defaults (inl e) = subst (λ (d : List Text). Good a (w.default_rows b.id (w.reading_by b) d rows)) (sym e) good
+    go false [] (inr apart) = good
+    go false (v ∷ vs) (inr apart) = ap (row_passes a) (values_other a.id b.id (w.reading_by b) DefaultValue (v ∷ vs) rows apart) ∙ good
+
+-- and so do the defaults of all arguments, where this one has none
+defaults_good : (a : Rule) → a.defaults ≡ [] → (rules : List Rule) (rows : List Row) → Each (IsItOr a) rules → Good a rows → Good a (fold w.with_default rows rules)
+defaults_good a none [] rows each good = good
+defaults_good a none (b ∷ rest) rows each good = defaults_good a none rest (w.with_default rows b) each.1 (default_good a b rows (plain_or_other a b none each.0) good)
 
 -- a level without an error leaves a first value that passes, and finds no argument missing
-pub level_good : (s : Shape) (a : Rule) → Each (IsItOr a) s.rules → UsesWell s.args_override_self a → HasNoDefaults s.rules
+pub level_good : (s : Shape) (a : Rule) → Each (IsItOr a) s.rules → UsesWell s.args_override_self a → a.defaults ≡ []
     → (names : Names) (arguments : List Text) (has_subcommand : Bool) (below : Kinds)
     → f.level_fault s names w.nothing_held arguments has_subcommand below ≡ []
     → Good a (w.rows_after s.rules names arguments) × (f.check_fault s (w.rows_after s.rules names arguments) has_subcommand ≡ [])
@@ -223,7 +232,7 @@ level_good s a each uses no_defaults names arguments has_subcommand below none =
     let settle = both_empty (f.settle_fault s.rules s.args_override_self end) _ inner.1 in
     let defaults = both_empty (f.defaults_fault (w.settled s.rules end).rows s.rules) _ settle.1 in
     let good = settle_good s a each uses end settle.0 (walk_good s a each uses names (w.walk_from w.nothing_held) arguments walk.0 refl) in
-    (subst (Good a) (sym (undefaulted s.rules (w.settled s.rules end).rows no_defaults)) good, defaults.1)
+    (defaults_good a no_defaults s.rules (w.settled s.rules end).rows each good, defaults.1)
 
 -- the first value of a row
 abbrev first_in : Option Row → Option Text

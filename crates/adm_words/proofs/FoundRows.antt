@@ -76,7 +76,7 @@ at_other id other change missing (r ∷ rs) apart keeps none = go (bytes_eq r.id
 without_other : (id other : Text) (rows : List Row) → bytes_eq other id ≡ false → row_in id (w.without other rows) ≡ row_in id rows
 without_other id other rows apart = at_other id other (λ _. []) [] rows apart (λ r rest e. refl) refl
 
-values_other : (id other : Text) (how : Reading) (s : ValueSource) (values : List Text) (rows : List Row) → bytes_eq other id ≡ false
+pub values_other : (id other : Text) (how : Reading) (s : ValueSource) (values : List Text) (rows : List Row) → bytes_eq other id ≡ false
     → row_in id (w.with_values other how s values rows) ≡ row_in id rows
 values_other id other how s values rows apart = at_other id other (w.more_values s values) _ rows apart (λ r rest e. rw e refl) (rw apart refl)
 

@@ -15,8 +15,9 @@ use Rattle.clap.specs.declared.builder.value_parser.ValueParser.TheVariants as p
 use Rattle.clap.proofs.WalkLemmas.{list_any-map}
 use Rattle.adm_types.specs.declared.seasons.Phase.{Phase}
 use Rattle.adm_types.specs.declared.seasons.Phase.TheVariants.{Primary, Secondary}
+use Rattle.adm_types.specs.declared.seasons.Size.{Size}
 use Rattle.adm_words.specs.Program.{IsPhases, program_app}
-use Rattle.adm_words.specs.Lines.{IsLine, init_line, do_line, what_if_line, phase_of, year_of, init_of, init_in, do_in, what_if_line_in, holidays_in, line_in}
+use Rattle.adm_words.specs.Lines.{IsLine, init_line, do_line, what_if_line, phase_of, year_of, init_of, init_in, do_in, what_if_line_in, holidays_in, size_in, line_in}
 use Rattle.adm_words.proofs.Arguments.{HasValue, taken, taken_uses, wanted, given_if, init_shape, do_shape, what_if_shape, import_shape, serve_shape, letter_shape, list_shape, report_shape, pairs_shape, show_shape, help_of}
 use Rattle.adm_words.proofs.FoundRows.{both_empty, either_false}
 use Rattle.adm_words.proofs.PairLines.{import_there, letter_there, list_there, report_there, pairs_there, show_there}
@@ -43,10 +44,12 @@ phase_named _ is v e = absurd is
 
 -- ---- the lines
 
-made : (file : Option Text) (phase : Option Phase) (year : Option ℕ) (holidays : List Text) (a : Text) (b : Phase) (c : ℕ)
-    → file ≡ Some a → phase ≡ Some b → year ≡ Some c → IsLine (init_of file phase year holidays)
-made file phase year holidays a b c f p y =
-    (init_line a b c holidays, ap (λ o. init_of o phase year holidays) f ∙ ap (λ o. init_of (Some a) o year holidays) p ∙ ap (λ o. init_of (Some a) (Some b) o holidays) y)
+made : (file : Option Text) (phase : Option Phase) (year : Option ℕ) (holidays : List Text) (size : Size) (a : Text) (b : Phase) (c : ℕ)
+    → file ≡ Some a → phase ≡ Some b → year ≡ Some c → IsLine (init_of file phase year holidays size)
+made file phase year holidays size a b c f p y = (
+  init_line a b c holidays size,
+  ap (λ o. init_of o phase year holidays size) f ∙ ap (λ o. init_of (Some a) o year holidays size) p ∙ ap (λ o. init_of (Some a) (Some b) o holidays size) y,
+)
 
 init_values : (phases : ValueParser) (arguments : List Text) → level_fault (init_shape phases) [] nothing_held arguments false [] ≡ []
     → let rows = rows_after (init_shape phases).rules [] arguments in
@@ -56,12 +59,9 @@ init_values phases arguments none =
     let file_rule = taken (codes "file") 1 parser.String in
     let phase_rule = taken (codes "phase") 2 phases in
     let year_rule = taken (codes "year") 3 (parser.Signed (pos 2000) (pos 2100)) in
-    let file = level_good (init_shape phases) file_rule (inl refl, (inr refl, (inr refl, (inr refl, (inr refl, tt))))) (taken_uses (codes "file") 1 parser.String refl)
-    (refl, (refl, (refl, (refl, (refl, tt))))) [] arguments false [] none in
-    let phase = level_good (init_shape phases) phase_rule (inr refl, (inl refl, (inr refl, (inr refl, (inr refl, tt))))) (taken_uses (codes "phase") 2 phases refl)
-    (refl, (refl, (refl, (refl, (refl, tt))))) [] arguments false [] none in
-    let year = level_good (init_shape phases) year_rule (inr refl, (inr refl, (inl refl, (inr refl, (inr refl, tt))))) (taken_uses (codes "year") 3 (parser.Signed (pos 2000) (pos 2100)) refl)
-    (refl, (refl, (refl, (refl, (refl, tt))))) [] arguments false [] none in
+    let file = level_good (init_shape phases) file_rule (inl refl, (inr refl, (inr refl, (inr refl, (inr refl, (inr refl, tt)))))) (taken_uses (codes "file") 1 parser.String refl) refl [] arguments false [] none in
+    let phase = level_good (init_shape phases) phase_rule (inr refl, (inl refl, (inr refl, (inr refl, (inr refl, (inr refl, tt)))))) (taken_uses (codes "phase") 2 phases refl) refl [] arguments false [] none in
+    let year = level_good (init_shape phases) year_rule (inr refl, (inr refl, (inl refl, (inr refl, (inr refl, (inr refl, tt)))))) (taken_uses (codes "year") 3 (parser.Signed (pos 2000) (pos 2100)) refl) refl [] arguments false [] none in
     let missing = wanted _ file.1 in
     let first = either_false (not (is_given (codes "file") rows)) _ missing in
     let second = either_false (not (is_given (codes "phase") rows)) _ first.1 in
@@ -75,7 +75,7 @@ init_there phases is arguments none =
     let values = init_values phases arguments none in
     let phase = phase_named phases is values.1.0 values.1.2 in
     let year = number_named 2000 2100 (omega arith) (omega arith) values.2.0 values.2.2 in
-    made _ _ _ (holidays_in rows) values.0.0 phase.0 year.0 values.0.1
+    made _ _ _ (holidays_in rows) (size_in rows) values.0.0 phase.0 year.0 values.0.1
     (ap (option_and_then phase_of) values.1.1 ∙ phase.1) (ap (option_and_then year_of) values.2.1 ∙ year.1)
 
 do_there : (phases : ValueParser) (arguments : List Text) → level_fault (do_shape phases) [] nothing_held arguments false [] ≡ []
@@ -83,7 +83,7 @@ do_there : (phases : ValueParser) (arguments : List Text) → level_fault (do_sh
 do_there phases arguments none =
     let rows = rows_after (do_shape phases).rules [] arguments in
     let file_rule = taken (codes "file") 1 parser.String in
-    let file = level_good (do_shape phases) file_rule (inl refl, (inr refl, tt)) (taken_uses (codes "file") 1 parser.String refl) (refl, (refl, tt)) [] arguments false [] none in
+    let file = level_good (do_shape phases) file_rule (inl refl, (inr refl, tt)) (taken_uses (codes "file") 1 parser.String refl) refl [] arguments false [] none in
     let missing = either_false (not (is_given (codes "file") rows)) _ (wanted _ file.1) in
     let value = given_first file_rule rows file.0 (given_if _ missing.0) in
     (do_line value.0, ap (option_map do_line) value.1)
@@ -93,7 +93,7 @@ what_if_there : (phases : ValueParser) (arguments : List Text) → level_fault (
 what_if_there phases arguments none =
     let rows = rows_after (what_if_shape phases).rules [] arguments in
     let file_rule = taken (codes "file") 1 parser.String in
-    let file = level_good (what_if_shape phases) file_rule (inl refl, (inr refl, tt)) (taken_uses (codes "file") 1 parser.String refl) (refl, (refl, tt)) [] arguments false [] none in
+    let file = level_good (what_if_shape phases) file_rule (inl refl, (inr refl, tt)) (taken_uses (codes "file") 1 parser.String refl) refl [] arguments false [] none in
     let missing = either_false (not (is_given (codes "file") rows)) _ (wanted _ file.1) in
     let value = given_first file_rule rows file.0 (given_if _ missing.0) in
     (what_if_line value.0, ap (option_map what_if_line) value.1)

@@ -20,14 +20,8 @@ import_there phases arguments none =
     let rows = rows_after (import_shape phases).rules [] arguments in
     let file_rule = taken (codes "file") 1 parser.String in
     let word_rule = taken (codes "csv") 2 parser.String in
-    let file = level_good (import_shape phases) file_rule (inl refl, (inr refl, (inr refl, tt))) (taken_uses (codes "file") 1 parser.String refl) (
-      refl,
-      (refl, (refl, tt)),
-    ) [] arguments false [] none in
-    let word = level_good (import_shape phases) word_rule (inr refl, (inl refl, (inr refl, tt))) (taken_uses (codes "csv") 2 parser.String refl) (
-      refl,
-      (refl, (refl, tt)),
-    ) [] arguments false [] none in
+    let file = level_good (import_shape phases) file_rule (inl refl, (inr refl, (inr refl, tt))) (taken_uses (codes "file") 1 parser.String refl) refl [] arguments false [] none in
+    let word = level_good (import_shape phases) word_rule (inr refl, (inl refl, (inr refl, tt))) (taken_uses (codes "csv") 2 parser.String refl) refl [] arguments false [] none in
     let first = either_false (not (is_given (codes "file") rows)) _ (wanted _ file.1) in
     let second = either_false (not (is_given (codes "csv") rows)) _ first.1 in
     let a = given_first file_rule rows file.0 (given_if _ first.0) in
@@ -40,14 +34,8 @@ letter_there phases arguments none =
     let rows = rows_after (letter_shape phases).rules [] arguments in
     let file_rule = taken (codes "file") 1 parser.String in
     let word_rule = taken (codes "child") 2 parser.String in
-    let file = level_good (letter_shape phases) file_rule (inl refl, (inr refl, (inr refl, tt))) (taken_uses (codes "file") 1 parser.String refl) (
-      refl,
-      (refl, (refl, tt)),
-    ) [] arguments false [] none in
-    let word = level_good (letter_shape phases) word_rule (inr refl, (inl refl, (inr refl, tt))) (taken_uses (codes "child") 2 parser.String refl) (
-      refl,
-      (refl, (refl, tt)),
-    ) [] arguments false [] none in
+    let file = level_good (letter_shape phases) file_rule (inl refl, (inr refl, (inr refl, tt))) (taken_uses (codes "file") 1 parser.String refl) refl [] arguments false [] none in
+    let word = level_good (letter_shape phases) word_rule (inr refl, (inl refl, (inr refl, tt))) (taken_uses (codes "child") 2 parser.String refl) refl [] arguments false [] none in
     let first = either_false (not (is_given (codes "file") rows)) _ (wanted _ file.1) in
     let second = either_false (not (is_given (codes "child") rows)) _ first.1 in
     let a = given_first file_rule rows file.0 (given_if _ first.0) in
@@ -60,11 +48,8 @@ list_there phases arguments none =
     let rows = rows_after (list_shape phases).rules [] arguments in
     let file_rule = taken (codes "file") 1 parser.String in
     let word_rule = taken (codes "school") 2 parser.String in
-    let file = level_good (list_shape phases) file_rule (inl refl, (inr refl, (inr refl, tt))) (taken_uses (codes "file") 1 parser.String refl) (refl, (refl, (refl, tt))) [] arguments false [] none in
-    let word = level_good (list_shape phases) word_rule (inr refl, (inl refl, (inr refl, tt))) (taken_uses (codes "school") 2 parser.String refl) (
-      refl,
-      (refl, (refl, tt)),
-    ) [] arguments false [] none in
+    let file = level_good (list_shape phases) file_rule (inl refl, (inr refl, (inr refl, tt))) (taken_uses (codes "file") 1 parser.String refl) refl [] arguments false [] none in
+    let word = level_good (list_shape phases) word_rule (inr refl, (inl refl, (inr refl, tt))) (taken_uses (codes "school") 2 parser.String refl) refl [] arguments false [] none in
     let first = either_false (not (is_given (codes "file") rows)) _ (wanted _ file.1) in
     let second = either_false (not (is_given (codes "school") rows)) _ first.1 in
     let a = given_first file_rule rows file.0 (given_if _ first.0) in
@@ -77,14 +62,8 @@ report_there phases arguments none =
     let rows = rows_after (report_shape phases).rules [] arguments in
     let file_rule = taken (codes "file") 1 parser.String in
     let word_rule = taken (codes "round") 2 parser.String in
-    let file = level_good (report_shape phases) file_rule (inl refl, (inr refl, (inr refl, tt))) (taken_uses (codes "file") 1 parser.String refl) (
-      refl,
-      (refl, (refl, tt)),
-    ) [] arguments false [] none in
-    let word = level_good (report_shape phases) word_rule (inr refl, (inl refl, (inr refl, tt))) (taken_uses (codes "round") 2 parser.String refl) (
-      refl,
-      (refl, (refl, tt)),
-    ) [] arguments false [] none in
+    let file = level_good (report_shape phases) file_rule (inl refl, (inr refl, (inr refl, tt))) (taken_uses (codes "file") 1 parser.String refl) refl [] arguments false [] none in
+    let word = level_good (report_shape phases) word_rule (inr refl, (inl refl, (inr refl, tt))) (taken_uses (codes "round") 2 parser.String refl) refl [] arguments false [] none in
     let first = either_false (not (is_given (codes "file") rows)) _ (wanted _ file.1) in
     let second = either_false (not (is_given (codes "round") rows)) _ first.1 in
     let a = given_first file_rule rows file.0 (given_if _ first.0) in
@@ -96,10 +75,7 @@ pub pairs_there : (phases : ValueParser) (arguments : List Text) → level_fault
 pairs_there phases arguments none =
     let rows = rows_after (pairs_shape phases).rules [] arguments in
     let file_rule = taken (codes "file") 1 parser.String in
-    let file = level_good (pairs_shape phases) file_rule (inl refl, (inr refl, (inr refl, tt))) (taken_uses (codes "file") 1 parser.String refl) (
-      refl,
-      (refl, (refl, tt)),
-    ) [] arguments false [] none in
+    let file = level_good (pairs_shape phases) file_rule (inl refl, (inr refl, (inr refl, tt))) (taken_uses (codes "file") 1 parser.String refl) refl [] arguments false [] none in
     let missing = either_false (not (is_given (codes "file") rows)) _ (wanted _ file.1) in
     let value = given_first file_rule rows file.0 (given_if _ missing.0) in
     let line : Text → Line = λ f. pairs_line f (first_of (codes "school") rows) in
@@ -110,10 +86,7 @@ pub show_there : (phases : ValueParser) (arguments : List Text) → level_fault 
 show_there phases arguments none =
     let rows = rows_after (show_shape phases).rules [] arguments in
     let file_rule = taken (codes "file") 1 parser.String in
-    let file = level_good (show_shape phases) file_rule (inl refl, (inr refl, (inr refl, tt))) (taken_uses (codes "file") 1 parser.String refl) (
-      refl,
-      (refl, (refl, tt)),
-    ) [] arguments false [] none in
+    let file = level_good (show_shape phases) file_rule (inl refl, (inr refl, (inr refl, tt))) (taken_uses (codes "file") 1 parser.String refl) refl [] arguments false [] none in
     let missing = either_false (not (is_given (codes "file") rows)) _ (wanted _ file.1) in
     let value = given_first file_rule rows file.0 (given_if _ missing.0) in
     let line : Text → Line = λ f. show_line f (first_of (codes "draw") rows) in

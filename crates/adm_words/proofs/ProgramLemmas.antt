@@ -43,7 +43,7 @@ refuses app phases arguments e h is f other =
     (phases, h, subst (λ (a : App). IsAmong (kind_of e) (fault_of a arguments)) is (among (kind_of e) (fault_of app arguments) other has))
 
 no_words : (line : Line) (e : Error) → Reads line (Err (Usage e)) → ⊥
-no_words (init_line file phase year texts) e h = h
+no_words (init_line file phase year texts size) e h = h
 no_words (do_line file) e h = h
 no_words (what_if_line file) e h = h
 no_words (import_line file csv) e h = h

@@ -38,12 +38,9 @@ serve_there phases arguments none =
     let file_rule = taken (codes "file") 1 parser.String in
     let port_rule = taken (codes "port") 2 ports in
     let count_rule = optional (codes "count") counts in
-    let file = level_good (serve_shape phases) file_rule (inl refl, (inr refl, (inr refl, (inr refl, tt)))) (taken_uses (codes "file") 1 parser.String refl)
-    (refl, (refl, (refl, (refl, tt)))) [] arguments false [] none in
-    let port = level_good (serve_shape phases) port_rule (inr refl, (inl refl, (inr refl, (inr refl, tt)))) (taken_uses (codes "port") 2 ports refl)
-    (refl, (refl, (refl, (refl, tt)))) [] arguments false [] none in
-    let count = level_good (serve_shape phases) count_rule (inr refl, (inr refl, (inl refl, (inr refl, tt)))) (optional_uses (codes "count") counts refl)
-    (refl, (refl, (refl, (refl, tt)))) [] arguments false [] none in
+    let file = level_good (serve_shape phases) file_rule (inl refl, (inr refl, (inr refl, (inr refl, tt)))) (taken_uses (codes "file") 1 parser.String refl) refl [] arguments false [] none in
+    let port = level_good (serve_shape phases) port_rule (inr refl, (inl refl, (inr refl, (inr refl, tt)))) (taken_uses (codes "port") 2 ports refl) refl [] arguments false [] none in
+    let count = level_good (serve_shape phases) count_rule (inr refl, (inr refl, (inl refl, (inr refl, tt)))) (optional_uses (codes "count") counts refl) refl [] arguments false [] none in
     let first = either_false (not (is_given (codes "file") rows)) _ (wanted _ file.1) in
     let second = either_false (not (is_given (codes "port") rows)) _ first.1 in
     let a = given_first file_rule rows file.0 (given_if _ first.0) in

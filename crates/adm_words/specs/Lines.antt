@@ -10,6 +10,8 @@ use Rattle.adm_types.specs.DayText.{IsDayText}
 use Rattle.adm_types.specs.Fields.{plain_of, child_named}
 use Rattle.adm_types.specs.declared.seasons.Phase.{Phase}
 use Rattle.adm_types.specs.declared.seasons.Phase.TheVariants.{Primary, Secondary}
+use Rattle.adm_types.specs.declared.seasons.Size.{Size}
+use Rattle.adm_types.specs.declared.seasons.Size.TheVariants.{Standard, Large}
 use Rattle.clap.specs.Words.{Row, Text, first_of, all_of, fault_of, subcommand_of, IsAmong, kind_of}
 use Rattle.clap.specs.declared.builder.value_parser.ValueParser.{ValueParser}
 use Rattle.clap.specs.declared.error.kind.ErrorKind.{ErrorKind}
@@ -19,9 +21,9 @@ use Rattle.adm_words.specs.declared.actions.Action.TheVariants as action
 use Rattle.adm_words.specs.declared.faults.WordsFault.{WordsFault}
 use Rattle.adm_words.specs.declared.faults.WordsFault.TheVariants.{Usage, BadDate, BadWord, Memory}
 
--- a line, with its holidays, and the number or the code after its file, as texts; a port and a count are numbers
+-- a line, with its holidays and its size, and the number or the code after its file, as texts; a port and a count are numbers
 pub data Line : Type 0 where
-  init_line : Text → Phase → ℕ → List Text → Line
+  init_line : Text → Phase → ℕ → List Text → Size → Line
   do_line : Text → Line
   what_if_line : Text → Line
   import_line : Text → Text → Line
@@ -57,6 +59,11 @@ number_from least most text = option_and_then (within least most) (number_in tex
 -- the year that a text writes, from 2000 to 2100
 abbrev pub year_of : Text → Option ℕ
 year_of text = number_from 2000 2100 text
+
+-- large if the value of `--large` is true, as clap writes it where the option is given
+abbrev pub size_of : Option Text → Size
+size_of None = Standard
+size_of (Some text) = if bytes_eq text (codes "true") then Large else Standard
 
 -- the port that a text writes, from 1 to 65535
 abbrev pub port_of : Text → Option ℕ
@@ -102,14 +109,18 @@ count_in rows = option_map_or connections_of (first_of (codes "count") rows) (So
 abbrev pub holidays_in : List Row → List Text
 holidays_in rows = unwrap_or (all_of (codes "holiday") rows) []
 
+-- the size by the option `--large`
+abbrev pub size_in : List Row → Size
+size_in rows = size_of (first_of (codes "large") rows)
+
 -- a line with all of its values
-abbrev pub init_of : Option Text → Option Phase → Option ℕ → List Text → Option Line
-init_of (Some file) (Some phase) (Some year) holidays = Some (init_line file phase year holidays)
-init_of file phase year holidays = None
+abbrev pub init_of : Option Text → Option Phase → Option ℕ → List Text → Size → Option Line
+init_of (Some file) (Some phase) (Some year) holidays size = Some (init_line file phase year holidays size)
+init_of file phase year holidays size = None
 
 -- the line of `init` by the values that `clap` found; none where one is missing
 abbrev pub init_in : List Row → Option Line
-init_in rows = init_of (file_in rows) (phase_in rows) (year_in rows) (holidays_in rows)
+init_in rows = init_of (file_in rows) (phase_in rows) (year_in rows) (holidays_in rows) (size_in rows)
 
 -- the line of `do` by the value that `clap` found; none where it is missing
 abbrev pub do_in : List Row → Option Line
@@ -200,7 +211,7 @@ ReadsArgument read (Err fault) = ⊥
 
 -- the action of the line, or BadDate where a holiday is no day, or BadWord where a number or a code is none
 abbrev pub Reads : Line → Result Action WordsFault → Type 0
-Reads (init_line file phase year texts) (Ok (action.Init f p y days)) = (f.now ≡ file) × (p ≡ phase) × (y ≡ year) × AreDays texts days
+Reads (init_line file phase year texts size) (Ok (action.Init f p y days s)) = (f.now ≡ file) × (p ≡ phase) × (y ≡ year) × AreDays texts days × (s ≡ size)
 Reads (do_line file) (Ok (action.Do f)) = f.now ≡ file
 Reads (what_if_line file) (Ok (action.WhatIf f)) = f.now ≡ file
 Reads (import_line file csv) (Ok (action.Import f c)) = (f.now ≡ file) × (c.now ≡ csv)
@@ -210,7 +221,7 @@ Reads (list_line file argument) (Ok (action.List f school)) = (f.now ≡ file) �
 Reads (report_line file argument) (Ok (action.RoundReport f round)) = (f.now ≡ file) × (plain_of argument ≡ Some round)
 Reads (pairs_line file argument) (Ok (action.Pairs f school)) = (f.now ≡ file) × (school_named argument ≡ Some school)
 Reads (show_line file argument) (Ok (action.Show f draw)) = (f.now ≡ file) × (draw_named argument ≡ Some draw)
-Reads (init_line file phase year texts) (Err BadDate) = HasNoDay texts
+Reads (init_line file phase year texts size) (Err BadDate) = HasNoDay texts
 Reads (letter_line file argument) (Err BadWord) = child_named argument ≡ None
 Reads (list_line file argument) (Err BadWord) = code_of argument ≡ None
 Reads (report_line file argument) (Err BadWord) = plain_of argument ≡ None
@@ -245,7 +256,7 @@ ReadsArguments arguments (Err Memory) = Unit {0}
 
 -- a season's year is from 2000 to 2100, a port from 1 to 65535, and a number of connections from 1 to 1,000,000
 abbrev pub IsInRange : Action → Type 0
-IsInRange (action.Init f p y days) = (2000 ≤ y) × (y ≤ 2100)
+IsInRange (action.Init f p y days s) = (2000 ≤ y) × (y ≤ 2100)
 IsInRange (action.Serve f p n) = ((1 ≤ p) × (p ≤ 65535)) × ((1 ≤ n) × (n ≤ 1000000))
 IsInRange action = Unit {0}
 

@@ -1,16 +1,17 @@
 // What the arguments may request.
-use adm_types::{ChildNo, Day, Phase, SchoolCode, Seq};
+use adm_types::{ChildNo, Day, Phase, SchoolCode, Seq, Size};
 
 /// The action that the arguments name.
 #[derive(Drop)]
 pub enum Action<'a> {
     /// Make the register of a season in this file: its phase, its entry year from 2000 to 2100,
-    /// and its holidays as they were handed in.
+    /// its holidays as they were handed in, and its size.
     Init {
         file: &'a str,
         phase: Phase,
         year: u32,
         holidays: Seq<Day>,
+        size: Size,
     },
     /// Answer the lines of the standard input over the register in this file.
     Do {

@@ -1,12 +1,12 @@
 // One line of the command line, read from the values that clap found.
 ghost use Rattle.std.specs.Prelude.{◌≡◌, ◌≤◌, map, option_map, IfOk, IfSome};
 ghost use Rattle.clap.specs.Words.{first_of, all_of, found_of, rows_of};
-ghost use Rattle.adm_words.specs.Lines.{IsLine, ReadsLine, ReadsDays, IsInRange, phase_of, number_in, number_from, year_of, phase_in, year_in, holidays_in, init_in, do_in, what_if_line_in, line_in};
+ghost use Rattle.adm_words.specs.Lines.{IsLine, ReadsLine, ReadsDays, IsInRange, phase_of, number_in, number_from, year_of, size_of, phase_in, year_in, holidays_in, size_in, init_in, do_in, what_if_line_in, line_in};
 
 use crate::pairs::{import, reading};
 use crate::serving::serve;
 use crate::{Action, WordsFault};
-use adm_types::{Day, Phase, Seq};
+use adm_types::{Day, Phase, Seq, Size};
 use clap::ArgMatches;
 use std::alloc::Global;
 
@@ -98,6 +98,22 @@ fn holidays_in(alloc: Global, found: &ArgMatches<'_>) -> Result<Seq<Day>, WordsF
     read_days(alloc, texts_of(found, "holiday").unwrap_or(&[]))
 }
 
+/// The size by the value of `--large`.
+fn read_size(large: Option<&str>) -> Size
+    ensures { result ≡ size_of (option_map (λ s. s.now) large.entry) }
+{
+    match large {
+        Some(text) if text == "true" => Size::Large,
+        _ => Size::Standard,
+    }
+}
+
+fn size_in(found: &ArgMatches<'_>) -> Size
+    ensures { result ≡ size_in (rows_of (found_of found.now)) }
+{
+    read_size(text_of(found, "large"))
+}
+
 /// The line `init`, whose values are there.
 fn init<'a>(alloc: Global, found: &ArgMatches<'a>) -> Result<Action<'a>, WordsFault>
     requires { IsLine (init_in (rows_of (found_of found.now))) }
@@ -113,12 +129,14 @@ fn init<'a>(alloc: Global, found: &ArgMatches<'a>) -> Result<Action<'a>, WordsFa
     let Some(year) = year_in(found) else {
         unreachable!()
     };
+    let size = size_in(found);
     let holidays = holidays_in(alloc, found)?;
     Ok(Action::Init {
         file,
         phase,
         year,
         holidays,
+        size,
     })
 }
 

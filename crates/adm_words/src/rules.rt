@@ -1,7 +1,7 @@
 // The arguments of the command line: the rule by which each is read, and its line in the help.
 ghost use Rattle.clap.specs.declared.builder.value_parser.ValueParser.{ValueParser};
 ghost use Rattle.adm_words.specs.Building.{IsArg};
-ghost use Rattle.adm_words.specs.Program.{IsPhases, required_rule, file_rule, phase_rule, holiday_rule, year_rule, port_rule, count_rule, school_rule, draw_rule};
+ghost use Rattle.adm_words.specs.Program.{IsPhases, required_rule, file_rule, phase_rule, holiday_rule, large_rule, year_rule, port_rule, count_rule, school_rule, draw_rule};
 
 use clap::{Arg, ArgAction, value_parser};
 use std::alloc::Global;
@@ -96,4 +96,14 @@ pub(crate) fn holiday<'a>(alloc: Global) -> Arg<'a>
         .help("A day that is no working day, YYYY-MM-DD")
         .action(ArgAction::Append)
         .num_args(0..)
+}
+
+#[tactic(auto, unfolding(crate::specs::Building::IsArg))]
+pub(crate) fn large<'a>(alloc: Global) -> Arg<'a>
+    ensures { IsArg large_rule result }
+{
+    Arg::new(alloc, "large")
+        .long("large")
+        .help("A register for up to 40000 children and 1000 schools")
+        .action(ArgAction::SetTrue)
 }

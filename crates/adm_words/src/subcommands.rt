@@ -6,7 +6,7 @@ ghost use Rattle.adm_words.specs.Program.{IsPhases, file_rule, pair_app, init_ap
 
 use crate::help;
 use crate::joining::{named, with_arg};
-use crate::rules::{count, draw, file, holiday, phase, port, required, school, year};
+use crate::rules::{count, draw, file, holiday, large, phase, port, required, school, year};
 use clap::Command;
 use std::alloc::{AllocError, Global};
 
@@ -106,7 +106,9 @@ pub(crate) fn init_command<'a>(alloc: Global) -> Result<Command<'a>, AllocError>
     let file = "The file to make, or an empty one";
     let init = file_command(alloc, "init", about, help::INIT, file);
     let init = with_arg(init, phase(alloc));
-    with_arg(with_arg(init, year(alloc)), holiday(alloc))
+    let init = with_arg(init, year(alloc));
+    let init = with_arg(init, holiday(alloc));
+    with_arg(init, large(alloc))
 }
 
 pub(crate) fn serve_command<'a>(alloc: Global) -> Result<Command<'a>, AllocError>
