@@ -18,6 +18,8 @@ use Rattle.adm_types.specs.declared.draws.Draw.{Draw}
 use Rattle.adm_types.specs.declared.draws.Lot.{Lot}
 use Rattle.adm_types.specs.declared.draws.Outcome.{Outcome}
 use Rattle.adm_types.specs.Seasons.{SeasonFacts}
+use Rattle.adm_types.specs.declared.seasons.Size.{Size}
+use Rattle.adm_types.specs.declared.seasons.Size.TheVariants.{Standard, Large}
 use Rattle.adm_fields.specs.Lists.{child_fields}
 use Rattle.adm_fields.specs.Records.{child_values}
 use Rattle.adm_register.specs.State.{State}
@@ -32,7 +34,7 @@ use Rattle.adm_cutoffs.specs.declared.cutoffs.Cutoff.{Cutoff}
 use Rattle.adm_cutoffs.specs.declared.reasons.Reason.{Reason}
 use Rattle.adm_cutoffs.specs.declared.refusals.Refusal.{Refusal}
 use Rattle.adm_view.specs.Draws.{code_or_null, outcome_data, lot_data, draw_members, draw_data, cutoff_data, reason_or_null, refusal_data, draw_data_with_lots}
-use Rattle.adm_view.specs.Season.{season_data}
+use Rattle.adm_view.specs.Season.{season_members, size_members, season_data}
 use Rattle.adm_view.specs.Register.{register_data}
 
 -- no float, and arrays and objects nest at most so deep
@@ -208,11 +210,15 @@ plain_draw_with_lots s draw =
     (put_plain 2 (codes "lots") lots (put (codes "cutoffs") cutoffs (draw_members draw)) (plain_list lot_data 1 plain_lot draw.lots)
     (put_plain 2 (codes "cutoffs") cutoffs (draw_members draw) (plain_list cutoff_data 1 plain_cutoff (cutoffs_of s draw)) (plain_draw_members 0 draw))))
 
+plain_size : (n : ℕ) (size : Size) (others : Members) → ArePlain n others → ArePlain n (size_members size others)
+plain_size n Standard others q = q
+plain_size n Large others q = put_plain n (codes "size") (string (codes "large")) others (plain_text n _) q
+
 plain_season : (n : ℕ) (season : SeasonFacts) → IsPlain (n + 1 + 1) (season_data season)
 plain_season n season =
     let m = n + 1 in
-    plain_object m _ (and_member m _ _ _ (plain_text m _) (and_member m _ _ _ (plain_list _ n (λ day. plain_text n _) season.holidays)
-    (and_member m _ _ _ (plain_text m _) (and_member m _ _ _ (plain_text m _) (and_member m _ _ _ (plain_text m _) (and_member m _ _ _ (plain_number m _) (no_more m)))))))
+    plain_object m _ (plain_size m season.size (season_members season) (and_member m _ _ _ (plain_text m _) (and_member m _ _ _ (plain_list _ n (λ day. plain_text n _) season.holidays)
+    (and_member m _ _ _ (plain_text m _) (and_member m _ _ _ (plain_text m _) (and_member m _ _ _ (plain_text m _) (and_member m _ _ _ (plain_number m _) (no_more m))))))))
 
 -- ---- the register
 
