@@ -141,7 +141,7 @@ IsOpenFault fault = (fault ≡ Memory) ⊎ IsDisk fault
 
 -- a year of the range, and more than 40 holidays
 abbrev pub has_many_holidays : Action → Bool
-has_many_holidays (action.Init file phase year days) = is_from 2000 2100 year && nat_lt 40 (length days)
+has_many_holidays (action.Init file phase year days size) = is_from 2000 2100 year && nat_lt 40 (length days)
 has_many_holidays (action.Do file) = false
 has_many_holidays (action.WhatIf file) = false
 has_many_holidays (action.Import file csv) = false
@@ -154,8 +154,8 @@ has_many_holidays (action.Show file draw) = false
 
 -- why an action failed before it began: the year or the holidays are no season's, or the file was not opened, or memory ran out
 abbrev pub IsCauseIn : Action → Fault → Type 0
-IsCauseIn (action.Init file phase year days) f = ((f ≡ YearRange) × (is_from 2000 2100 year ≡ false))
-    ⊎ (((f ≡ TooManyHolidays) × IsTrue (has_many_holidays (action.Init file phase year days))) ⊎ IsOpenFault f)
+IsCauseIn (action.Init file phase year days size) f = ((f ≡ YearRange) × (is_from 2000 2100 year ≡ false))
+    ⊎ (((f ≡ TooManyHolidays) × IsTrue (has_many_holidays (action.Init file phase year days size))) ⊎ IsOpenFault f)
 IsCauseIn (action.Do file) f = IsOpenFault f
 IsCauseIn (action.WhatIf file) f = IsOpenFault f
 IsCauseIn (action.Import file csv) f = IsOpenFault f
@@ -218,7 +218,7 @@ remains_at_end (Err error) = Unopened error.remains
 
 -- what the arguments were read as: `init` and what prints a text end with 0 or 1, `do`, `what-if` and `import` never with 2, and `serve` with 0, 1 or 4; 2 where they are a usage error
 abbrev pub ExitsBy : Result Action WordsFault → ℕ → Type 0
-ExitsBy (Ok (action.Init file phase year days)) status = (status ≡ 0) ⊎ (status ≡ 1)
+ExitsBy (Ok (action.Init file phase year days size)) status = (status ≡ 0) ⊎ (status ≡ 1)
 ExitsBy (Ok (action.Do file)) status = status ≢ 2
 ExitsBy (Ok (action.WhatIf file)) status = status ≢ 2
 ExitsBy (Ok (action.Import file csv)) status = status ≢ 2

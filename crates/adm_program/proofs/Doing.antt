@@ -8,6 +8,7 @@ use Rattle.sqlite_store.specs.declared.store.FileStore.{FileStore}
 use Rattle.sqlite.specs.declared.error.Error.{Error}
 use Rattle.adm_types.specs.Seasons.{SeasonFacts, IsRising}
 use Rattle.adm_types.specs.declared.seasons.Phase.{Phase}
+use Rattle.adm_types.specs.declared.seasons.Size.{Size}
 use Rattle.adm_words.specs.declared.actions.Action.{Action}
 use Rattle.adm_words.specs.declared.actions.Action.TheVariants as action
 use Rattle.adm_words.specs.declared.faults.WordsFault.{WordsFault}
@@ -99,7 +100,7 @@ print_exit (Err f) output e closed prints = inr (fault_exit e f closed prints.0)
 
 -- an action that failed before it began
 unmade : (a : Action) → ExitsBy (Ok a) 1
-unmade (action.Init file phase year days) = inr refl
+unmade (action.Init file phase year days size) = inr refl
 unmade (action.Do file) = λ e. cc
 unmade (action.WhatIf file) = λ e. cc
 unmade (action.Import file csv) = λ e. cc
@@ -123,13 +124,14 @@ ran (Err f) e closed reported = subst (λ (y : Result Exit Fault). status y clos
 ran (Ok run) e closed reported = subst (λ (y : Result Exit Fault). status y closed ≢ 2) (sym reported) (run_exit run.failed (nat_lt 0 run.refused) closed)
 
 module _ {D : Type 0} {g : disk.Ghosts D} where
-  pub season_made : (held : List ℕ → Image) (a : Action) (file : Bor (List ℕ)) (phase : Phase) (year : ℕ) (days listed : List ℕ) (given : Given)
-      (e : Result Exit Fault) (closed : Result (Files D) (Error × FileStore D g)) (s : SeasonFacts) → a ≡ action.Init file phase year days → listed ≡ days
+  pub season_made : (held : List ℕ → Image) (a : Action) (file : Bor (List ℕ)) (phase : Phase) (year : ℕ) (days listed : List ℕ) (size : Size) (given : Given)
+      (e : Result Exit Fault) (closed : Result (Files D) (Error × FileStore D g)) (s sized : SeasonFacts) → a ≡ action.Init file phase year days size → listed ≡ days
       → given.input.new ≡ given.input.old → given.output.new ≡ given.output.old → (s.phase ≡ phase) × (s.year ≡ year) × IsRising listed s.holidays
-      → Creates (held file.now) s e closed → Does (held (file_of a)) a given e closed
-  season_made held a file phase year days listed given e closed s is same read written facts made =
+      → sized ≡ record s { size = size } → Creates (held file.now) sized e closed → Does (held (file_of a)) a given e closed
+  season_made held a file phase year days listed size given e closed s sized is same read written facts of_size made =
       let rising = subst (λ (l : List ℕ). IsRising l s.holidays) same facts.2 in
-      subst (λ (x : Action). Does (held (file_of x)) x given e closed) (sym is) (read, written, s, facts.0, facts.1, rising, made)
+      let creates = subst (λ (season : SeasonFacts). Creates (held file.now) season e closed) of_size made in
+      subst (λ (x : Action). Does (held (file_of x)) x given e closed) (sym is) (read, written, record s { size = size }, facts.0, facts.1, rising, refl, creates)
 
   created : (season : SeasonFacts) (found left : Held (FileStore D g)) (e : Result Exit Fault) (closed : Option Error) → CreatesAs season found left e
       → (status e closed ≡ 0) ⊎ (status e closed ≡ 1)
@@ -179,8 +181,8 @@ module _ {D : Type 0} {g : disk.Ghosts D} where
   -- what an action that was taken up did
   made : (image : Image) (a : Action) (given : Given) (e : Result Exit Fault) (closed : Result (Files D) (Error × FileStore D g)) → Does image a given e closed
       → ExitsBy (Ok a) (status e (error_of closed))
-  made image (action.Init file phase year days) given e closed does =
-      created does.2 does.6.found does.6.creates.left e (error_of closed) does.6.creates.made
+  made image (action.Init file phase year days size) given e closed does =
+      created does.2 does.7.found does.7.creates.left e (error_of closed) does.7.creates.made
   made image (action.Do file) given e closed does = lines_exit (AnswersLine (Handles file_state)) image given.input given.output e closed does
   made image (action.WhatIf file) given e closed does = lines_exit AnswersQuestionLine image given.input given.output e closed does
   made image (action.Import file csv) given e closed does = import_exit image (given.rows csv.now) given.output e closed does.1

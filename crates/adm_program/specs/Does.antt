@@ -24,7 +24,7 @@ use Rattle.adm_host.specs.declared.fault.Fault.{Fault}
 
 -- the path of the register's file that an action names
 abbrev pub file_of : Action → List ℕ
-file_of (action.Init file phase year days) = file.now
+file_of (action.Init file phase year days size) = file.now
 file_of (action.Do file) = file.now
 file_of (action.WhatIf file) = file.now
 file_of (action.Import file csv) = file.now
@@ -43,8 +43,8 @@ shown (Some number) = document.Draw number
 -- `init` creates the register of the season of its values, and reads and writes nothing else; `do` answers the lines, and `what-if` the questions;
 -- `import` imports the rows of the file at its path; `serve` serves connections; the others print a document of the register
 abbrev pub Does : {D : Type 0} {g : disk.Ghosts D} → Image → Action → Given → Result Exit Fault → Result (Files D) (Error × FileStore D g) → Type 0
-Does image (action.Init file phase year days) given e closed = (given.input.new ≡ given.input.old) × (given.output.new ≡ given.output.old)
-    × (season : SeasonFacts) × (season.phase ≡ phase) × (season.year ≡ year) × IsRising days season.holidays × Creates image season e closed
+Does image (action.Init file phase year days size) given e closed = (given.input.new ≡ given.input.old) × (given.output.new ≡ given.output.old)
+    × (season : SeasonFacts) × (season.phase ≡ phase) × (season.year ≡ year) × IsRising days season.holidays × (season.size ≡ size) × Creates image season e closed
 Does image (action.Do file) given e closed = OpensAndRuns (AnswersLine (Handles file_state)) image given.input given.output e closed
 Does image (action.WhatIf file) given e closed = OpensAndRuns AnswersQuestionLine image given.input given.output e closed
 Does image (action.Import file csv) given e closed = (given.input.new ≡ given.input.old) × ImportsInto image (given.rows csv.now) given.output e closed

@@ -133,8 +133,12 @@ fn run_action<D: Disk + Drop, R: Registers<D>, F: Rows, P: Ports, I: Input, O: O
             phase,
             year,
             holidays,
+            size,
         } => match Season::new(alloc, phase, year, holidays.as_slice()) {
-            Ok(season) => files.create(file, &season),
+            Ok(season) => {
+                let sized = season.of_size(size);
+                files.create(file, &sized)
+            }
             Err(fault) => Err(before_opening(Fault::from(fault), files)),
         },
         Action::Do { file } => do_lines(files, file, input, output),

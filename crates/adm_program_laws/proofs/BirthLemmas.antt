@@ -22,6 +22,7 @@ use Rattle.sqlite.specs.Schema.{Schema}
 use Rattle.sqlite_catalog.specs.Listing.{IsSound}
 use Rattle.adm_types.specs.Seasons.{SeasonFacts}
 use Rattle.adm_types.specs.declared.seasons.Phase.{Phase}
+use Rattle.adm_types.specs.declared.seasons.Size.{Size}
 use Rattle.adm_register.specs.State.{only_season}
 use Rattle.adm_schema.specs.Schema.{no_schema, schema_of}
 use Rattle.adm_schema.specs.declared.version.Version.TheVariants.{First}
@@ -137,22 +138,22 @@ module _ {D : Type 0} {g : Ghosts D} (seen : SeenMayStay g) where
         | inr migrated ↦ absurd (not_migrated before none found.0 found.1 start may.1 migrated)
       ]
 
-  init_ends : (before after : Image) (file : Bor (List ℕ)) (phase : Phase) (year : ℕ) (days : List ℕ) (around : Around) (status : ℕ) (remained : Remains D g)
-      → HoldsNone before → ActsOrFails g before (action.Init file phase year days) around status remained → MayRemain before remained after
-      → ∥ HoldsSeason phase year days after ⊎ HoldsNone after ∥₁
-  init_ends before after file phase year days around status (Closed closed) none acts may =
+  init_ends : (before after : Image) (file : Bor (List ℕ)) (phase : Phase) (year : ℕ) (days : List ℕ) (size : Size) (around : Around) (status : ℕ) (remained : Remains D g)
+      → HoldsNone before → ActsOrFails g before (action.Init file phase year days size) around status remained → MayRemain before remained after
+      → ∥ HoldsSeason phase year days size after ⊎ HoldsNone after ∥₁
+  init_ends before after file phase year days size around status (Closed closed) none acts may =
       let did = acts.does in
-      ∥∥₁_map (created_or_none before after did.2 acts.ended closed none did.6 may) (λ it. elim it [
-        | inl is ↦ inl (record { season = did.2; of_phase = did.3; of_year = did.4; holidays = did.5; file = is })
+      ∥∥₁_map (created_or_none before after did.2 acts.ended closed none did.7 may) (λ it. elim it [
+        | inl is ↦ inl (record { season = did.2; of_phase = did.3; of_year = did.4; holidays = did.5; of_size = did.6; file = is })
         | inr still ↦ inr still
       ])
-  init_ends before after file phase year days around status (Unopened remained) none fails may =
+  init_ends before after file phase year days size around status (Unopened remained) none fails may =
       ∥∥₁_map (none_stays before after remained none fails.left may) (λ still. inr still)
 
   pub init_leaves_lem : InitLeaves g
-  init_leaves_lem before after run file phase year days none it is =
+  init_leaves_lem before after run file phase year days size none it is =
       let follows = subst (λ read. FollowsFrom g before read run.around run.end) is it.follows in
-      init_ends before after file phase year days run.around run.end.status run.end.remains none follows it.left
+      init_ends before after file phase year days size run.around run.end.status run.end.remains none follows it.left
 
   pub init_again_lem : InitAgain g
   init_again_lem before after season e closed none it may = by e it.creates.made

@@ -261,7 +261,7 @@ module _ {D : Type 0} {g : disk.Ghosts D} where
       printed a none wanted (inr (desk, opened, it)) = unchanged a none desk desk opened refl it.1
 
       pub each : (a : Action) → Does image a this.around.given e closed → KeepsRun (Ok a) (remains.Closed closed)
-      each (action.Init file phase year days) did = record { answered = []; are = refl; leaves = not_created seen one image did.2 e closed did.6 }
+      each (action.Init file phase year days size) did = record { answered = []; are = refl; leaves = not_created seen one image did.2 e closed did.7 }
       each (action.Do file) (inl it) = unopened (action.Do file) (inl (no_answer it.1.1 it.0)) it.0
       each (action.Do file) (inr (desk, opened, it)) =
           let kept = kept_lines image desk opened it.after this.around.given.input this.around.given.output this.end.status it.run it.ends (run_status it.run it.reported) in

@@ -10,6 +10,7 @@ use Rattle.sqlite.specs.Files.{HoldsDatabase, IsEmpty, IsNothing}
 use Rattle.sqlite.specs.Tree.{Trees}
 use Rattle.adm_types.specs.Seasons.{SeasonFacts, IsRising}
 use Rattle.adm_types.specs.declared.seasons.Phase.{Phase}
+use Rattle.adm_types.specs.declared.seasons.Size.{Size}
 use Rattle.adm_register.specs.State.{only_season}
 use Rattle.adm_words.specs.declared.actions.Action.TheVariants as action
 use Rattle.adm_desk.specs.Files.{IsFileOf}
@@ -24,19 +25,20 @@ abbrev pub HoldsNone : Image → Type 0
 HoldsNone image = IsNothing image ⊎ ∥ ((db : Trees) × HoldsDatabase image db × IsEmpty db) ∥₁
 
 -- the files hold the register of a season of these values, and no other row
-pub record HoldsSeason (phase : Phase) (year : ℕ) (days : List ℕ) (image : Image) : Type 0 where
+pub record HoldsSeason (phase : Phase) (year : ℕ) (days : List ℕ) (size : Size) (image : Image) : Type 0 where
   pub season : SeasonFacts
   pub of_phase : season.phase ≡ phase
   pub of_year : season.year ≡ year
   pub holidays : IsRising days season.holidays
+  pub of_size : season.size ≡ size
   pub file : IsFileOf (only_season season) image
 
 module _ {D : Type 0} (g : disk.Ghosts D) where
   -- A run of `init` over such files, to its end or to a crash, leaves files of the register of its season, or such files again.
   abbrev pub InitLeaves : Type 0
   InitLeaves =
-      (before after : Image) (run : ProgramRun g) (file : Bor (List ℕ)) (phase : Phase) (year : ℕ) (days : List ℕ) → HoldsNone before → RunsOver g before run after
-      → run.read ≡ Ok (action.Init file phase year days) → ∥ HoldsSeason phase year days after ⊎ HoldsNone after ∥₁
+      (before after : Image) (run : ProgramRun g) (file : Bor (List ℕ)) (phase : Phase) (year : ℕ) (days : List ℕ) (size : Size) → HoldsNone before → RunsOver g before run after
+      → run.read ≡ Ok (action.Init file phase year days size) → ∥ HoldsSeason phase year days size after ⊎ HoldsNone after ∥₁
 
   -- Over such files, also ones that a killed `init` left, `init` never ends with InUse.
   abbrev pub InitAgain : Type 0

@@ -5,6 +5,7 @@ use Rattle.sqlite_disk.specs.declared.Disk as disk
 use Rattle.sqlite_wal.specs.Recovery.{Image}
 use Rattle.adm_types.specs.declared.commands.Command.{Command}
 use Rattle.adm_types.specs.declared.seasons.Phase.{Phase}
+use Rattle.adm_types.specs.declared.seasons.Size.{Size}
 use Rattle.adm_register.specs.State.{State as Register}
 use Rattle.adm_desk.specs.Files.{IsFileOf}
 use Rattle.adm_wire.specs.declared.streams.Output as output
@@ -29,8 +30,8 @@ module _ {D L : Type 0} {g : disk.Ghosts D} where
   -- The run did what its arguments say. Where the file of `init`, with its log, held no register, all that a crash may leave holds the register of its season, or none again.
   abbrev pub Begins : (List ℕ → Image) → Bor (List (Bor (List ℕ))) → (Errors → Errors → Around) → output.Ghosts L → L → L → RunEnd D g → Type 0
   Begins held arguments around l log log_new end = (did : ActsOn held arguments around l log log_new end)
-      × ((file : Bor (List ℕ)) (phase : Phase) (year : ℕ) (days : List ℕ) (after : Image) → did.read ≡ Ok (action.Init file phase year days) → HoldsNone (held_by_named held did.read)
-      → MayRemain (held_by_named held did.read) end.remains after → ∥ HoldsSeason phase year days after ⊎ HoldsNone after ∥₁)
+      × ((file : Bor (List ℕ)) (phase : Phase) (year : ℕ) (days : List ℕ) (size : Size) (after : Image) → did.read ≡ Ok (action.Init file phase year days size) → HoldsNone (held_by_named held did.read)
+      → MayRemain (held_by_named held did.read) end.remains after → ∥ HoldsSeason phase year days size after ⊎ HoldsNone after ∥₁)
 
   -- The run did what its arguments say. Where the file of `serve`, with its log, held a register, all that a crash may leave holds one that has each command to which the status 200 was written.
   abbrev pub Recalls : (List ℕ → Image) → Bor (List (Bor (List ℕ))) → (Errors → Errors → Around) → output.Ghosts L → L → L → RunEnd D g → Type 0

@@ -4,7 +4,7 @@ use Rattle.adm_program.proofs.run.run_action.Goals as goal
 
 pub returns-in-Ok-clause-ok : goal.returns-in-Ok-clause-ok
 returns-in-Ok-clause-ok g c =
-    if_ok (λ ended made. season_made (g.R.Registers.held c.args.files) _ _ _ _ _ _ _ _ _ c.in-Ok.season c.in-Init.is c.as_slice.ensures refl refl c.in-Ok.ensures.season made) c.create.result c.create.ensures.ok
+    if_ok (λ ended made. season_made (g.R.Registers.held c.args.files) _ _ _ _ _ _ _ _ _ _ c.in-Ok.season _ c.in-Init.is c.as_slice.ensures refl refl c.in-Ok.ensures.season c.of_size-sized.ensures made) c.create.result c.create.ensures.ok
 
 pub returns-in-Ok-clause-left : goal.returns-in-Ok-clause-left
 returns-in-Ok-clause-left g c = rw c.in-Init.is c.create.ensures.left

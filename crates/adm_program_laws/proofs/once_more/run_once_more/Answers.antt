@@ -8,7 +8,7 @@ returns-clause-kept g c =
 pub returns-clause-first : goal.returns-clause-first
 returns-clause-first g c =
     let did = c.run_arguments.ensures.does in
-    (did, λ file phase year days after is none left. c.first_runs.ensures.leaves _ after _ file phase year days none (record { follows = did.follows; left = left }) is)
+    (did, λ file phase year days size after is none left. c.first_runs.ensures.leaves _ after _ file phase year days size none (record { follows = did.follows; left = left }) is)
 
 pub returns-clause-found : goal.returns-clause-found
 returns-clause-found g c =
