@@ -108,7 +108,8 @@ def format_tables(document: dict[str, Any]) -> dict[str, list[str]]:
         least, most = (f"{one:,}" if isinstance(one, int) and name != "year" else one or ""
                        for one in (it.get("least"), it.get("most")))
         of = f" of {it['characters']}" if "characters" in it else ""
-        limits.append(f"| `{name}` | {least} | {most}{of} |")
+        large = f" (`large`: {it['large']:,})" if "large" in it else ""
+        limits.append(f"| `{name}` | {least} | {most}{of}{large} |")
     return {COMMANDS: [f"| {', '.join(names)} | {said} |" for said, names in commands.items()],
             LIMITS: limits}
 

@@ -51,13 +51,17 @@ LIMITS = (
         "… (is_from <preferences.least> <preferences.most> (length application.list)"
         " && is_without_repeat application.list, BadPreferences) …",
     ),
-    ("adm_commands/AddSchool.tests", "… (nat_lt (len old.schools) <schools.most>, RegisterFull) …"),
-    ("adm_commands/AddChild.tests", "tests_with_room <children.most> old child"),
+    (
+        "adm_commands/AddSchool.tests",
+        "… (nat_lt (len old.schools) (<schools.most> old.season.size), RegisterFull) …",
+    ),
+    ("adm_commands/AddChild.tests", "tests_with_room (<children.most> old.season.size) old child"),
     *(
         (
             f"adm_commands/{command}.tests",
             "… (nat_lt (draws_so_far old).draws <draws.most>"
-            " && nat_le ((draws_so_far old).lots + length numbers) <lots.most>, RegisterFull) …",
+            " && nat_le ((draws_so_far old).lots + length numbers) (<lots.most> old.season.size),"
+            " RegisterFull) …",
         )
         for command in ("Round", "Fill")
     ),
@@ -154,6 +158,15 @@ class Rules:
                     return int(value)
         raise FormError(f"{text} is no number, and no constant of {', '.join(CONSTANTS)}")
 
+    def sides(self, side: str, text: str) -> dict[str, int]:
+        """A side of a limit; with `large` beside it if a large register has another number."""
+        for file in CONSTANTS:
+            if f"{file}.{text}" in self.texts:
+                form = rf"{text} Standard = (\d+) {text} Large = (\d+)"
+                if found := re.fullmatch(form, self.body(f"{file}.{text}")):
+                    return {side: int(found[1]), "large": int(found[2])}
+        return {side: self.number(text)}
+
     def equations(self, place: str, form: str) -> Iterator[re.Match[str]]:
         """The equations of a definition, each of which must have a form, a regular expression."""
         name = place.split(".")[-1]
@@ -166,14 +179,17 @@ class Rules:
     # ---- limits
 
     def limits(self) -> dict[str, dict[str, int | str]]:
-        """The limits by their names, with `least` and `most`; days as YYYY-MM-DD."""
+        """The limits by their names, with `least` and `most`, and `large`, the most of a large
+        register, if that is more; days as YYYY-MM-DD.
+        """
         found: dict[str, dict[str, int]] = {}
         for place, form in LIMITS:
             for key, text in self.found_in(place, form).items():
-                name, _, side = key.partition(".")
-                value = self.number(text)
-                if found.setdefault(name, {}).setdefault(side, value) != value:
-                    raise FormError(f"{place}: {key} is {value}, and elsewhere {found[name][side]}")
+                name, _, part = key.partition(".")
+                for side, value in self.sides(part, text).items():
+                    known = found.setdefault(name, {}).setdefault(side, value)
+                    if known != value:
+                        raise FormError(f"{place}: {name}.{side} is {value}, and elsewhere {known}")
         found["number"] = {"most": 2 ** found["number"]["bits"] - 1}
         if found.pop("plain")["most"] != len(str(found["number"]["most"])):
             raise FormError("a plain number has not as many digits as the greatest number")

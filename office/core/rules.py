@@ -12,7 +12,7 @@ from typing import Any
 
 HERE = Path(__file__).resolve().parents[1]
 LIST = "list of "
-HOLE = re.compile(r"\{(\w+)(?:\.(least|most))?\}")
+HOLE = re.compile(r"\{(\w+)(?:\.(least|most|large))?\}")
 
 
 @dataclasses.dataclass(frozen=True)
