@@ -104,6 +104,6 @@ pub(crate) fn large<'a>(alloc: Global) -> Arg<'a>
 {
     Arg::new(alloc, "large")
         .long("large")
-        .help("A register for up to 40000 children and 1000 schools")
+        .help("For up to 40000 children and 1000 schools, not 2000 and 200")
         .action(ArgAction::SetTrue)
 }

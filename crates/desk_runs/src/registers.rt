@@ -13,7 +13,10 @@ pub(crate) use printed::print_register;
 use std::alloc::{AllocError, Global};
 
 fn is_same_season(one: &Season, other: &Season) -> bool {
-    one.phase() == other.phase() && one.year() == other.year() && one.holidays() == other.holidays()
+    one.phase() == other.phase()
+        && one.year() == other.year()
+        && one.holidays() == other.holidays()
+        && one.size() == other.size()
 }
 
 fn are_same_rows(one: &Rows, other: &Rows) -> bool {
