@@ -22,12 +22,8 @@ fn members(alloc: Global, season: &Season) -> Result<Map<String, Value>, AllocEr
     ensures { IfOk result (λ made. members_view made.entries ≡ season_members season.now) }
 {
     let mut object = Map::new(alloc);
-    serde_json::put(
-        &mut object,
-        alloc,
-        "closing",
-        season.closing().value(alloc)?,
-    )?;
+    let closing = season.closing().value(alloc)?;
+    serde_json::put(&mut object, alloc, "closing", closing)?;
     let holidays = list(alloc, season.holidays())?;
     serde_json::put(&mut object, alloc, "holidays", holidays)?;
     let end = season.lists_end().value(alloc)?;
@@ -48,12 +44,15 @@ fn with_size(
 ) -> Result<Map<String, Value>, AllocError>
     ensures { IfOk result (λ made. members_view made.entries ≡ size_members size (members_view others.entries)) }
 {
-    let mut object = others;
-    if size == Size::Large {
-        let large = Value::try_from_str(alloc, "large")?;
-        serde_json::put(&mut object, alloc, "size", large)?;
+    match size {
+        Size::Standard => Ok(others),
+        Size::Large => {
+            let mut object = others;
+            let large = Value::try_from_str(alloc, "large")?;
+            serde_json::put(&mut object, alloc, "size", large)?;
+            Ok(object)
+        }
     }
-    Ok(object)
 }
 
 fn phase_name(phase: Phase) -> &'static str
