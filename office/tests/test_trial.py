@@ -3,6 +3,7 @@ round with other numbers and criteria.
 """
 import collections
 import copy
+import dataclasses
 import subprocess
 from collections.abc import Callable, Mapping
 from pathlib import Path
@@ -15,7 +16,7 @@ from files import register_of
 from register_files import Refused
 
 from office.web.trials import trial
-from office.web.trials.registers import Program
+from office.web.trials.registers import Program, make_first
 
 # what is changed of each school: the field, and its value
 Changes = Mapping[str, tuple[str, Any]]
@@ -114,6 +115,34 @@ def test_the_first_round_of_the_example(
     text = trial.page(found, words, False)
     assert text.count("<svg") == 1 == text.count('role="img"')
     assert "<caption" in text and "<script" not in text
+
+
+def test_the_applications_come_from_several_files(
+    season: Path, monkeypatch: pytest.MonkeyPatch,
+) -> None:
+    """As those of a large register, which has more of them than a file has rows."""
+    registers = season / "before-1.db", season / "after-1.db"
+    whole, _ = held(*registers, CHANGES[1])
+    monkeypatch.setattr("office.web.trials.registers.MOST_ROWS", 7)
+    parts, _ = held(*registers, CHANGES[1])
+    assert list(parts.child_rows()) == list(whole.child_rows()) != []
+
+
+def test_the_trial_of_a_large_register_is_large(season: Path, tmp_path: Path) -> None:
+    words: list[tuple[object, ...]] = []
+
+    class Recorder(Program):
+        """Does nothing."""
+
+        def run(self, *arguments: object, **others: object) -> str:
+            words.append(arguments)
+            return ""
+
+    seen = register_of(season / "before-1.db", "before-1.db")
+    for is_large in (False, True):
+        register = dataclasses.replace(seen, is_large=is_large)
+        make_first(Recorder(""), str(tmp_path / str(is_large)), register, {})
+    assert ["--large" in it for it in words if it[0] == "init"] == [False, True]
 
 
 def see_schools(found: trial.Trial, plain: Any, changed: Any, rows: Mapping[int, Moved]) -> None:

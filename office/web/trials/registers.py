@@ -14,9 +14,11 @@ from register_files import Refused
 
 from office.core import child_fields, fields, model
 from office.core.model import PLAN, Pair, Register, School
+from office.core.rules import LIMITS
 from office.files import sheet
 
 SEED = "trial"
+MOST_ROWS = LIMITS["rows"].most
 Command = dict[str, Any]
 
 
@@ -77,14 +79,17 @@ def sent(program: Program, path: str, commands: Iterable[Command]) -> None:
 
 def make_first(program: Program, path: str, before: Register, schools: dict[str, School]) -> None:
     """A register with the data of one that had no round yet, and these schools."""
-    program.run("init", path, before.phase, before.year, *before.holidays)
+    size = ["--large"] * before.is_large
+    program.run("init", path, before.phase, before.year, *before.holidays, *size)
     sent(program, path, map(child_fields.command_of_school, schools.values()))
     cells = [child_fields.cells_of(before.children[it], found)
              for it, found in before.applications.items()]
     rows = [[it[column] for column in fields.COLUMNS] for it in cells]
-    with open(path + ".csv", "xb") as file:
-        file.write(sheet.csv_bytes([fields.COLUMNS, *rows]))
-    program.run("import", path, path + ".csv")
+    for begin in range(0, len(rows), MOST_ROWS):
+        name = f"{path}-{begin}.csv"
+        with open(name, "xb") as file:
+            file.write(sheet.csv_bytes([fields.COLUMNS, *rows[begin:begin + MOST_ROWS]]))
+        program.run("import", path, name)
     others = [child_fields.command_of("add_child", it) for it in before.children.values()
               if it.number not in before.applications]
     plans = [{"cmd": "name_plan", "child": child, "school": it.school}
