@@ -1,5 +1,5 @@
 // What no clause says: worked examples, and that clap refuses arguments that lack a value.
-use adm_types::{Phase, Size};
+use adm_types::Phase;
 use adm_words::{Action, WordsFault, action, fault_text};
 use std::test::Fail;
 
@@ -13,14 +13,12 @@ fn a_register_is_made(rt: HostRuntime) -> Result<(), Fail> {
                 phase,
                 year,
                 holidays,
-                size,
+                ..
             },
         ) => {
-            assert!(rt; file == "reg.db");
-            assert!(rt; phase == Phase::Secondary);
+            assert!(rt; file == "reg.db" && phase == Phase::Secondary);
             assert!(rt; year == 2025);
             assert!(rt; holidays.as_slice().is_empty());
-            assert!(rt; size == Size::Standard);
             Ok(())
         }
         _ => Err("a register")?,
@@ -62,55 +60,6 @@ fn holidays_keep_their_order(rt: HostRuntime) -> Result<(), Fail> {
     }
 }
 
-const LARGE: [(&[&str], usize); 4] = [
-    (
-        &["admissions", "init", "f", "primary", "2022", "--large"],
-        0,
-    ),
-    (
-        &["admissions", "init", "--large", "f", "primary", "2022"],
-        0,
-    ),
-    (
-        &[
-            "admissions",
-            "init",
-            "f",
-            "primary",
-            "2022",
-            "2022-04-18",
-            "--large",
-        ],
-        1,
-    ),
-    (
-        &[
-            "admissions",
-            "init",
-            "f",
-            "primary",
-            "2022",
-            "2022-04-15",
-            "--large",
-            "2022-04-18",
-        ],
-        2,
-    ),
-];
-
-#[test]
-fn a_large_register_is_made(rt: HostRuntime) {
-    for (words, days) in LARGE {
-        let is_large = match action(rt.alloc(), words) {
-            Ok(Action::Init { holidays, size, .. }) => {
-                size == Size::Large && holidays.as_slice().len() == days
-            }
-            _ => false,
-        };
-        assert!(rt; is_large);
-    }
-}
-
 #[test]
 fn lines_are_answered(rt: HostRuntime) -> Result<(), Fail> {
     match action(rt.alloc(), &["admissions", "do", "a b.db"]) {
@@ -146,7 +95,7 @@ fn years_are_from_2000_to_2100(rt: HostRuntime) {
     }
 }
 
-const WRONG: [&[&str]; 22] = [
+const WRONG: [&[&str]; 20] = [
     &[],
     &["admissions"],
     &["admissions", "open", "f"],
@@ -158,23 +107,6 @@ const WRONG: [&[&str]; 22] = [
     &["admissions", "init", "f", "secondary"],
     &["admissions", "init", "f", "Secondary", "2025"],
     &["admissions", "init", "f", "2025", "secondary"],
-    &[
-        "admissions",
-        "init",
-        "f",
-        "secondary",
-        "2025",
-        "--large=yes",
-    ],
-    &[
-        "admissions",
-        "init",
-        "f",
-        "secondary",
-        "2025",
-        "--large",
-        "--large",
-    ],
     &["admissions", "import", "f"],
     &["admissions", "letter", "f"],
     &["admissions", "list", "f", "A", "B"],
