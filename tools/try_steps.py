@@ -108,6 +108,7 @@ class Making:
     def __post_init__(self) -> None:
         # (what follows a step of a draw is waited for)
         self.app.extensions["office"].following.wait = LONGEST_WAIT
+        self.app.extensions["staging"].committing.wait = LONGEST_WAIT
         self.browsers: dict[str, Browser] = {}
         self.numbers = {it.number: it for it in try_season.children()}
 

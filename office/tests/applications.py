@@ -185,7 +185,8 @@ def site(folder: pathlib.Path, door: str) -> Iterator[Site]:
         found = app.create(config)
         office = Site(found)
         # (a test wants what came of a step)
-        for it in (office.parts.end.steps, office.parts.restoring, office.parts.copying):
+        for it in (office.parts.end.steps, office.parts.restoring, office.parts.copying,
+                   found.extensions["staging"].committing):
             it.wait = 600.0
         office.copied = copied
         try:

@@ -61,6 +61,7 @@ class Machine(try_machine.Machine):
         found.extensions["office"].restoring.wait = 600.0
         found.extensions["office"].copying.wait = 600.0
         found.extensions["office"].end.steps.wait = 600.0
+        found.extensions["staging"].committing.wait = 600.0
         try:
             yield Site(found)
         finally:

@@ -19,10 +19,13 @@ from collections.abc import Iterator
 from typing import Any
 
 import pytest
+import season_hands
 from applications import child, town
-from conftest import PROGRAM, ROOT, make
+from conftest import PROGRAM, ROOT, make, school
+from staged import csv_of
 
 from office.core import command_kinds, model, senders
+from office.web.applications.rows import COMMITTED
 from office.web.people import people, roles
 from office.web.register import history
 from office.web.register.store import Store
@@ -233,3 +236,94 @@ def test_killed_at_any_moment(room: Room, who: str) -> None:
         assert not thread.is_alive()
     see(room, done)
     assert len(done) >= least
+
+
+# twelve applications, of which each row is right
+APPLIED = [f"{at},Child {at},{at * 100},0,no,,,2024-10-01,OAK;ELM," for at in range(1, 13)]
+
+
+class Asked(list[str]):
+    """What is asked of the machine; at a request that is named something happens."""
+
+    def __init__(self) -> None:
+        super().__init__()
+        self.at, self.happens = "", lambda: None
+
+    def append(self, it: str) -> None:
+        """Something is asked."""
+        super().append(it)
+        if it == self.at:
+            self.at = ""
+            self.happens()
+
+
+def has_children(lived: season_hands.Room) -> bool:
+    """Whether the register has children. (It does not answer while it is copied.)"""
+    with contextlib.suppress(OSError, http.client.HTTPException):
+        return bool(lived.document()["children"])
+    return False
+
+
+def imports_of(record: list[history.Entry]) -> list[bool]:
+    """Of each import that was sent whether it is done, as the history says."""
+    came = {it.about["of"]: it for it in record if it.what in (history.ANSWER, history.SETTLED)}
+    sent = [came[it.number] for it in record
+            if it.what == history.SENDS and "import" in it.about]
+    return [it.about["done"] if it.what == history.SETTLED else commands_done(it.about["answer"])
+            for it in sent]
+
+
+@pytest.mark.parametrize("when", ["copy", "came", "passed", "answered"])
+def test_applications_are_added_whenever_the_application_is_killed(
+    tmp_path: pathlib.Path, when: str
+) -> None:
+    """While the register is copied, and at the request: before it passes, after it, and after its
+    answer. The next application goes on before anybody looks: all are in the register once, the
+    table has none of them, and the screen and the history say so; also to who presses again.
+    """
+    asked, dead = Asked(), threading.Event()
+    make(tmp_path / "reg.db", [school("OAK"), school("ELM")])
+    with season_hands.room(tmp_path / "machine", tmp_path / "reg.db", asked=asked) as lived:
+        lived.today("2024-11-07")
+        lived.begin("--person", "hal")
+        hal = lived.person("hal").arrive(lived.first_password())
+        hal.get("/applications/").press("Add the files", files={
+            "files/1": ("first.csv", csv_of(*APPLIED))})
+        hal.get("/applications/commit/")
+        sent = hal.sent("Add 12 applications")
+        assert lived.run
+        group = lived.run.pid
+
+        def kill() -> None:
+            os.killpg(group, signal.SIGKILL)
+            dead.set()
+
+        if when == "copy":
+            asked.at, asked.happens = "copy", kill
+        else:
+            lived.way.trap = 1, when, kill
+        with contextlib.suppress(OSError, http.client.HTTPException):
+            hal.ask("POST", *sent)
+        assert dead.wait(120)
+        lived.kill()
+        lived.begin()
+        until = time.monotonic() + 120
+        while not has_children(lived):
+            assert time.monotonic() < until
+            time.sleep(0.05)
+        page = hal.get("/applications/commit/").page
+        assert page.by_id["verdict"] == "There is nothing to add: no row is in the table."
+        assert "answer" not in page.by_id
+        assert hal.ask("POST", *sent).status in (303, 409)
+        assert [it["child"] for it in lived.document()["children"]] == list(range(1, 13))
+        assert [path for path, _ in lived.way.passed] == ["/import"]
+        lived.kill()
+        state = lived.machine.state
+    record = history.read(str(state / "history.jsonl"))
+    assert imports_of(record).count(True) == 1
+    [entry] = [it.number for it, is_done in zip(
+        (it for it in record if it.what == history.SENDS), imports_of(record)) if is_done]
+    store = Store(str(state / "office.db"))
+    rows = store.rows("SELECT DISTINCT state, entry FROM staged_row")
+    assert [tuple(it) for it in rows] == [(COMMITTED, entry)]
+    store.close()

@@ -2,6 +2,8 @@
 each request to the register, and whoever looks next goes on.
 """
 import contextlib
+import csv
+import io
 import pathlib
 from collections.abc import Callable, Iterator
 from typing import Any, cast
@@ -12,10 +14,13 @@ from register_files import Refused
 from served import served
 from test_desk import APPLIED, CHILDREN, JANE, ROUND, ROW, ROWS, SCHOOLS, about
 
-from office.core import command_kinds, senders
-from office.web.applications.commit import Imports
-from office.web.applications.rows import COMMITTED, OPEN
-from office.web.applications.staging import Staging
+from office.core import command_kinds, fields, senders
+from office.web.applications.commit import Committing
+from office.web.applications.files import Given
+from office.web.applications.imports import Imports
+from office.web.applications.rows import COMMITTED
+from office.web.applications.staging import Staging, insert
+from office.web.applications.table_check import Checker
 from office.web.copies.copies import Copies
 from office.web.machinery.jobs import Jobs
 from office.web.machinery.outbox import DONE, FAILED, WAITS, Item, Outbox
@@ -49,9 +54,10 @@ def draft(store: Store, found: desk.Desk, jobs: Jobs) -> Draft:
     return Draft(store, found, jobs, cast(Copies, Copied()))
 
 
-def imports(store: Store, found: desk.Desk, jobs: Jobs) -> Imports:
-    """The imports of the staging table."""
-    return Imports(Staging(store, found.history), found, jobs)
+def committing(store: Store, found: desk.Desk, jobs: Jobs) -> Committing:
+    """What stores the staging table, after a copy of the register."""
+    staging = Staging(store, found.history)
+    return Committing(staging, Checker(), Imports(staging, found, jobs), Copied().make)
 
 
 class Killed(BaseException):
@@ -108,8 +114,9 @@ def alive(
         for way in ("send", "imported"):
             patch.setattr(sender, way, life.around(counted(getattr(sender, way))))
         found = kind(store, desk.Desk(sender, record), Jobs())
+        box = getattr(found, "imports", found)
         for name in ("begin", "change", "revise"):
-            patch.setattr(found, name, life.around(getattr(found, name)))
+            patch.setattr(box, name, life.around(getattr(box, name)))
         try:
             yield found
         finally:
@@ -198,29 +205,32 @@ def test_each_school_of_a_draft_is_stored_once_whenever_the_application_is_kille
 def test_the_rows_of_an_import_are_stored_once_whenever_the_application_is_killed(
     address: str, tmp_path: pathlib.Path
 ) -> None:
-    """They are in the table or stored, and never both."""
+    """They are in the table or stored, and never both: once somebody has confirmed them, whichever
+    application goes on.
+    """
     lines: list[bytes] = []
-    with alive(tmp_path, address, Life(), kind=imports) as box, box.store.writing() as db:
-        db.execute("INSERT INTO staged_file VALUES (1, 'a.csv', '', 0, 0, '[]', '', '', NULL)")
-        db.executemany(
-            "INSERT INTO staged_row (file, number, cells, others, notes, state, who, added,"
-            " changed_by, changed) VALUES (1, ?, '{}', '{}', '[]', ?, '', '', '', '')",
-            [(at, OPEN) for at in (1, 2)])
+    rows = ROWS.replace("30,Ida,0,3000", "31,Idris,0,9000").partition("\n")[2]
+    with alive(tmp_path, address, Life(), kind=committing) as box:
+        found = [dict(fields.OMITTED, **it) for it in csv.DictReader(io.StringIO(ROWS + rows))]
+        with box.staging.writing() as db:
+            db.execute("INSERT INTO staged_file VALUES (1, 'a.csv', '', 0, 0, '[]', '', '', NULL)")
+            for number, it in enumerate(found, 2):
+                insert(db, 1, Given(number, it, {}, ()), "jane", "")
+        shown = box.found(box.desk.now())
+        box.imports.ask(JANE, shown.digest)
     for at, is_after in moments():
-        with alive(tmp_path, address, Life(at, is_after), lines, imports) as box:
+        with alive(tmp_path, address, Life(at, is_after), lines, committing) as box:
             try:
-                for it in box.open():
-                    box.settle(it)
-                if rows := box.staging.rows(OPEN):
-                    box.store_rows(JANE, rows, ROWS.encode(), {})
+                box.go_on()
                 break
             except Killed:
                 continue
-    with alive(tmp_path, address, Life(), kind=imports) as box:
+    with alive(tmp_path, address, Life(), kind=committing) as box:
         entries = [it.number for it in box.desk.history.done() if "import" in it.about]
-        found = box.store.rows("SELECT state, entry FROM staged_row")
-        assert at > 4 and lines == [ROWS.encode()] and len(entries) == 1 and box.open() == []
-        assert [tuple(it) for it in found] == [(COMMITTED, entries[0])] * 2
+        there = box.staging.store.rows("SELECT state, entry FROM staged_row")
+        assert at > 4 and lines == [shown.csv] and len(entries) == 1
+        assert box.imports.last() is None and {30, 31} <= box.desk.now().children.keys()
+        assert [tuple(it) for it in there] == [(COMMITTED, entries[0])] * 2
 
 
 @pytest.mark.parametrize("is_after", [False, True])

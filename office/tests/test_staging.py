@@ -33,11 +33,12 @@ from office.files import processes as apart
 from office.web.applications import table_check
 from office.web.applications import commit as staging_commit
 from office.web.applications import form as staging_form
+from office.web.applications import imports as staging_imports
 from office.web.applications import tools as staging_tools
 from office.web.applications.rows import COMMITTED, OPEN, SENDING, WITHDRAWN
 from office.web.frame import uploads
 from office.web.people.roles import Person
-from office.web.register import schema, store
+from office.web.register import history, schema, store
 from office.web.rounds import lot_sheets_apart
 
 TOWN = [school("OAK", name="Oak School"), school("ELM", name="Elm School", east=500),
@@ -896,7 +897,7 @@ def test_what_has_changed_is_not_stored(office: Site, screens: Screens) -> None:
         digest = screens.digest()
         assert change().status_code in (200, 303)
         found = screens.store(digest)
-        assert found.status_code == 409 and staging_commit.CHANGED in Seen(found.text).text
+        assert found.status_code == 409 and staging_imports.CHANGED in Seen(found.text).text
         assert "Add " in " ".join(Seen(found.text).buttons), "the new counts are shown"
     assert not imports(office)
     digest = screens.digest()
@@ -919,6 +920,12 @@ class Crash(BaseException):
     """The end of the application."""
 
 
+def ended(office: Site) -> None:
+    """Waits for the end of what is being stored."""
+    job = office.parts.jobs.last(staging_commit.ADDING)
+    assert job is None or job.is_over.wait(60)
+
+
 def as_before(path: pathlib.Path) -> None:
     """The application's file as a version before imports were in the outbox left it."""
     before = next(at for at, it in enumerate(schema.STEPS) if "staged_import" in it)
@@ -934,9 +941,10 @@ def as_before(path: pathlib.Path) -> None:
 def test_a_crash_while_it_is_stored(
     tmp_path: pathlib.Path, monkeypatch: pytest.MonkeyPatch, when: str, is_earlier: bool
 ) -> None:
-    """Before the sending nothing is stored, and the rows are there again; after it they are found
-    to be in the register. Nothing is sent twice, and nothing is lost. Also where the crash was that
-    of an earlier version.
+    """The application after it goes on by itself: before the sending the rows are sent, and after
+    it they are found to be in the register. Nothing is sent twice, and nothing is lost. Where the
+    crash was that of an earlier version, which did not keep what was confirmed, the rows that were
+    not sent are there again.
     """
     make(tmp_path / "reg.db", TOWN)
 
@@ -958,7 +966,7 @@ def test_a_crash_while_it_is_stored(
             elif when == "asked":
                 patch.setattr(desk.sender, "imported", asked)
             else:
-                patch.setattr(staging_commit.Imports, "change", crash)
+                patch.setattr(staging_imports.Imports, "change", crash)
             with pytest.raises(Crash):
                 screens.store(digest)
             assert states(office) == {SENDING: 12}
@@ -968,12 +976,13 @@ def test_a_crash_while_it_is_stored(
         with site(tmp_path, address) as office:
             office.passwords = passwords
             screens = Screens(office.browser("jane"))
-            if when == "before":
+            ended(office)
+            if when == "before" and is_earlier:
                 assert len(screens.see().rows()) == 12 and states(office) == {OPEN: 12}
+                assert staging_imports.CHANGED in screens.see("commit/").texts["answer"]
                 assert screens.store().status_code == 303
-            else:
-                assert screens.see().rows() == [] and "nothing to add" in screens.see(
-                    "commit/").text
+            assert screens.see().rows() == [] and "nothing to add" in screens.see("commit/").text
+            assert "answer" not in screens.see("commit/").texts
             assert states(office) == {COMMITTED: 12} and len(imports(office)) == 1
             entry = next(it.number for it in office.parts.history.entries if "import" in it.about)
             found = office.parts.store.rows("SELECT DISTINCT entry FROM staged_row")
@@ -983,7 +992,7 @@ def test_a_crash_while_it_is_stored(
 
 def test_a_crash_after_a_restore(tmp_path: pathlib.Path, monkeypatch: pytest.MonkeyPatch) -> None:
     """The same rows were stored before, and the register was restored since: they are not taken for
-    stored.
+    stored, and are sent once more.
     """
     make(tmp_path / "reg.db", TOWN)
     (tmp_path / "copy.db").write_bytes((tmp_path / "reg.db").read_bytes())
@@ -1007,9 +1016,92 @@ def test_a_crash_after_a_restore(tmp_path: pathlib.Path, monkeypatch: pytest.Mon
                 screens.store(digest)
         with site(tmp_path, address) as office:
             office.passwords = passwords
-            screens = Screens(office.browser("jane"))
-            assert len(screens.see().rows()) == 12 and screens.store().status_code == 303
+            ended(office)
+            assert len(imports(office)) == 2
             assert has(office.parts.desk.now()) == expected(GOOD)
+
+
+def test_what_takes_long_is_shown_and_goes_on(
+    office: Site, screens: Screens, monkeypatch: pytest.MonkeyPatch
+) -> None:
+    """The page that answers says how far it is, and at its end what came of it. Meanwhile nobody
+    adds anything else, and who presses again comes to the same page.
+    """
+    committing = office.app.extensions["staging"].committing
+    began, may_end = threading.Event(), threading.Event()
+
+    def slow(*_: str) -> int:
+        began.set()
+        assert may_end.wait(60)
+        return 1
+
+    screens.add(("a.csv", lines(GOOD)))
+    digest = screens.digest()
+    monkeypatch.setattr(committing, "wait", 0.0)
+    monkeypatch.setattr(committing, "copy", slow)
+    found = screens.store(digest)
+    assert found.status_code == 303 and began.wait(60)
+    answer = screens.browser.get(found.location)
+    assert answer.status_code == 200 and f'data-running="{found.location}"' in answer.text
+    page = Seen(answer.text)
+    assert ("begun by jane: the register is copied, and then 12 applications are added to it."
+            in " ".join(page.texts["work"].split()))
+    assert "question" not in page.texts and states(office) == {OPEN: 12}
+    assert "Applications are being added to the register, as jane has confirmed." in (
+        screens.browser.get("/applications/").text)
+    assert screens.store(digest).location == found.location
+    other = Screens(office.browser("bo")).store(digest)
+    assert other.status_code == 409 and staging_imports.CHANGED in other.text
+    may_end.set()
+    ended(office)
+    answer = screens.browser.get(found.location)
+    assert "data-running" not in answer.text
+    assert Seen(answer.text).texts["answer"] == "Added to the register: 12 applications."
+    assert len(imports(office)) == 1 and states(office) == {COMMITTED: 12}
+
+
+def test_a_failure_that_nobody_waited_for_is_told(
+    office: Site, screens: Screens, monkeypatch: pytest.MonkeyPatch
+) -> None:
+    """On the page of the question, until something is confirmed again: also after a restart."""
+    committing = office.app.extensions["staging"].committing
+    may_end = threading.Event()
+
+    def fails(*_: str) -> int:
+        assert may_end.wait(60)
+        raise Refused("there is no copy: the machine has not answered")
+
+    screens.add(("a.csv", lines(GOOD)))
+    with monkeypatch.context() as patch:
+        patch.setattr(committing, "wait", 0.0)
+        patch.setattr(committing, "copy", fails)
+        found = screens.store()
+        assert found.status_code == 303
+        may_end.set()
+        ended(office)
+    # (an application after this one knows of the last only what is stored)
+    committing.imports.ended_last = None
+    for _ in range(2):
+        page = screens.see(found.location.removeprefix("/applications/"))
+        assert page.texts["answer"] == (
+            "Nothing was added: there is no copy: the machine has not answered.")
+        assert "Add 12 applications" in page.buttons
+    assert screens.store(page.value("digest")).status_code == 303
+    assert "answer" not in screens.see("commit/").texts
+    assert len(imports(office)) == 1 and states(office) == {COMMITTED: 12}
+
+
+def test_what_a_restore_has_undone_is_not_told_as_added(office: Site, screens: Screens) -> None:
+    """A second press after it gets no answer of the first."""
+    screens.add(("a.csv", lines(GOOD)))
+    digest = screens.digest()
+    assert screens.store(digest).status_code == 303
+    record, store_ = office.parts.history, office.parts.store
+    with store_.writing() as db:
+        db.execute("UPDATE staged_row SET state=?, entry=NULL, version=version+1", (OPEN,))
+    record.add("hal", history.RESTORED, {"copy": 1, "position": 0})
+    found = screens.store(digest)
+    assert found.status_code == 409 and staging_imports.CHANGED in found.text
 
 
 def test_what_became_of_it_is_not_known(

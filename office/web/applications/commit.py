@@ -1,12 +1,9 @@
 """Storing the staging table in the register: what would be stored, shown whole before; one import,
 which is stored wholly or not at all; and what became of it.
 
-The rows are marked before they are sent, as a request of the outbox. Where the application ends
-before they are marked again, the history and the register say what became of them, and nothing is
-sent a second time.
+A job does it, also one of an application after this one.
 """
 import collections
-import contextlib
 import dataclasses
 import functools
 import hashlib
@@ -15,25 +12,24 @@ from collections.abc import Callable
 
 from register_files import Refused
 
-from office.core import child_fields, commands, days, fields, rules, texts
+from office.core import child_fields, days, fields, texts
 from office.core.model import PLAN, Register
 from office.files import sheet
-from office.web.machinery import outbox
-from office.web.machinery.jobs import Jobs
-from office.web.machinery.outbox import Item, Outbox, Request
+from office.web.machinery.outbox import DONE, FAILED, WAITS
+from office.web.machinery.step_jobs import WAIT_SECONDS
 from office.web.people.roles import Person
-from office.web.register.desk import DONE, REFUSED, Desk, Result
-from office.web.register.history import SENDS, Entry
+from office.web.register.desk import Away
 
-from .files import Note
+from .imports import CHANGED, Content, Import, Imports, digest_of
 from .row_check import values_of
-from .rows import COMMITTED, OPEN, SENDING, WITHDRAWN, Staged, packed_notes
+from .rows import OPEN, SENDING, WITHDRAWN, Staged, packed_notes
 from .staging import Staging
 from .table_check import Checked, Checker, Differences, Table, too_many
 
 # what the copy is for that is made before rows are sent, and without which nothing is sent
 PURPOSE = "before applications are added"
-CHANGED = "The table or the register has changed since it was shown, and nothing was added."
+# the job that adds what was confirmed
+ADDING = "applications"
 
 
 @dataclasses.dataclass(frozen=True)
@@ -65,9 +61,11 @@ class Commit:
         return sheet.csv_bytes([fields.COLUMNS, *(values_of(it.row) for it in self.rows)])
 
     @property
-    def points(self) -> dict[str, str]:
-        """Where the points of the children came from, by their numbers."""
-        return {it.row.fields["child"]: it.staged.point_words for it in self.rows}
+    def content(self) -> Content:
+        """What an import of the rows sends."""
+        return Content(
+            self.csv, {it.row.fields["child"]: it.staged.point_words for it in self.rows},
+            [it.staged.id for it in self.rows], [(it.id, it.version) for it in self.equal])
 
     @property
     def differing(self) -> list[tuple[Staged, Differences]]:
@@ -110,8 +108,8 @@ class Commit:
 
     @functools.cached_property
     def digest(self) -> str:
-        """The digest of all that is shown: the rows in their versions, and what it rests on."""
-        rows = [[it.id, it.version, it.state]
+        """The digest of all that is shown: what is in the rows, and what it rests on."""
+        rows = [[it.id, it.state, it.cells, it.point.packed(), packed_notes(it.notes)]
                 for it in (*(it.staged for it in self.table.rows.values()), *self.withdrawn)]
         shown = json.dumps([rows, self.csv.decode(), basis_of(self.register)])
         return hashlib.sha256(shown.encode()).hexdigest()
@@ -129,99 +127,6 @@ def basis_of(register: Register) -> list[object]:
     return [list(map(str, register.days)), schools, children, planned]
 
 
-@dataclasses.dataclass(frozen=True)
-class Outcome:
-    """What an attempt to store came to: whether it is stored, in words, by which entry of the
-    history, how many rows only left the table, and the row that the register refused.
-    """
-
-    is_done: bool
-    said: str
-    entry: int | None = None
-    out: int = 0
-    row: Staged | None = None
-
-
-class Imports(Outbox[Item]):
-    """The imports of one application: each is the one request of a batch, whose name its rows are
-    marked with, until it is known whether they are stored.
-    """
-
-    kind, item = "import", Item
-    gone = (outbox.WAITS, outbox.DONE, outbox.FAILED)
-
-    def __init__(self, staging: Staging, desk: Desk, jobs: Jobs) -> None:
-        super().__init__(staging.store, desk, jobs)
-        self.staging = staging
-        # what is sent now, and what came of it with its entry of the history, by batches
-        self.requests: dict[str, Request] = {}
-        self.results: dict[str, tuple[Result, Entry | None]] = {}
-
-    def request(self, it: Item) -> Request:
-        """The rows of an import, with where the points of their homes came from."""
-        return self.requests[it.batch]
-
-    def store_rows(
-        self, who: Person, rows: list[Staged], csv: bytes, points: dict[str, str],
-    ) -> tuple[Result, Entry | None]:
-        """Stores rows, all or none: what came of it, and the entry of the history."""
-        digest = digest_of(csv)
-        # (an earlier entry may have sent the same rows, to a register that was restored since)
-        batch = f"{len(self.desk.history.entries)} {digest}"
-        self.requests[batch] = {
-            "import": csv.decode(), **({"points": points} if points else {})}
-        with self.staging.writing() as db:
-            db.executemany("UPDATE staged_row SET state=?, sent=?, version=version+1 WHERE id=?",
-                           [(SENDING, batch, it.id) for it in rows])
-            self.put(batch, 0, {"digest": digest})
-        try:
-            self.send(who, self.of(batch))
-        except Refused:
-            # (where the rows cannot be marked it is found out later that they are stored)
-            if batch not in self.results:
-                raise
-        finally:
-            del self.requests[batch]
-        return self.results.pop(batch)
-
-    def ended(self, it: Item, result: Result) -> None:
-        """Keeps what came of an import."""
-        self.results[it.batch] = result, self.sent(it)
-        super().ended(it, result)
-
-    def change(self, it: Item, state: str, said: str, sent: int | None = None) -> None:
-        """Marks the rows of an import as stored, or gives them back to the table."""
-        is_done = state == DONE
-        with self.staging.writing() as db:
-            super().change(it, state, said, sent)
-            db.execute("UPDATE staged_row SET state=?, entry=?, version=version+1 WHERE state=?"
-                       " AND sent=?", (COMMITTED if is_done else OPEN, sent if is_done else None,
-                                       SENDING, it.batch))
-
-    def open(self) -> list[str]:
-        """The batches of which it is not known yet what came of them."""
-        rows = self.store.rows("SELECT batch FROM sending WHERE kind=?", self.kind)
-        return [it["batch"] for it in rows]
-
-    def settle(self, batch: object) -> None:
-        """Finds out whether the rows of an import are stored."""
-        for it in self.of(batch):
-            if it.state == outbox.WAITS:
-                # (the application ended before it was begun)
-                self.change(it, outbox.WAITS, "")
-        super().settle(batch)
-
-    def sent(self, it: Item) -> Entry | None:
-        """The last entry of the history that sent the rows of an import since it was marked, and
-        that no restore has undone. After a restore somebody else may have sent them.
-        """
-        history = self.desk.history
-        there = history.lineage()
-        return next((one for one in reversed(history.entries[it.after:])
-                     if one.what == SENDS and one.number in there and "import" in one.about
-                     and digest_of(one.about["import"].encode()) == it.about["digest"]), None)
-
-
 class Committing:
     """Stores the table of one application in its register."""
 
@@ -230,106 +135,106 @@ class Committing:
         copy: Callable[[str, str], object],
     ) -> None:
         self.staging, self.checker, self.imports = staging, checker, imports
-        self.desk, self.copy = imports.desk, copy
-        # what was stored last, by whom and its digest, for who presses twice
-        self.last: tuple[str, str, Outcome] | None = None
+        self.desk, self.jobs, self.copy = imports.desk, imports.jobs, copy
+        self.wait = WAIT_SECONDS
 
     def found(self, register: Register) -> Commit:
         """What would be stored now."""
         table = self.checker.table(self.staging.rows(OPEN), register)
         return Commit(table, self.staging.rows(WITHDRAWN), register)
 
-    def send(self, who: Person, digest: str) -> Outcome:
-        """Stores what has this digest, which is what the person saw: all of it or nothing. Nobody
-        changes the table or sends anything else meanwhile.
+    def send(self, who: Person, digest: str) -> Import:
+        """Has stored what has this digest, which is what the person saw: all of it or nothing. What
+        came of it, after some seconds at most; where it has failed, the person is told now.
+        """
+        try:
+            asked = self.imports.ask(who, digest[:len(digest_of(b""))])
+        except Refused as error:
+            said = str(error)
+            raise Refused(said if said == CHANGED else f"nothing was added: {said}") from error
+        if asked.is_open and not self.jobs.run(
+                ADDING, who.name, lambda: self.go_on(False), self.wait):
+            self.await_end()
+        found = self.imports.last()
+        if found is None or found.number != asked.number:
+            return asked
+        if found.state == FAILED:
+            self.imports.forget(found)
+        return found
+
+    def await_end(self) -> None:
+        """Waits some seconds for the end of what runs."""
+        job = self.jobs.last(ADDING)
+        if job:
+            job.is_over.wait(self.wait)
+
+    def wake(self) -> None:
+        """Goes on with what is open, unless that goes on."""
+        if self.imports.present() and not self.jobs.is_running(ADDING):
+            self.jobs.wake(ADDING, self.go_on)
+
+    def look(self) -> None:
+        """The same for who looks at the table, which waits some seconds for the end. (They hold no
+        lock of it.)
+        """
+        if self.imports.present() and not self.jobs.is_running(ADDING):
+            self.wake()
+            self.await_end()
+
+    def go_on(self, is_again: bool = True) -> None:
+        """Finds out what became of rows that were being sent, and stores what was confirmed. Nobody
+        changes the table or sends anything else meanwhile. What is refused here is still open.
         """
         with self.staging.lock, self.desk.lock:
-            if said := self.unknown():
-                return Outcome(False, said)
-            if self.last and self.last[:2] == (who.name, digest):
-                return self.last[2]
-            found = self.found(self.desk.now())
-            if found.digest != digest:
-                return Outcome(False, CHANGED)
-            if found.why_not or found.is_empty:
-                why = found.why_not or "the table has no row"
-                return Outcome(False, f"Nothing was added: {why}.")
-            if not found.rows:
-                self.take_out(found.equal)
-                return Outcome(True, "", None, len(found.equal))
-            self.copy(PURPOSE, who.name)
-            rows = [it.staged for it in found.rows]
-            came = self.came(found, *self.imports.store_rows(who, rows, found.csv, found.points))
-            if came.is_done:
-                self.last = who.name, digest, came
-            return came
+            if it := self.imports.present():
+                self.imports.settle(it.batch)
+            if (it := self.imports.present()) and not self.jobs.is_closed:
+                self.store(it, is_again)
 
-    def came(self, found: Commit, result: Result, entry: Entry | None) -> Outcome:
-        """What the sending came to."""
-        if result.outcome == DONE:
-            with contextlib.suppress(Refused):
-                self.take_out(found.equal)
-            return Outcome(True, result.said, entry.number if entry else None, len(found.equal))
-        if result.outcome != REFUSED:
-            return Outcome(False, result.said)
-        value = commands.read(result.answer)
-        row, why = refused_row(value, found.rows), why_refused(value)
-        if row is None:
-            return Outcome(False, f"Nothing was added: {why}.")
-        self.note(row, why)
-        return Outcome(False, f"Nothing was added: the register does not take {row.where}:"
-                       f" {why}.", row=row)
+    def store(self, it: Import, is_again: bool) -> None:
+        """Stores what was confirmed, if it is as it was shown, after a copy of the register."""
+        try:
+            found = self.found(self.desk.now())
+            if said := self.why_not(it, found):
+                self.imports.change(it, FAILED, said)
+                return
+            it = self.imports.compared(it, found.content)
+            if found.rows:
+                self.copy(PURPOSE, it.asker)
+        except Refused as error:
+            # (it goes on when the application does, and a register that begins beside it answers)
+            if self.jobs.is_closed or is_again and isinstance(error, Away):
+                raise
+            self.imports.change(it, FAILED, f"Nothing was added: {error}.")
+            return
+        if not found.rows:
+            self.imports.change(it, DONE, "")
+            return
+        result = self.imports.send_rows(it, found.content)
+        if result and not result.is_known:
+            raise Refused(result.said)
+
+    def why_not(self, it: Import, found: Commit) -> str:
+        """Why what was confirmed is not stored, in a sentence, or ""."""
+        if found.digest != it.shown:
+            return CHANGED
+        if why := found.why_not or ("the table has no row" if found.is_empty else ""):
+            return f"Nothing was added: {why}."
+        return self.desk.closed() if found.rows else ""
+
+    def under_way(self) -> Import | None:
+        """The import that is being done now, if one is."""
+        return self.imports.present() if self.jobs.is_running(ADDING) else None
 
     def unknown(self) -> str:
-        """Finds out what became of rows that were being sent when the application ended. What is
-        said where that is not known yet, or "".
-        """
-        if not self.imports.open():
+        """What is said of rows of which it is not known yet whether they are stored, or ""."""
+        it, job = self.imports.present(), self.jobs.last(ADDING)
+        if it is None:
             return ""
-        with self.staging.lock, self.desk.lock:
-            for batch in self.imports.open():
-                try:
-                    self.imports.settle(batch)
-                except Refused as error:
-                    return (f"Whether {self.sending()} of this table are in the register is not"
-                            f" known yet: {error}.")
-        return ""
-
-    def sending(self) -> str:
-        """How many rows are being sent, in words."""
-        return texts.count(self.staging.count(SENDING), "application")
-
-    def take_out(self, rows: list[Staged]) -> None:
-        """Marks rows as stored that the register has already."""
-        with self.staging.writing() as db:
-            db.executemany("UPDATE staged_row SET state=?, sent='', version=version+1 WHERE id=?",
-                           [(COMMITTED, it.id) for it in rows])
-
-    def note(self, row: Staged, why: str) -> None:
-        """Keeps with a row why the register does not take it, until it is saved again."""
-        notes = [*row.notes, Note("", f"the register does not take it: {why}", fault="refused")]
-        with self.staging.writing() as db:
-            db.execute("UPDATE staged_row SET notes=?, version=version+1 WHERE id=?",
-                       (packed_notes(notes), row.id))
-
-
-def digest_of(rows: bytes) -> str:
-    """The digest of rows."""
-    return hashlib.sha256(rows).hexdigest()
-
-
-def refused_row(value: object, rows: list[Checked]) -> Staged | None:
-    """The row that an answer names."""
-    number = value.get("row") if isinstance(value, dict) else None
-    return rows[number - 1].staged if isinstance(number, int) and (
-        0 < number <= len(rows)) else None
-
-
-def why_refused(value: object) -> str:
-    """Why rows were refused, in words."""
-    name = str(value.get("name", "")) if isinstance(value, dict) else ""
-    for group in ("refusals", "row_faults"):
-        if isinstance(value, dict) and name in rules.WORDS[group] and (
-                ("refused" in value) == (group == "refusals")):
-            return rules.in_words(group, name)[0]
-    return commands.in_words(value, None)
+        if job and not job.is_over.is_set():
+            return f"Applications are being added to the register, as {it.asker} has confirmed."
+        why = (job.refused.rstrip(".") if job else "") or "load this page again"
+        if it.state == WAITS:
+            return f"The applications that {it.asker} has confirmed are not added yet: {why}."
+        many = texts.count(self.staging.count(SENDING), "application")
+        return f"Whether {many} of this table are in the register is not known yet: {why}."

@@ -12,8 +12,9 @@ from office.web.machinery import numbers
 from office.web.people.guard import parts
 from office.web.schools import flags
 
-from .commit import Committing, Imports
+from .commit import Committing
 from .gazetteer import Gazetteer
+from .imports import Imports
 from .row_points import Points
 from .rows import OPEN
 from .staging import Staging
@@ -40,6 +41,8 @@ def begin(state: Any) -> None:
     gazetteer = Gazetteer(found.config.folder / "gazetteer", found.store, found.history)
     points = Points(staging, gazetteer, found.history)
     state.app.extensions["staging"] = Tools(staging, checker, committing, points)
+    # (what an application before this one has left)
+    committing.wake()
 
 
 def tools() -> Tools:

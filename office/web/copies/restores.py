@@ -11,7 +11,7 @@ from register_files import Refused
 
 from office.core import plain, texts
 from office.core.model import Register
-from office.web.applications.commit import digest_of
+from office.web.applications.imports import digest_of
 from office.web.applications.rows import COMMITTED, OPEN
 from office.web.machinery.jobs import Jobs
 from office.web.machinery.outbox import DONE, WAITS

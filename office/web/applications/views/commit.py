@@ -5,12 +5,15 @@ import flask
 from register_files import Refused
 from werkzeug.wrappers import Response
 
+from office.core.wording import sentence
+from office.web.machinery.outbox import DONE, FAILED
 from office.web.people.guard import needs, parts, person
 from office.web.people.roles import RECORD
 
 from .. import fault_kinds, latest
 from .. import page as staging_page
 from ..commit import Commit
+from ..imports import REFUSED, Import
 from ..latest import said_of_saved
 from ..rows import OPEN, Staged
 from ..tools import is_collecting, tools
@@ -19,25 +22,42 @@ screen = flask.Blueprint("applications_commit", __name__, url_prefix="/applicati
 Answer = str | Response | tuple[str, int]
 
 
-def page(text: str = "", refused: Staged | None = None) -> Answer:
-    """What would be stored, with what came of an attempt, or what was done last with the table."""
-    unknown, found, said = tools().committing.unknown(), None, [text] if text else []
+def page(text: str = "", failed: Import | None = None) -> Answer:
+    """What would be stored, with what came of an attempt, or what was done last with the table; or
+    that it is being stored.
+    """
+    committing, staging, args = tools().committing, tools().staging, flask.request.args
+    committing.look()
+    # (before the table is read: what ends meanwhile is in it)
+    work, unknown, found = committing.under_way(), committing.unknown(), None
+    said, failed = [text] if text else [], failed or committing.imports.failed()
     try:
-        found = tools().committing.found(parts().desk.now())
+        # (while the register is copied it cannot be read)
+        found = None if work else committing.found(parts().desk.now())
     except Refused as error:
         said.append(f"The register does not answer: {error}.")
-    staging, args = tools().staging, flask.request.args
-    done = latest.last(staging, args)
+    status = 409 if said else 200
+    if failed and not said:
+        said = [failed.said]
+    done, last = latest.last(staging, args), committing.imports.last()
     did = [said_of_saved(found.table, done.saved) if found else "", done.text]
+    if last and last.state == DONE and str(last.number) == args.get("adding"):
+        did = [latest.said_of_added(staging, last.sent or 0, len(last.out))]
     body = flask.render_template(
         "applications_commit.html", said=" ".join(said or filter(None, did)), is_bad=bool(said),
-        undo=latest.undo_of(staging, args), found=found, unknown=unknown,
-        closed=parts().desk.closed(), refused=refused, columns=staging_page.columns(),
+        undo=latest.undo_of(staging, args), found=found, work=work, unknown=unknown,
+        closed=parts().desk.closed(), columns=staging_page.columns(),
+        refused=refused_in(found) if found and failed and failed.sent else None,
         title_of=staging_page.title_of, names=names_of(found) if found else [],
         aside=fault_kinds.aside(found.wrong) if found else None,
         read_as=[(it.name, it.changes) for it in staging.files() if it.changes and it.counts[OPEN]],
         may_change=found is not None and is_collecting(found.register))
-    return body, 409 if said else 200
+    return body, status
+
+
+def refused_in(found: Commit) -> Staged | None:
+    """The row that the register has refused, until it is saved again."""
+    return next((it for it in found.wrong if any(note.fault == REFUSED for note in it.notes)), None)
 
 
 def names_of(found: Commit) -> list[tuple[str, int]]:
@@ -57,12 +77,15 @@ def show() -> Answer:
 @screen.post("/")
 @needs(RECORD)
 def store() -> Answer:
-    """Stores what was shown."""
+    """Stores what was shown, and says what came of it, or that it goes on."""
     try:
         found = tools().committing.send(person(), flask.request.form.get("digest", ""))
     except Refused as error:
-        return page(f"Nothing was added: {error}.")
-    if not found.is_done:
-        return page(found.said, found.row)
-    return flask.redirect(
-        flask.url_for("applications.show", done=found.entry, out=found.out or None), 303)
+        return page(sentence(str(error)))
+    if found.state == FAILED:
+        return page(found.said, found)
+    if found.is_open:
+        to = flask.url_for("applications_commit.show", adding=found.number)
+    else:
+        to = flask.url_for("applications.show", done=found.sent, out=len(found.out) or None)
+    return flask.redirect(to, 303)

@@ -150,6 +150,7 @@ def show() -> Answer:
 
 def rows_of(show: str = "") -> Answer:
     """The rows of a state, and what was done last."""
+    tools().committing.look()
     found = latest.last(tools().staging, flask.request.args)
     return page(found.text, saved=found.saved, show=show, is_added=found.is_added)
 
