@@ -15,7 +15,7 @@ import subprocess
 import sys
 import threading
 import time
-from collections.abc import Iterator
+from collections.abc import Callable, Iterator
 from typing import Any
 
 import pytest
@@ -247,7 +247,8 @@ class Asked(list[str]):
 
     def __init__(self) -> None:
         super().__init__()
-        self.at, self.happens = "", lambda: None
+        self.at = ""
+        self.happens: Callable[[], object] = str
 
     def append(self, it: str) -> None:
         """Something is asked."""

@@ -101,7 +101,8 @@ def change(register: Register, days: list[str], before: list[str]) -> str:
             )
         new = pathlib.Path(room, "reg.db")
         size = ["--large"] * season.is_large
-        call(program("admissions"), "init", new, season.phase, season.year, *days, *size, as_user=USER)
+        call(program("admissions"), "init", new, season.phase, season.year, *days, *size,
+             as_user=USER)
         done = call(program("admissions-restore"), new, register.file, as_user=USER)
     kept = done.stdout.strip().partition("; ")[2]
     return f"made {register.file} anew, with the holidays {', '.join(days) or 'none'}; {kept}"
