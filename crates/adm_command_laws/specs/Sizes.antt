@@ -1,4 +1,4 @@
--- What holds of a register of the standard size: it has the limits that every register had before there were two sizes, and stays of its size.
+-- A register of the standard size has the limits of that size, and each register keeps its size.
 use Rattle.std.specs.Prelude.{◌≡◌, ◌≤◌}
 use Rattle.std.specs.FinMap.{len}
 use Rattle.adm_types.specs.declared.commands.Command.{Command}
