@@ -1,6 +1,6 @@
 // An act: what is done to a register, read from the words of a step.
 use adm_csv::read_rows;
-use adm_types::{Command, Phase, Row, Season, Seq, Size};
+use adm_types::{Command, Phase, Row, Season, Seq};
 use adm_wire::{Watched, read_command};
 use std::alloc::{AllocError, Global};
 
@@ -34,19 +34,11 @@ fn season_of(alloc: Global, phase: Option<Phase>, year: Option<u32>) -> Option<S
     }
 }
 
-fn size_of(words: &str) -> (&str, Size) {
-    match words.strip_suffix(" large") {
-        Some(words) => (words, Size::Large),
-        None => (words, Size::Standard),
-    }
-}
-
-/// The register of a season without holidays, as `secondary 2025` or `secondary 2025 large`.
+/// The register of a season without holidays, as `secondary 2025`.
 pub(crate) fn creation(alloc: Global, words: &str) -> Option<Act> {
-    let (words, size) = size_of(words);
     let (phase, year) = words.split_once(' ').unwrap_or((words, ""));
     match season_of(alloc, phase_of(phase), year_of(year)) {
-        Some(season) => Some(Act::Create(season.of_size(size))),
+        Some(season) => Some(Act::Create(season)),
         None => None,
     }
 }
@@ -84,7 +76,7 @@ pub(crate) fn importing(alloc: Global, rows: &str) -> Option<Act> {
     }
 }
 
-/// `create PHASE YEAR`, `create PHASE YEAR large`, `import ROWS`, or a command as JSON.
+/// `create PHASE YEAR`, `import ROWS`, or a command as JSON.
 pub(crate) fn act_of(alloc: Global, words: &str) -> Option<Act> {
     match words.split_once(' ') {
         Some(("create", words)) => creation(alloc, words),
