@@ -152,7 +152,7 @@ def test_a_plain_setup_asks_for_holidays_and_a_role(
     )
     named = completed(
         monkeypatch,
-        "none\nnone\n",
+        "no\nnone\nnone\n",
         "x",
         "--phase",
         "primary",
@@ -165,7 +165,7 @@ def test_a_plain_setup_asks_for_holidays_and_a_role(
         "--role",
         "head",
     )
-    assert (named.holiday, named.authority) == ([], None)
+    assert (named.large, named.holiday, named.authority) == (False, [], None)
 
 
 def test_a_name_that_no_register_has_is_named_before_anything_is_asked(

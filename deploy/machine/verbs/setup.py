@@ -1,17 +1,17 @@
 """Makes a register on this machine, with its site, its users, its units and
 its timers.
 
-  admissions-admin setup [NAME] [--phase PHASE --year YEAR] [--large] [--holiday DAY]..
-    [--site HOST] [--authority TEXT] [--user USER --role ROLE]
+  admissions-admin setup [NAME] [--phase PHASE --year YEAR] [--holiday DAY]..
+    [--large] [--site HOST] [--authority TEXT] [--user USER --role ROLE]
   admissions-admin setup [NAME] --copy FILE [--history FILE]
 
-It asks on a terminal for what is not given; without one, holidays must be
-given too, or none. A holiday outside of the season, one on a weekend and a NAME
-with another year are shown before. A register is for at most 2,000 children and 200
+It asks on a terminal for what is not given; without one, holidays must be given
+too, or none. A holiday outside of the season, one on a weekend and a NAME with
+another year are shown before. A register is for at most 2,000 children and 200
 schools, late ones included; with --large, for 40,000 and 1,000. It cannot be
-changed later, and a season cannot be divided. It makes what is missing, and changes
-nothing that is there: typed twice, it does nothing the second time. Each
-register has a NAME, such as secondary-2025, a HOST of its own, such as
+changed later, and a season cannot be divided. It makes what is missing, and
+changes nothing that is there: typed twice, it does nothing the second time.
+Each register has a NAME, such as secondary-2025, a HOST of its own, such as
 secondary.admissions.example, and people of its own. USER is the first of them,
 who adds the others on the screen People of the site: a password is drawn,
 printed once, and changed by whoever signs in with it. TEXT is the name of the
