@@ -36,7 +36,8 @@ UNSEALED = {
           " supervisor alone, and are not in this.",
 }
 # how the page calls what the register has
-NAMES = {"year": "Year of entry", "gave_up": "Schools given up", "draws": "Rounds and offers"}
+NAMES = {
+    "year": "Year of entry", "gave_up": "Schools declined or left", "draws": "Rounds and offers"}
 NAMED = re.compile(r"\bchild (\d+)\b", re.I)
 # a form has no file, and a row is one of a file
 FORM = ""

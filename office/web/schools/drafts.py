@@ -15,13 +15,12 @@ from office.web.copies.safeguard import copied
 from office.web.machinery.jobs import Jobs
 from office.web.machinery.outbox import WAITS, Item, Outbox, Request
 from office.web.people.roles import Person
-from office.web.register.desk import DIFFERS, DONE, Desk, Result
+from office.web.register.desk import DIFFERS, DONE, Away, Desk, Result
 from office.web.register.store import Store
 
 from . import rows as schools
 from .rows import FLAG, Cells, Line
 
-MOST = LARGE["schools"].most
 PURPOSE = "before schools are stored"
 THERE = Result(DONE, "The register has it already, with the same data.")
 CHANGED = Result(DIFFERS, "The line was changed or removed since it was shown. Nothing was stored"
@@ -76,13 +75,21 @@ class Draft(Outbox[Item]):
 
     def add(self, given: Iterable[Cells]) -> None:
         """Adds lines, all or none."""
+        most = self.most()
         with self.store.writing() as db:
             for it in given:
                 self.put(DRAFT, 0, it)
             db.execute("UPDATE sending SET place=number WHERE kind=? AND place=0", (self.kind,))
-            if (count := len(self.left(DRAFT))) > MOST:
-                raise Refused(f"a register has at most {MOST:,} schools, and the draft would have"
+            if (count := len(self.left(DRAFT))) > most:
+                raise Refused(f"a register has at most {most:,} schools, and the draft would have"
                               f" {count:,}")
+
+    def most(self) -> int:
+        """How many schools the register can have: as any can where it does not answer."""
+        try:
+            return self.desk.register().most("schools")
+        except Away:
+            return LARGE["schools"].most
 
     def correct(self, number: int, cells: Cells, seen: str) -> None:
         """Replaces a line that is still as it was seen."""

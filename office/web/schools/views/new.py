@@ -145,8 +145,8 @@ def add() -> Answer:
 
 def add_many(given: list[Cells], source: str) -> None:
     """Schools of a file, which is no longer than the history can have for good."""
-    if len(given) > drafts.MOST:
-        raise Refused(f"a register has at most {drafts.MOST} schools, and the file has"
+    if len(given) > (most := draft().most()):
+        raise Refused(f"a register has at most {most:,} schools, and the file has"
                       f" {len(given):,}")
     if any(len(text) > MOST_CELL for it in given for text in it.values()):
         raise Refused(f"a cell of a school has at most {MOST_CELL:,} characters")
