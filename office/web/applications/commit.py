@@ -145,7 +145,7 @@ class Committing:
 
     def send(self, who: Person, digest: str) -> Import:
         """Has stored what has this digest, which is what the person saw: all of it or nothing. What
-        came of it, after some seconds at most; where it has failed, the person is told now.
+        came of it, after some seconds at most; where it has failed, the page says so at once.
         """
         try:
             asked = self.imports.ask(who, digest[:len(digest_of(b""))])
