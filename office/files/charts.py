@@ -145,7 +145,7 @@ def school_map(
         size = side * ground.scale
         parts.append(rect(x, y, size, size, f"shade s{shade_of(it, top)}"))
     parts += marks(ground, schools)
-    parts.append(ground.scale_bar())
+    parts.append(ground.scale_bar((east, north) for _, east, north in schools))
     if cells:
         parts += shades(ground, min(cells.values()), top)
     text = description.format(side=f"{side:,}", cells=len(cells))

@@ -41,6 +41,10 @@ def label(x: float, y: float, words: str, kind: str = "", at: str = "start") -> 
     return f'<text class="{kind}" x="{x:.1f}" y="{y:.1f}" text-anchor="{at}">{escape(words)}</text>'
 
 
+# so far from its point the name of a mark of a map may reach, in units of the picture
+BESIDE = 48
+
+
 class Ground:
     """The ground of a map: from metres on the national grid to the picture."""
 
@@ -70,15 +74,23 @@ class Ground:
             found.append(line(0, y, self.width, y, "grid"))
         return "".join(found)
 
-    def scale_bar(self) -> str:
-        """A length of about a sixth of the picture, and where north is, in the lower left corner.
+    def scale_bar(self, marks: Iterable[tuple[float, float]]) -> str:
+        """A length of about a sixth of the picture, and where north is: in the lower left corner,
+        or in the next one where none of the marks is, which are points with a name.
         """
         lengths = (500, 1000, 2000, 5000, 10_000, 20_000, 50_000)
         metres = max((it for it in lengths if it * self.scale <= self.width / 5), default=500)
-        x, y, long = 16, self.height - 16, metres * self.scale
+        long, named = metres * self.scale, [self.at(*it) for it in marks]
+        wide, high = long + 54, 34
+        corners = [(x, y) for y in (self.height - 8 - high, 8.0)
+                   for x in (6.0, self.width - 6 - wide)]
+        left, top = next(((x, y) for x, y in corners if not any(
+            x - BESIDE < east < x + wide + BESIDE and y - BESIDE < north < y + high + BESIDE
+            for east, north in named)), corners[0])
+        x, y = left + 10, top + high - 8
         words = f"{metres // 1000} km" if metres >= 1000 else f"{metres} m"
         return (
-            f'{rect(6, y - 26, long + 54, 34, "plate", round_by=3)}'
-            f'<path class="axis" d="M{x} {y - 6:.1f}v6h{long:.1f}v-6"/>'
+            f'{rect(left, top, wide, high, "plate", round_by=3)}'
+            f'<path class="axis" d="M{x:.1f} {y - 6:.1f}v6h{long:.1f}v-6"/>'
             f'{label(x + long / 2, y - 8, words, "", "middle")}'
             f'<path class="north" d="M{x + long + 18:.1f} {y:.1f}l7-22 7 22-7-5z"/>')

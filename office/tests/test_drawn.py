@@ -88,6 +88,22 @@ def test_the_map_of_a_school_has_each_home_in_reach() -> None:
     assert abs(float(circle.get("r", "")) - 1500 * 720 / 4000) < 0.1
 
 
+def test_the_scale_of_a_map_covers_no_school() -> None:
+    """It is in the lower left corner, or in the next one where no school with its name is."""
+    for east, is_left in ((2800, False), (5000, True)):
+        ways = [pictures.Way("FAR", 6000, 5000, "below"), pictures.Way("NEAR", east, 1500, "below")]
+        found = parsed(str(pictures.child_map("m", "Homes", "said", (2000, 5000), ways)))
+        [plate] = (it for it in found.iter(f"{SVG}rect") if it.get("class") == "plate")
+        x, y, wide, high = (float(plate.get(it, "")) for it in ("x", "y", "width", "height"))
+        assert (x < 100) is is_left and y > 300, east
+        for it in found.iter(f"{SVG}text"):
+            if it.text in ("FAR", "NEAR"):
+                # (a letter is at most 9 wide, and a name is 13 high)
+                middle, foot, half = float(it.get("x", "")), float(it.get("y", "")), 18
+                assert (middle + half < x or middle - half > x + wide
+                        or foot < y or foot - 13 > y + high), it.text
+
+
 def test_a_flow_is_as_thick_as_its_counts() -> None:
     """From each node of the left to each of the right, within both; and nothing where nobody went.
     """

@@ -90,7 +90,7 @@ def authority_map(
             parts.append(rect(x, y, side, side, f"shade s{shade}", f"{many:,} homes"))
     for it in schools:
         parts.append(ring(ground, it))
-    parts.append(ground.scale_bar())
+    parts.append(ground.scale_bar((it.east, it.north) for it in schools))
     return svg(name, ground.width, ground.height, title, text, parts, "map")
 
 
@@ -226,7 +226,7 @@ def child_map(
     for it in ways:
         parts.append(school(ground, it, it.north < home[1]))
     parts.append(f'<path class="dwelling" d="M{x - 8:.1f} {y + 7:.1f}v-8l8-8 8 8v8z"/>')
-    parts.append(ground.scale_bar())
+    parts.append(ground.scale_bar((it.east, it.north) for it in ways))
     return svg(name, ground.width, ground.height, title, text, parts, "map")
 
 
@@ -301,7 +301,7 @@ def school_map(
         above = it.kind == "criterion"
         at = y - it.metres * ground.scale - 8 if above else y + it.metres * ground.scale + 20
         parts.append(label(x, at, it.words, "halo strong", "middle"))
-    parts.append(ground.scale_bar())
+    parts.append(ground.scale_bar((e, n) for _, e, n in others))
     drawn = svg(name, ground.width, ground.height, title, text, parts, "map")
     return drawn, len(homes) - len(inside)
 
