@@ -292,21 +292,31 @@ def test_lots_come_from_a_sheet(small: Machine) -> None:
         assert zipfile.is_zipfile(io.BytesIO(found.data))
 
 
-def test_the_sheet_of_lots_is_on_record(small: Machine) -> None:
-    """It names each child with its schools: who downloads it is on record, once an hour for each
-    form of it.
+def test_the_files_of_a_draw_are_on_record(small: Machine) -> None:
+    """The sheet of lots, the sealed lots and the audit name children with their schools: who
+    downloads one is on record, once an hour for each.
     """
     with small.office() as office:
         number = begun(office)
         brought(office, number, "lots")
-        sup = at_lots(office)
-        for kind in ("xlsx", "csv", "xlsx"):
-            assert sup.get(f"/lots/{number}/sheet.{kind}").status_code == 200
+        sup, rita = at_lots(office), office.browser("rita", "reader")
+        sheets = [f"/lots/{number}/sheet.{it}" for it in ("xlsx", "csv")]
+        seals = [f"/{it}/{number}/sealed.txt" for it in ("lots", "draws")]
+        audit = f"/draws/{number}/audit.txt"
+        for path in (*sheets, sheets[0]):
+            assert sup.get(path).status_code == 200
+        assert sup.get(seals[0]).status_code == rita.get(seals[1]).status_code == 404
+        brought(office, number, "rehearsed")
+        for browser, path in ((sup, seals[0]), (rita, seals[1]), (rita, audit), (rita, audit)):
+            assert browser.get(path).status_code == 200
         found = [(it.who, it.about) for it in office.parts.history.entries
                  if it.what == "took a file"]
-        assert found == [("sup", {"of": f"/lots/{number}/sheet.{it}"}) for it in ("xlsx", "csv")]
+        assert found == [("sup", {"of": it}) for it in (*sheets, seals[0])] + [
+            ("rita", {"of": it}) for it in (seals[1], audit)]
         page = office.browser("hal", "head").get("/activity/").text
-        assert page.count("Downloaded a sheet of lots") == 2
+        for said, count in (("a sheet of lots", 2), ("the sealed lots of a round or offer", 2),
+                            ("the audit of a round or offer", 1)):
+            assert page.count(f"Downloaded {said}") == count
 
 
 def test_each_of_several_fills_has_a_sheet_that_names_it(small: Machine) -> None:

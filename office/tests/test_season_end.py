@@ -33,6 +33,7 @@ from office.web.copies.copies import Copies
 from office.web.letters import sets as letters_sets
 from office.web.parts import Config, Parts
 from office.web.people import roles
+from office.web.people.guard import HEADERS
 from office.web.register import history
 from office.web.register.store import Store
 from office.web.rounds.terms import Terms
@@ -97,11 +98,14 @@ def at(office: Site, day: datetime.date, monkeypatch: pytest.MonkeyPatch) -> Non
 
 
 def taken(office: Site, head: Person) -> bytes:
-    """The last copy is made, and the archive by itself, which is taken."""
+    """The last copy is made, and the archive by itself, which is taken; no cache keeps it."""
     office.parts.end.today = lambda: TODAY
     head.press("copy")
     assert office.parts.end.get().made_by == "hal"
-    return bytes(head.press("archive/file", 200, kept=WHERE).data)
+    found = head.press("archive/file", 200, kept=WHERE)
+    assert {name: found.headers.getlist(name) for name in HEADERS} == {
+        name: [value] for name, value in HEADERS.items()}
+    return bytes(found.data)
 
 
 # what is open

@@ -66,8 +66,9 @@ OF_BOTH = "signing.signed_in"
 # what has more than one child, and is downloaded, is on record: each by a person or a program once
 # an hour; of the register's own answers also those that begin so
 EXPORTS = ("register.register", "register.draw", "register.pairs", "register.waiting", "lists.csv",
-           "lists.workbook", "lots.sheet_file", "schools.workbook", "trials.workbook",
-           "trials.pdf", "activity.workbook")
+           "lists.workbook", "lots.sheet_file", "lots.sealed_text", "draws.sealed",
+           "draws.audit_text", "schools.workbook", "trials.workbook", "trials.pdf",
+           "activity.workbook")
 ROUNDS, EXPORT_SECONDS = "/round/", 3600
 # what somebody may do whose password was drawn by somebody else
 BEFORE_CHANGE = ("signing.password", "signing.sign_out", "signing.signed_in")

@@ -146,6 +146,9 @@ LABELS = {
 COUNTS = ("answers", "chosen", "done", "pairs", "pan", "rows")
 # the steps that have the same values before and after them
 PAIRS = {"named flags": ("before", "words"), "changed the draft of schools": ("before", "now")}
+# the files of a draw by the ends of their addresses
+OF_DRAWS = {"sealed.txt": "the sealed lots of a round or offer",
+            "audit.txt": "the audit of a round or offer"}
 # what is between two values that are kept as one text
 CHANGE = '" to "'
 # a program may send texts of a megabyte, and a page has many entries: so much of each is shown
@@ -264,6 +267,8 @@ def own_words(it: Entry) -> str:
 def file_of(path: str, names: Names) -> str:
     """A file that somebody has downloaded, by its address."""
     first, *rest = path.strip("/").split("/")
+    if rest and rest[-1] in OF_DRAWS:
+        return OF_DRAWS[rest[-1]]
     if first == "lists" and rest:
         return f"the list ‘{on_screen.title(rest[0])}’"
     if first == "schools" and rest:

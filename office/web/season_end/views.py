@@ -12,7 +12,7 @@ from office.core import days
 from office.core.model import Register
 from office.core.wording import day_of, moment, sentence
 from office.web.machinery import numbers
-from office.web.people.guard import needs, parts, person
+from office.web.people.guard import needs, of_file, parts, person
 from office.web.people.roles import CONFIRM, END, Person
 from office.web.rounds import second as draws_second
 from office.web.rounds.second import Second
@@ -168,5 +168,5 @@ def take() -> Answer:
         path = parts().end.take(person(), seen(), typed("kept"))
     except Refused as error:
         return refused(error)
-    return flask.send_file(path, mimetype="application/zip", as_attachment=True,
-                           download_name=path.name)
+    headers = {"Content-Disposition": f'attachment; filename="{path.name}"'}
+    return of_file(path.open("rb"), "application/zip", headers)
