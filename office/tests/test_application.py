@@ -993,6 +993,18 @@ def test_nobody_keeps_an_office_out(office: Site) -> None:
     assert ["Too many attempts" in it for it in said] == [False] * 5 + [True] * 2
 
 
+def test_a_look_at_the_form_is_no_attempt(office: Site) -> None:
+    """Nor one at its head alone, which a page of any site can have a browser send."""
+    eve, given = Browser(office.app), {"name": office.add("jane", "officer")}
+    given["password"] = office.passwords["jane"]
+    for method in ("GET", "HEAD"):
+        for _ in range(7):
+            found = eve.client.open("/sign-in", method=method, base_url=ORIGIN, data=given)
+            assert found.status_code == 200 and "Set-Cookie" not in found.headers, method
+    assert set(office.parts.failures.counts().values()) == {0}
+    assert eve.sign_in("jane", office.passwords["jane"]).status_code == 303
+
+
 def test_who_does_not_wait_keeps_nobody_else_waiting() -> None:
     """Two requests a second for a working day, behind the address of an office."""
     moment = [0.0]

@@ -37,7 +37,8 @@ def sign_in() -> Answer:
     """The form, and the begin of a session."""
     request = flask.request
     to = own_path(request.values.get("to", "/"))
-    if request.method == "GET":
+    # (also one for the head alone, which a page of any site can send)
+    if guard.is_look():
         return sign_in_page(to, "", "")
     name = request.form.get("name", "").strip().lower()
     browser, names = browser_of()
