@@ -164,6 +164,10 @@ def test_children_to_look_at_are_found_by_group(town: Machine) -> None:
         # (a page has fifty rows; who may not read notes is not told who has one)
         assert [len(shown.at(it).tables["By child"]) - 1 for it in ("", "page=3")] == [50, 29]
         assert "With a note" not in office.browser("rita", "reader").get(f"/draws/{number}").text
+        # (names of the address that mean something to what makes addresses)
+        odd = "_external=1&_scheme=http&_anchor=x&endpoint=x&number=1&self=1&values=1"
+        assert f'href="/draws/{number}?{odd.replace("&", "&amp;")}&amp;what=none#children"' in (
+            shown.at(odd).text)
         none = shown.children("what=none")
         assert none and all(it[2] == "none" and "Why not " in it[4] for it in none)
         # (what other pages show is of before it, and they say so)

@@ -2,6 +2,7 @@
 schools with their places, and the children in groups, found by words, in an order, on pages.
 """
 import dataclasses
+import urllib.parse
 from collections.abc import Callable, Collection, Mapping, Sequence
 from typing import Any
 
@@ -61,9 +62,11 @@ KNOWN_LATER, OF_LATER = ("pan", "plans", "vacancies", "waiting"), ("moves", "kep
 
 def address(draw: Draw, **given: str | None) -> str:
     """The address of the rows of the children, with what was chosen before."""
+    # (what is in the address is text: no name of it means anything to what makes addresses)
     kept = {name: text for name, text in flask.request.args.items() if name != "page"}
-    values: dict[str, Any] = {**kept, **given}
-    return flask.url_for("draws.one", number=draw.number, _anchor="children", **values)
+    asked = {name: text for name, text in {**kept, **given}.items() if text is not None}
+    query = f"?{urllib.parse.urlencode(asked)}" if asked else ""
+    return f"{flask.url_for('draws.one', number=draw.number)}{query}#children"
 
 
 def figures(draw: Draw, whole: Whole) -> list[tuple[str, str, str, str, str]]:
