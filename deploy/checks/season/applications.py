@@ -182,7 +182,7 @@ def plans(office: Office) -> None:
     named = [(children[9], "A"), (children[33], "DEAN")]
     hal.open("/")
     hal.press("Record EHC plans")
-    hal.tab_to("A column of numbers or names, or rows as 23 Bo Bell ELM decline")
+    hal.tab_to("Paste a column of numbers or names, or rows such as 23 Bo Bell ELM decline")
     hal.type("\n".join(f"plan,{it.number},{school},{it.name}" for it, school in named))
     hal.press_by_keys("Add to the batch")
     hal.press("Record 2 answers")
