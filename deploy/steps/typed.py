@@ -3,7 +3,8 @@
 
 Runs a command on a terminal of its own and prints what that terminal shows. Each line of the file
 ANSWERS is typed where a question waits: once what is shown ends in ': ' or '? ' and nothing
-follows. The exit status is that of the command, or 1 where an answer was not asked for.
+follows. After the last one the input has ended, so that one question too many does not wait for
+ever. The exit status is that of the command, or 1 where an answer was not asked for.
 """
 import os
 import pty
@@ -12,6 +13,8 @@ import sys
 
 # so long a question has no more text
 SILENCE = 0.5
+# what a terminal takes for the end of the input
+END = "\4"
 
 
 def typed(answers: list[str], command: list[str]) -> int:
@@ -21,10 +24,10 @@ def typed(answers: list[str], command: list[str]) -> int:
         os.execvp(command[0], command)
     shown = b""
     while True:
-        is_question = shown.endswith((b": ", b"? ")) and bool(answers)
+        is_question = shown.endswith((b": ", b"? "))
         ready, _, _ = select.select([terminal], [], [], SILENCE if is_question else None)
         if not ready:
-            os.write(terminal, f"{answers.pop(0)}\n".encode())
+            os.write(terminal, (f"{answers.pop(0)}\n" if answers else END).encode())
             shown = b""
             continue
         try:
