@@ -630,7 +630,8 @@ def promises_fixture(project: typing.Any, monkeypatch: pytest.MonkeyPatch) -> ty
 def test_a_fill_takes_the_first_as_it_is_claimed(promises: typing.Any) -> None:
     """From the sentence of the promise to the clause, the definition, and what it assumes."""
     it = promises()
-    claim = next(one for one in it.claims() if one["claim"] == "No queue jumping")
+    claim = next(
+        one for one in it.claims() if one["claim"] == "Waiting lists follow the criteria")
     said = claim["sentences"][1]
     assert said["text"].startswith("A fill offers a vacancy to the first child that waits")
     named = {one["name"]: one["by"] for one in said["clauses"]}

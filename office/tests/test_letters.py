@@ -554,9 +554,9 @@ Oak School first meeting no criterion of the school 150 m position 1 of 1
 Why no place: the last place was offered to a child living within 100 metres of the school, and such
 children rank before yours.
 A waiting list follows the same order, whenever you applied. A position can rise or fall as other
-families apply or move. If your child is offered a place from a waiting list later, it replaces the
-place at Elm School, even if you have accepted that one. If you do not want this, ask us to remove
-your child from the list.
+families apply, move or decline places, or as data are corrected. If your child is offered a place
+from a waiting list later, it replaces the place at Elm School, even if you have accepted that one.
+If you do not want this, ask us to remove your child from the list.
 Your right to appeal
 You may appeal to an independent panel against the refusal of a place at this school, whether or not
 you accept another place. Write to the address above within 20 school days of the date of this
