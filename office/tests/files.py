@@ -1,5 +1,5 @@
-"""Registers as files: an empty one of the program, with rows as docs/reference/FORMATS.md describes
-them, also those to which no commands lead.
+"""Registers as files: an empty one of the program, with rows as its tables have them, also those to
+which no commands lead.
 """
 import datetime
 import functools

@@ -104,7 +104,7 @@ def test_each_button_and_link_that_a_topic_names_is_on_a_screen() -> None:
         *folder.rglob("*.py"), *folder.rglob("*.html")) for text in texts_of(path)).lower()
     named = [(it.name, " ".join("".join(words).split())) for it in topics.topics().values()
              for words in PRESSED.findall(it.text)]
-    assert len(named) > 50
+    assert len(named) > 40
     for name, words in named:
         for part in NAMES.split(words.lower()):
             assert part.strip(" .:?") in shown, (name, words)
