@@ -178,6 +178,18 @@ def test_a_part_with_headers_that_no_browser_sends_is_refused_unread(
         assert UNREADABLE in Page(found.text).text.lower()
 
 
+@pytest.mark.parametrize("given", ["", "; boundary", "; boundary=", '; boundary=""'])
+def test_a_form_without_a_boundary_is_refused(jane: Browser, given: str) -> None:
+    """By whoever sends it, in the application's own words and headers."""
+    headers = {"Origin": ORIGIN, "Accept": "text/html"}
+    for path, is_signed_in in (("/sign-in", False), ("/command", False), ("/flags/", True)):
+        client = jane.client if is_signed_in else jane.client.application.test_client()
+        found = client.post(path, base_url=ORIGIN, headers=headers, data=b"a=b",
+                            content_type=f"multipart/form-data{given}")
+        assert (found.status_code, found.headers["Cache-Control"]) == (400, "no-store"), path
+        assert UNREADABLE in Page(found.text).text.lower()
+
+
 def test_a_boundary_within_a_line_is_refused(jane: Browser) -> None:
     """What follows it would be looked through again with each part that is read: 16 MB for half a
     minute, in which nobody else is answered. A browser takes one that is in no file.

@@ -114,6 +114,9 @@ class Fields(FormDataParser):
     ) -> Any:
         """The fields and files of a body."""
         length = content_length or 0
+        # (the library takes it to be there)
+        if mimetype == FILES and not (options or {}).get("boundary"):
+            raise BadRequest(UNREADABLE)
         if mimetype != FORM or length > (self.max_content_length or 0):
             # (the library has another name of such forms, which no browser sends)
             kind = mimetype if mimetype in (FORM, FILES) else ""
