@@ -6,6 +6,7 @@ import html
 import io
 import pathlib
 import re
+import resource
 from collections.abc import Iterator
 from typing import Any
 
@@ -17,8 +18,11 @@ from letter_site import (
     typed,
 )
 from pages import Page, press
+from register_files import Refused
 from test_letter_templates import number_of, own
 
+from office.files.sheet import Row
+from office.web.letters import addresses as letters_addresses
 from office.web.letters import taken_back
 from office.web.letters import pdf as letter_pdf
 from office.web.letters.examples import ADDRESS, DAY, OFFERED, SENDER
@@ -250,6 +254,29 @@ def test_addresses_are_shown_before_they_are_stored(office: Site) -> None:
         r"<input[^>]*>", "", found.text)
     assert press(jane, "", Page(found.text), button).status_code == 303
     assert stored.all() == {2: ["2 Low St", "Bee", "B"], 4: ["1 High St", "Ayton", "AA1 1AA"]}
+
+
+def test_a_form_keeps_no_more_rows_than_a_sheet_has(office: Site) -> None:
+    """A sheet at its limits is stored; more rows or cells are refused before they fill the memory,
+    and what is no text of rows as soon.
+    """
+    jane, path = office.browser("jane"), "/letters/addresses/"
+    row = b"," * 248 + b"\n"
+    data = b"child,street\n1,1 [High] Street\n" + b"".join(b" " + row for _ in range(4_000))
+    found = jane.post(path, {"way": "whole", "file": (io.BytesIO(data), "a.csv")})
+    assert press(jane, "", Page(found.text), "Store 1 address").status_code == 303
+    cells = ["x"] * 9
+    rows = [Row(1, ["child", *cells]), *(Row(it, [str(it), *cells]) for it in range(2, 25_001))]
+    assert len(letters_addresses.unpacked(letters_addresses.packed(rows))) == 25_000
+    before = resource.getrusage(resource.RUSAGE_SELF).ru_maxrss
+    many = ["[" + "[0,[]]," * 2_000_000 + "[0,[]]]", '[[0,["' + '","' * 4_000_000 + '"]]]',
+            '[["' + '\\"' * 4_000_000, "[" * 4_000_000]
+    for text in many:
+        with pytest.raises(Refused, match="choose the file once more"):
+            letters_addresses.unpacked(text)
+    assert resource.getrusage(resource.RUSAGE_SELF).ru_maxrss - before < 100_000, "kilobytes"
+    found = jane.post(path, {"way": "child", "rows": f"[{'[0,[]],' * 200_000}[0,[]]]"})
+    assert found.status_code == 422 and "choose the file once more" in found.text
 
 
 def test_an_address_with_half_of_a_character_is_not_stored(office: Site) -> None:

@@ -1,12 +1,15 @@
 """Where letters go: the lines of the address of each child, from a sheet of the office."""
 import dataclasses
 import hashlib
+import itertools
 import json
+import re
 from collections.abc import Iterable, Mapping, Sequence
 
 from register_files import Refused
 
 from office.core import texts
+from office.files import inputs
 from office.files.sheet import Row
 from office.web.applications.table_check import LOST
 from office.web.people.roles import Person
@@ -18,6 +21,11 @@ from . import pdf
 # (more lines than a window of an envelope shows)
 MOST_LINES, MOST_CHARACTERS = 8, 100
 NAME = "the file"
+# of the cells that a form keeps, with the commas between them and their rows
+MOST_KEPT = 2 * (inputs.MOST_CELLS + inputs.MOST_COLUMNS + inputs.MOST_ROWS)
+# a text of JSON with its quotes, or from its first one to the end of all where it has no other: so
+# each letter is looked at once
+STRING = re.compile(r'"[^"\\]*+(?:\\.[^"\\]*+)*+(?:"|\\?\Z)', re.DOTALL)
 
 
 def columns_of(rows: list[Row]) -> list[str]:
@@ -68,12 +76,42 @@ def doubts(rows: list[Row], names: Mapping[int, str]) -> list[tuple[int, str]]:
 
 
 def packed(rows: list[Row]) -> str:
-    """The rows of a sheet as a form keeps them between the look and the storing."""
-    return json.dumps([[it.number, it.cells] for it in rows])
+    """The rows of a sheet as a form keeps them between the look and the storing; without empty
+    cells at the end of a row, which no limit of a sheet counts.
+    """
+    header, *others = rows
+    return json.dumps([[header.number, header.cells], *([it.number, filled(it.cells)]
+                                                        for it in others)])
+
+
+def filled(cells: list[str]) -> list[str]:
+    """The cells of a row up to the last one that has something."""
+    used = len(cells)
+    while used and not cells[used - 1].strip():
+        used -= 1
+    return cells[:used]
+
+
+def is_kept(text: str) -> bool:
+    """Whether a text may be that of the rows of a sheet, and can be read: it has no more rows and
+    cells than one has. Short ones without end would take many times the memory of the text.
+    """
+    rows = cells = at = 0
+    for it in itertools.chain(STRING.finditer(text), (None,)):
+        start, end = it.span() if it else (len(text), len(text))
+        rows += text.count("[", at, start)
+        # (a cell, and a comma before it or before its row)
+        cells += 1 + text.count(",", at, start)
+        at = end
+        if rows > 2 * inputs.MOST_ROWS + 1 or cells > MOST_KEPT:
+            return False
+    return True
 
 
 def unpacked(text: str) -> list[Row]:
     """The rows that a form has kept."""
+    if not is_kept(text):
+        raise Refused("choose the file once more")
     try:
         found = [Row(number, cells) for number, cells in json.loads(text)]
         is_right = all(isinstance(it.number, int) and isinstance(it.cells, list) and
