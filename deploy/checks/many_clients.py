@@ -23,8 +23,8 @@ LONG = 8
 DONE, BUSY = (200, '{"done":true}'), (503, '{"busy":true}')
 REFUSED = 503, ('{"reason":"you have asked for very much at once: try again in a minute",'
                 '"status":503}')
-# so many requests of a program are served, or wait beside these
-WAIT = 208
+# so many requests of programs are served, or wait for that
+WAIT = 200
 ROUTES = ("/child/1", "/child/2/letter", "/school/A/waiting", "/round/1")
 
 
@@ -94,7 +94,7 @@ def crowd_fixture(world: World) -> Crowd:
         world.continue_desk()
 
 
-def test_of_300_at_once_on_a_suspended_desk_208_wait_and_get_their_answer(crowd: Crowd) -> None:
+def test_of_300_at_once_on_a_suspended_desk_200_wait_and_get_their_answer(crowd: Crowd) -> None:
     assert collections.Counter(it.status for it in crowd.program) == {200: WAIT, 503: 300 - WAIT}
     assert {(it.status, it.body) for it in crowd.program if it.status == 503} == {REFUSED, BUSY}
 

@@ -60,15 +60,16 @@ class Http:
         """How errors name it, or what is read from it."""
         return self.called or f"{self.url}{path}"
 
-    def connection(self) -> http.client.HTTPConnection:
+    def connection(self, seconds: float) -> http.client.HTTPConnection:
         """A connection that is not open yet."""
-        return http.client.HTTPConnection(self.host, self.port, timeout=ANSWER_SECONDS)
+        return http.client.HTTPConnection(self.host, self.port, timeout=seconds)
 
     def ask(
-        self, method: str, path: str, body: bytes | None = None, kind: str = JSON
+        self, method: str, path: str, body: bytes | None = None, kind: str = JSON,
+        seconds: float = ANSWER_SECONDS,
     ) -> tuple[int, bytes]:
-        """The status and the body of a response."""
-        conn = self.connection()
+        """The status and the body of a response, for which it waits so long."""
+        conn = self.connection(seconds)
         try:
             conn.connect()
         except OSError as error:
@@ -114,14 +115,14 @@ class Http:
 class UnixConnection(http.client.HTTPConnection):
     """A connection by the name of a socket."""
 
-    def __init__(self, path: str) -> None:
-        super().__init__("127.0.0.1", timeout=ANSWER_SECONDS)
-        self.path = path
+    def __init__(self, path: str, seconds: float) -> None:
+        super().__init__("127.0.0.1", timeout=seconds)
+        self.path, self.seconds = path, seconds
 
     def connect(self) -> None:
         """Opens it."""
         self.sock = socket.socket(socket.AF_UNIX, socket.SOCK_STREAM)
-        self.sock.settimeout(ANSWER_SECONDS)
+        self.sock.settimeout(self.seconds)
         self.sock.connect(self.path)
 
 
@@ -132,6 +133,6 @@ class Door(Http):
         super().__init__("http://127.0.0.1")
         self.path = path
 
-    def connection(self) -> http.client.HTTPConnection:
+    def connection(self, seconds: float) -> http.client.HTTPConnection:
         """A connection that is not open yet."""
-        return UnixConnection(self.path)
+        return UnixConnection(self.path, seconds)

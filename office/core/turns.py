@@ -16,7 +16,8 @@ from register_files import Refused
 SECONDS, MOST_WAITING, MOST_OF_ONE = 10.0, 16, 6
 # so many requests of one person, or of one program, are served at once
 MOST_SERVED = 8
-# a program sends much at once: so many of all programs wait beside those who are served, so long
+# a program sends much at once: so many of all programs are served or wait for that, so long. All
+# other threads are for people
 PROGRAM_SECONDS, MOST_OF_PROGRAMS = 300.0, 200
 # the person whom this thread serves a screen, or "" of a program that is served, and while nobody
 # is known; another thread, as that of a draw, serves None and waits until its turn comes
@@ -46,17 +47,25 @@ class Waiting:
     @contextlib.contextmanager
     def one_more(self, who: str, said: str) -> Iterator[None]:
         """A place among those that wait, or a refusal where there is none."""
+        self.enter(who, said)
+        try:
+            yield
+        finally:
+            self.leave(who)
+
+    def enter(self, who: str, said: str) -> None:
+        """Takes such a place."""
         with self.lock:
             is_full = bool(who) and self.counts[who] >= self.most_of_one
             if is_full or self.counts.total() >= self.most:
                 raise Busy(said)
             self.counts[who] += 1
-        try:
-            yield
-        finally:
-            with self.lock:
-                self.counts[who] -= 1
-                self.counts = +self.counts
+
+    def leave(self, who: str) -> None:
+        """Gives it back."""
+        with self.lock:
+            self.counts[who] -= 1
+            self.counts = +self.counts
 
 
 WAITING = Waiting(MOST_WAITING, MOST_OF_ONE)
@@ -66,9 +75,8 @@ OF_PROGRAMS = Waiting(MOST_OF_PROGRAMS, MOST_OF_PROGRAMS)
 class Turn:
     """A lock or a semaphore, and what is said to who waits for it too long."""
 
-    def __init__(self, lock: Lock, said: str, is_of_program: bool = False) -> None:
+    def __init__(self, lock: Lock, said: str) -> None:
         self.lock, self.said = lock, f"{said}: try again in a minute"
-        self.is_of_program = is_of_program
 
     def __enter__(self) -> None:
         self.acquire()
@@ -97,11 +105,31 @@ class Turn:
         if who is None:
             self.lock.acquire()
             return
-        waiting, seconds = (
-            (OF_PROGRAMS, PROGRAM_SECONDS) if self.is_of_program else (WAITING, SECONDS))
-        with waiting.one_more(who, self.said):
-            if not self.lock.acquire(timeout=seconds):
+        with WAITING.one_more(who, self.said):
+            if not self.lock.acquire(timeout=SECONDS):
                 raise Busy(self.said)
+
+
+class OfProgram(Turn):
+    """The turn of a program at being served, which has one of the places of all programs meanwhile
+    and while it waits.
+    """
+
+    def acquire(self, blocking: bool = True) -> bool:
+        OF_PROGRAMS.enter("", self.said)
+        is_taken = False
+        try:
+            is_taken = self.lock.acquire(blocking, PROGRAM_SECONDS if blocking else -1)
+        finally:
+            if not is_taken:
+                OF_PROGRAMS.leave("")
+        if blocking and not is_taken:
+            raise Busy(self.said)
+        return is_taken
+
+    def release(self) -> None:
+        super().release()
+        OF_PROGRAMS.leave("")
 
 
 class Served:
@@ -114,9 +142,8 @@ class Served:
     def of(self, who: str, is_program: bool) -> Turn:
         """That of a person, or of a program."""
         with self.lock:
-            return self.turns.setdefault(who, Turn(
-                threading.BoundedSemaphore(MOST_SERVED), "you have asked for very much at once",
-                is_program))
+            return self.turns.setdefault(who, (OfProgram if is_program else Turn)(
+                threading.BoundedSemaphore(MOST_SERVED), "you have asked for very much at once"))
 
 
 SERVED = Served()

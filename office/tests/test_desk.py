@@ -89,9 +89,9 @@ class Reads:
         self.moment = desk.clock()
         ask = desk.sender.ask
 
-        def asked(method: str, path: str, *more: Any) -> tuple[int, bytes]:
+        def asked(method: str, path: str, *more: Any, **limits: Any) -> tuple[int, bytes]:
             self.paths.append(path)
-            return ask(method, path, *more)
+            return ask(method, path, *more, **limits)
 
         monkeypatch.setattr(desk.sender, "ask", asked)
         monkeypatch.setattr(desk, "clock", self.clock)

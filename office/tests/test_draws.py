@@ -577,8 +577,8 @@ def test_what_is_wrong_is_said_without_a_path(
         brought(office, number, "copied")
         ask = office.parts.desk.sender.ask
         with monkeypatch.context() as patch:
-            patch.setattr(office.parts.desk.sender, "ask", lambda method, path, *more: (
-                (500, b"") if path == "/pairs" else ask(method, path, *more)))
+            patch.setattr(office.parts.desk.sender, "ask", lambda method, path, *more, **limits: (
+                (500, b"") if path == "/pairs" else ask(method, path, *more, **limits)))
             unnamed(office, hal.step(number, "go-on"),
                     "The register cannot be read: the server answered")
         stand_in = small.folder / "broken"

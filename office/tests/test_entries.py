@@ -58,9 +58,9 @@ class Pair:
         self.paths: list[str] = []
         ask = self.desk.sender.ask
 
-        def asked(method: str, path: str, *more: Any) -> tuple[int, bytes]:
+        def asked(method: str, path: str, *more: Any, **limits: Any) -> tuple[int, bytes]:
             self.paths.append(path)
-            return ask(method, path, *more)
+            return ask(method, path, *more, **limits)
 
         monkeypatch.setattr(self.desk.sender, "ask", asked)
         # (no time goes by, after which all is read)

@@ -1117,7 +1117,7 @@ def test_what_became_of_it_is_not_known(
         monkeypatch.setattr(sender, "ask", away)
         raise Ended("the connection broke")
 
-    def away(*_: object) -> tuple[int, bytes]:
+    def away(*_: object, **__: object) -> tuple[int, bytes]:
         raise Ended("it does not answer")
 
     monkeypatch.setattr(sender, "imported", broken)

@@ -310,25 +310,37 @@ def test_one_person_takes_not_all_places_of_those_who_wait(tmp_path: pathlib.Pat
         assert turns.WAITING.counts.total() == 0
 
 
-def test_a_program_waits_with_all_its_requests(tmp_path: pathlib.Path) -> None:
-    """It asks for more at once than a person does. Few of them are served at once, so that people
-    find a place beside them; and what is beyond those that wait is refused.
+@pytest.mark.parametrize("programs", [1, 4])
+def test_programs_wait_with_all_their_requests(
+    tmp_path: pathlib.Path, monkeypatch: pytest.MonkeyPatch, programs: int
+) -> None:
+    """They ask for more at once than people do. Few of each are served at once, so that people find
+    a place beside them, however many programs there are; and what is beyond those that are served
+    or wait for that is refused.
     """
+    go_on, served = threading.Event(), list[str]()
+
+    def slow(path: str, _: object) -> tuple[int, bytes]:
+        served.append(path)
+        assert go_on.wait(120)
+        return 200, b"{}"
+
     with office_over(tmp_path, town()) as office:
-        portal, hal = office.program("portal"), office.browser("hal", "head")
-        many, over = turns.MOST_SERVED + turns.MOST_OF_PROGRAMS, 5
+        portals = [office.program(f"portal{it}") for it in range(programs)]
+        hal, (many, over) = office.browser("hal", "head"), (turns.MOST_OF_PROGRAMS, 5)
+        monkeypatch.setattr(office.parts.desk, "asked", slow)
         with ThreadPoolExecutor(many + over) as threads:
-            with office.parts.desk.lock:
-                asked = [threads.submit(portal.post, "/command", json.dumps(
-                    {"cmd": "accept", "child": 1, "school": "A"})) for _ in range(many + over)]
-                while sum(it.done() for it in asked) < over:
-                    time.sleep(0.01)
-                assert hal.get("/flags/").status_code == 200
-                assert turns.WAITING.counts.total() <= turns.MOST_SERVED
-                assert sum(it.done() for it in asked) == over
-            # (the register has no offer to accept, and says so to each)
-            found = sorted(it.result().status_code for it in asked)
-            assert found == [409] * many + [503] * over
+            asked = [threads.submit(portals[it % programs].get, "/child/1")
+                     for it in range(many + over)]
+            end = time.monotonic() + 60
+            while sum(it.done() for it in asked) < over and time.monotonic() < end:
+                time.sleep(0.01)
+            is_here, done = hal.get("/password").status_code, sum(it.done() for it in asked)
+            many_served = len(served)
+            go_on.set()
+            found = [it.result().status_code for it in asked]
+        assert (is_here, done, many_served) == (200, over, turns.MOST_SERVED * programs)
+        assert sorted(found) == [200] * many + [503] * over
         assert turns.OF_PROGRAMS.counts.total() == 0
 
 

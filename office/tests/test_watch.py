@@ -3,8 +3,10 @@ alone, how many requests were answered with which status.
 """
 import json
 import pathlib
+import socket
 import threading
 from collections.abc import Iterator
+from concurrent.futures import ThreadPoolExecutor
 from typing import cast
 
 import pytest
@@ -39,6 +41,23 @@ def test_the_register_does_not_answer(tmp_path: pathlib.Path) -> None:
         assert (found.status_code, found.json) == (503, {"application": "ok", "register": "away"})
 
 
+def test_a_silent_register_is_away_for_the_first_who_asks(
+    tmp_path: pathlib.Path, monkeypatch: pytest.MonkeyPatch
+) -> None:
+    """Whoever watches the site waits no longer than it does: it takes the connection alone."""
+    monkeypatch.setattr(watch, "LATE_SECONDS", 0.1)
+    with socket.socket(socket.AF_UNIX) as listening:
+        listening.bind(str(tmp_path / "desk.sock"))
+        listening.listen()
+        with site(tmp_path, str(tmp_path / "desk.sock")) as office:
+            client = Browser(office.app).client
+            with ThreadPoolExecutor(1) as threads:
+                asked = threads.submit(client.get, "/healthz", base_url=ORIGIN)
+                found = asked.result(60)
+            assert (found.status_code, found.json) == (
+                503, {"application": "ok", "register": "away"})
+
+
 class Register:
     """A register that answers what a test says."""
 
@@ -47,11 +66,11 @@ class Register:
         self.begun, self.goes_on = threading.Event(), threading.Event()
         self.goes_on.set()
 
-    def asked(self, _: str) -> tuple[int, bytes]:
+    def asked(self, _: str, seconds: float) -> tuple[int, bytes]:
         """The next answer, once it is let."""
         self.asked_for += 1
         self.begun.set()
-        assert self.goes_on.wait(10)
+        assert seconds == watch.LATE_SECONDS and self.goes_on.wait(10)
         found = self.answers.pop(0)
         if isinstance(found, Refused):
             raise found

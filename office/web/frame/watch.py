@@ -15,8 +15,9 @@ from office.web.register.desk import Desk
 SECONDS = 1.0
 # so long others wait for its first answer
 FIRST_SECONDS = 2.0
-# a register that has not answered for so long is away, whatever it answered before
-LATE_SECONDS = 5.0
+# a register that has not answered for so long is away, whatever it answered before; the site waits
+# for this a little longer
+LATE_SECONDS = 4.0
 # an answer of the register to this, of whatever child, says that it reads its rows
 ASKED, ANSWERED = "/child/1", (200, 404)
 
@@ -65,6 +66,6 @@ class Watch:
 def is_up(desk: Desk) -> bool:
     """Whether the register answers now."""
     try:
-        return desk.asked(ASKED)[0] in ANSWERED
+        return desk.asked(ASKED, seconds=LATE_SECONDS)[0] in ANSWERED
     except Refused:
         return False

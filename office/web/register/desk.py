@@ -226,10 +226,13 @@ class Desk:
         with uncollected():
             return self.reader.register(document)
 
-    def asked(self, path: str, question: bytes | None = None) -> tuple[int, bytes]:
+    def asked(
+        self, path: str, question: bytes | None = None, seconds: float = senders.ANSWER_SECONDS,
+    ) -> tuple[int, bytes]:
         """The register's own answer to a path, or to a question that changes nothing."""
+        method = "GET" if question is None else "POST"
         try:
-            return self.sender.ask("GET" if question is None else "POST", path, question)
+            return self.sender.ask(method, path, question, seconds=seconds)
         except senders.Ended as error:
             raise Away(f"the register does not answer now: {error}") from error
 
