@@ -10,17 +10,21 @@ LONGEST = 60
 # what is typed to look for something has so many characters at most, and what else is compared and
 # kept for the next time so many: a longer text is no name, and some thousands would fill the memory
 MOST_SOUGHT, MOST_KEPT = 200, 1_000
-# ends of lines, control characters, and those that turn the direction of the text around them
-UNSHOWN = re.compile("[\x00-\x1f\x7f-\x9f\u2028\u2029\u200e\u200f\u202a-\u202e\u2066-\u2069\ufeff]")
+# Unicode's categories of what is not shown: control and format characters, with all that turn the
+# direction of the text around them, halves of pairs, characters for private use, those that are not
+# assigned, and ends of lines and paragraphs
+UNSHOWN = ("Cc", "Cf", "Cs", "Co", "Cn", "Zl", "Zp")
+# and the names of its default ignorable characters that are of none of these
+IGNORED = re.compile(
+    "VARIATION SELECTOR|COMBINING GRAPHEME JOINER|KHMER VOWEL INHERENT|HANGUL.* FILLER$")
 # a half of a pair of surrogates is no character, and no file takes it
 HALF = re.compile("[\ud800-\udfff]")
 CONTROL = re.compile("[\x00-\x1f\x7f-\x9f]")
 ORDINALS = ("first", "second", "third", "fourth", "fifth", "sixth", "seventh", "eighth", "ninth",
             "tenth")
 # with these a cell begins that a spreadsheet runs, also in their wide forms, and behind blanks and
-# what cannot be seen, which it may leave out
-UNSEEN = "\\s\u00ad\u200b-\u200f\u202a-\u202e\u2060-\u2069\ufeff"
-RUN = re.compile(f"[{UNSEEN}]*[=+\\-@\uff1d\uff0b\uff0d\uff20]|[\t\r\n]")
+# what cannot be seen, which it may leave out; and with these in any case
+RUN, RUN_FIRST = frozenset("=+-@\uff1d\uff0b\uff0d\uff20"), frozenset("\t\r\n")
 
 
 def shown(text: str) -> str:
@@ -34,9 +38,28 @@ def is_text(value: object) -> bool:
     return isinstance(value, str) and not HALF.search(value)
 
 
+@functools.lru_cache(maxsize=1 << 12)
+def is_seen(letter: str) -> bool:
+    """Whether a character is shown, if only as a blank, and acts on nothing around it."""
+    return unicodedata.category(letter) not in UNSHOWN and not IGNORED.search(
+        unicodedata.name(letter, ""))
+
+
+def is_shown(text: str) -> bool:
+    """Whether each character of a text is shown."""
+    return text.isprintable() and text.isascii() or all(map(is_seen, text))
+
+
 def visible(text: str) -> str:
     """A text with what cannot be seen escaped, and what would act on a terminal."""
-    return UNSHOWN.sub(lambda found: f"\\u{ord(found[0]):04x}", text)
+    return text if is_shown(text) else "".join(
+        it if is_seen(it) else escaped(it) for it in text)
+
+
+def escaped(letter: str) -> str:
+    """A character by its number."""
+    number = ord(letter)
+    return f"\\u{number:04x}" if number <= 0xffff else f"\\U{number:08x}"
 
 
 def cut(text: str) -> str:
@@ -47,7 +70,8 @@ def cut(text: str) -> str:
 
 def for_spreadsheet(text: str) -> str:
     """A text that no spreadsheet takes for a formula."""
-    return "'" + text if RUN.match(text) else text
+    first = next((it for it in text if not it.isspace() and is_seen(it)), "")
+    return "'" + text if first in RUN or text[:1] in RUN_FIRST else text
 
 
 def cell_of(value: object) -> str:

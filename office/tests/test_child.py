@@ -54,6 +54,23 @@ def act(browser: Browser, path: str, button: str) -> Any:
     return press(browser, path, page, button)
 
 
+def test_a_name_turns_no_text_around_it(office: Site) -> None:
+    """What turns the direction of a text, or is not seen, is shown by its number wherever a name is
+    within a sentence that is no part of its own: in titles, headings and labels.
+    """
+    jane, turned = office.browser("jane"), "E\u202ev<e>\u061c\u3164"
+    office.record("jane", child(9, turned, 700))
+    office.record("jane", {"cmd": "apply", "child": 9, "day": "2025-03-04", "preferences": ["B"]})
+    for path in ("/children/9", "/children/9/correct", "/children/9/application",
+                 "/children/9/plan", "/lists/unplaced"):
+        found = jane.get(path)
+        assert found.status_code == 200, path
+        text = re.sub("<bdi>[^<]*</bdi>|<a [^>]*>[^<]*</a>", "", found.text)
+        assert "E\\u202ev&lt;e&gt;\\u061c\\u3164" in text, path
+        kept = re.findall(r'<(?:title|h[1-6]|p class="paper)[^>]*>[^<]*|aria-label="[^"]*"', text)
+        assert kept and not any("\u202e" in it or "\u061c" in it for it in kept), path
+
+
 def test_a_child_is_shown_with_its_place_its_list_and_its_data(office: Site) -> None:
     """Child 3 has B, waits first at A, and lives 300 metres away."""
     flags.change(office.parts.store, "{}", {2: "medical need"}, lambda _: None)

@@ -7,6 +7,7 @@ from typing import Any
 
 import flask
 import jinja2
+import markupsafe
 import werkzeug.routing
 
 from office.core import texts, wording
@@ -92,7 +93,7 @@ def create(config: Config) -> flask.Flask:
     app.jinja_env.filters["sentence"] = wording.sentence
     app.jinja_env.filters["by_refusals"] = wording.by_refusals
     app.jinja_env.filters["flag_words"] = flags.flag_words
-    app.jinja_env.filters["visible"] = texts.visible
+    app.jinja_env.filters["visible"] = visible
     app.jinja_env.filters["at_fields"] = wording.at_fields
     app.jinja_env.globals["count"] = texts.count
     app.jinja_env.globals["shapes"] = pictures.SHAPES
@@ -130,6 +131,12 @@ class FileName(werkzeug.routing.BaseConverter):
     """The name of a file of the site, which has one of two ends."""
 
     regex = r"[a-z]+\.(?:css|js)"
+
+
+def visible(text: str) -> str:
+    """A text of a template with what cannot be seen escaped; one of markup stays one."""
+    found = texts.visible(text)
+    return markupsafe.Markup(found) if isinstance(text, markupsafe.Markup) else found
 
 
 def shared() -> dict[str, Any]:

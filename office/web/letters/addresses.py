@@ -50,7 +50,7 @@ def read(
         if child not in there:
             raise Refused(f"the file has child {child}, and the register has not")
         if len(lines) > MOST_LINES or any(
-                len(it) > MOST_CHARACTERS or texts.UNSHOWN.search(it) for it in lines):
+                len(it) > MOST_CHARACTERS or not texts.is_shown(it) for it in lines):
             raise Refused(f"the address of child {child} has at most {MOST_LINES} lines, each of"
                           f" {MOST_CHARACTERS} characters that can be printed")
     return found

@@ -87,7 +87,7 @@ def wrong_in(fields: Mapping[str, str]) -> dict[str, str]:
         elif len(text) > it.most or text.count("\n") >= it.lines:
             most = f"{it.most:,} characters" + (f" on {it.lines} lines" if it.lines > 1 else "")
             found[it.name] = f"it has at most {most}"
-        elif texts.UNSHOWN.search(text.replace("\n", "")):
+        elif not texts.is_shown(text.replace("\n", "")):
             found[it.name] = "it has characters that cannot be printed: type it anew"
     return found
 

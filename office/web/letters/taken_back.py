@@ -45,7 +45,7 @@ def noticed(history: History, children: set[int], since: str) -> str:
 
 def take_back(sets: Sets, who: Person, number: int, reason: str) -> None:
     """Takes the record of a set as sent back, for a reason; on record before."""
-    if not reason or len(reason) > MOST_REASON or texts.UNSHOWN.search(reason):
+    if not reason or len(reason) > MOST_REASON or not texts.is_shown(reason):
         raise Refused(f"Nothing was undone: say why, in 1 to {MOST_REASON} characters")
     with sets.lock, sets.store.lock:
         found = sets.get(number)

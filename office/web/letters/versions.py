@@ -167,7 +167,7 @@ class Templates:
 
 def see_source(name: str, source: Source) -> None:
     """Refuses a name, a text or pictures that no template has."""
-    if not name or len(name) > MOST_NAME or texts.UNSHOWN.search(name):
+    if not name or len(name) > MOST_NAME or not texts.is_shown(name):
         raise Refused(f"a name has 1 to {MOST_NAME} characters, on one line")
     if not source.text.strip():
         raise Refused("the text is empty")

@@ -33,7 +33,7 @@ class Views:
 
     def save(self, person: str, title: str, name: str, address: str) -> None:
         """Saves a view; one of the same name is replaced."""
-        if not title or len(title) > MOST_NAME or texts.UNSHOWN.search(title):
+        if not title or len(title) > MOST_NAME or not texts.is_shown(title):
             raise Refused(f"a name has 1 to {MOST_NAME} characters that can be seen")
         if len(address) > MOST_ADDRESS:
             raise Refused("the choice is too long to be saved: choose fewer words")

@@ -12,6 +12,7 @@ from register_files import Refused
 from werkzeug.datastructures import MultiDict
 from werkzeug.wrappers import Response
 
+from office.core import texts
 from office.core.days import today
 from office.core.model import Register
 from office.core.wording import sentence
@@ -195,7 +196,8 @@ def ticks_of(found: Asked, header: list[Cell], rows: Sequence[list[Cell]]) -> li
     for row in rows:
         child, code = row[at], str(row[school]) if school is not None else ""
         name = found.register.children[child].name if isinstance(child, int) else ""
-        made.append(Tick(f"{child} {code}".strip(), f"{child} {name} {code}".strip()))
+        label = texts.visible(f"{child} {name} {code}".strip())
+        made.append(Tick(f"{child} {code}".strip(), label))
     return made
 
 

@@ -29,7 +29,7 @@ def text_of(words: Mapping[int, str]) -> str:
 
 def wrong(words: str) -> str:
     """What is wrong with the words of a flag, or ""."""
-    if texts.CONTROL.search(words) or texts.UNSHOWN.search(words):
+    if not texts.is_shown(words):
         return "words on one line, without characters that cannot be seen"
     return f"at most {MOST_WORDS} characters" if len(words) > MOST_WORDS else ""
 

@@ -438,7 +438,7 @@ def empty(folder: pathlib.Path) -> None:
 
 def see_line(field: str, text: str, what: str) -> None:
     """Refuses what is not a line that can be read."""
-    if not text or len(text) > MOST_REASON or texts.UNSHOWN.search(text):
+    if not text or len(text) > MOST_REASON or not texts.is_shown(text):
         raise WrongField(field, f"say {what}, in 1 to {MOST_REASON} characters on one line")
 
 
