@@ -30,7 +30,7 @@ from office.web.lists import saved as list_views
 from office.web.people import attempts, guard, people
 from office.web.people import roles as people_roles
 from office.web.people.views import people as people_screen
-from office.web.register import history, store
+from office.web.register import desk, history, store
 
 ACCEPT = {"cmd": "accept", "child": 1, "school": "A"}
 DECLINE = {"cmd": "decline", "child": 1, "school": "A"}
@@ -214,6 +214,38 @@ def test_what_seems_to_be_no_command_is_on_record_too(
     assert json.loads(sent.about["line"]) == ACCEPT and answer.about["answer"] == {"done": True}
     office.parts.history.add("jane", "sends", {"line": "{}"})
     assert jane.command({"cmd": "decline", "child": 2, "school": "A"}).status_code == 200
+
+
+@pytest.mark.parametrize("given, status", [
+    ('{"memory":true}', 503), ('{"name":"NotOffered","refused":15}', 409),
+    ('{"fault":3,"name":"NotJson"}', 400), ('{"done":true}', 200)])
+def test_an_answer_of_the_register_has_its_status(
+    office: Site, monkeypatch: pytest.MonkeyPatch, given: str, status: int
+) -> None:
+    """As it is, with the status that the register's own server gives it."""
+    portal, sender = office.program("portal"), office.parts.desk.sender
+    monkeypatch.setattr(sender, "send", lambda _: given.encode())
+    monkeypatch.setattr(sender, "imported", lambda _: given.encode())
+    for found in (portal.command(ACCEPT), portal.post("/import", "child\n", "text/csv")):
+        assert (found.status_code, found.text) == (status, given)
+
+
+def test_what_cannot_be_read_is_no_refusal(
+    office: Site, monkeypatch: pytest.MonkeyPatch
+) -> None:
+    """Rows that are no text are not read; and what somebody saw cannot be looked up while the
+    register is away, which is no difference.
+    """
+    portal = office.program("portal")
+    found = portal.post("/import", b"child\n\xff\n", "text/csv")
+    assert (found.status_code, found.json["reason"]) == (400, "the rows are no text in UTF-8")
+
+    def away(*_: object) -> Any:
+        raise desk.Away("the register does not answer now")
+
+    monkeypatch.setattr(office.parts.desk, "present", away)
+    found = portal.command(ACCEPT, "null")
+    assert (found.status_code, found.json["outcome"]) == (503, "unsent")
 
 
 def test_what_a_colleague_recorded_meanwhile_is_named(office: Site) -> None:

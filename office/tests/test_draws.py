@@ -461,7 +461,8 @@ def test_a_round_cannot_be_sent_as_a_command(small: Machine) -> None:
                             {"cmd": "fill", "draw": 1, "day": OFFER_DAY, "school": "OAK",
                              "lots": [1]}):
                 found = portal.command(command)
-                assert found.status_code == 503 and "a second person" in found.json["reason"]
+                assert (found.status_code, found.json["name"]) == (403, "TwoPeople")
+                assert "a second person" in found.json["reason"]
         assert office.parts.desk.now().draws == []
 
 

@@ -255,6 +255,8 @@ def test_a_season_is_ended(small: Machine, monkeypatch: pytest.MonkeyPatch) -> N
         sent = office.parts.desk.send(roles.Person("jane", "officer"), accept)
         assert (sent.outcome, sent.said) == (
             "unsent", "The season is deleted: nothing can be recorded.")
+        found = office.program("portal").command(accept)
+        assert (found.status_code, found.json["name"]) == (409, "SeasonDeleted")
         assert "The season is deleted: nothing can be recorded." in jane.browser.get("/").text
 
 

@@ -90,7 +90,7 @@ class Parts:
                                self.letter_lists)
         self.end = SeasonEnd(self)
         self.draws.closed_by_another = lambda: self.end.closed() or self.restores.closed()
-        self.restores.closed_by_another = self.end.closed
+        self.restores.closed_by_another = self.desk.ended = self.end.closed
         self.desk.closed = lambda: (
             self.end.closed() or self.draws.closed() or self.restores.closed())
 

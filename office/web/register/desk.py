@@ -35,18 +35,22 @@ ANY: Subject = ("", "")
 # an answer has one of these where it is certain what a request came to
 CERTAIN = {"done", "refused", "fault"}
 DONE, REFUSED, DIFFERS, UNSENT, LOST = "done", "refused", "differs", "unsent", "not done"
+# what is never sent, however often somebody tries: a draw that two people hold on a screen, and
+# what comes after the end of the season
+TWO_PEOPLE, SEASON_DELETED = "TwoPeople", "SeasonDeleted"
 
 
 @dataclasses.dataclass(frozen=True)
 class Result:
-    """What a request came to, in one word and in a sentence; the answer of the register; and
-    whether it is known what it came to.
+    """What a request came to, in one word and in a sentence; the answer of the register; whether it
+    is known what it came to; and what never lets it be sent, where something does.
     """
 
     outcome: str
     said: str
     answer: bytes = b""
     is_known: bool = True
+    name: str = ""
 
     @property
     def is_done(self) -> bool:
@@ -166,8 +170,9 @@ class Desk:
         self.copy: Copy | None = None
         # how many requests were begun, and what those that ended may have changed
         self.begun, self.sent = 0, list[Subject]()
-        # why nobody but a draw may send, or ""
+        # why nobody but a draw may send, or ""; and why nobody may any more
         self.closed: Callable[[], str] = str
+        self.ended: Callable[[], str] = str
 
     def register(self) -> Register:
         """The register as it is with all that was sent through here."""
@@ -261,7 +266,8 @@ class Desk:
         """
         if command["cmd"] in DRAWS and not draw:
             return Result(UNSENT, "Nothing was recorded: a round or an offer from a waiting list is"
-                                  " run on the screen Rounds, where a second person confirms it.")
+                                  " run on the screen Rounds, where a second person confirms it.",
+                          name=TWO_PEOPLE)
         return self.request(
             who, {"command": command, **({"point": point} if point else {})}, seen, draw)
 
@@ -271,11 +277,11 @@ class Desk:
         """Sends a request in its turn, if what its command rests on is as it was seen; also while
         recording is paused.
         """
-        with self.sending(is_closed) as reason:
-            if reason:
-                return Result(UNSENT, reason)
-            if seen is not None and (said := self.difference(about["command"], seen)):
-                return Result(DIFFERS, said)
+        with self.sending(is_closed) as refusal:
+            if refusal:
+                return refusal
+            if seen is not None and (found := self.difference(about["command"], seen)):
+                return found
             return self.exchange(who, about, lambda: self.passed(about))
 
     def passed(self, about: dict[str, Any]) -> bytes:
@@ -289,9 +295,9 @@ class Desk:
         """Sends what is no command as far as is known here, for what the register says of it. It
         may know more, and take it: so this goes in its turn, and is on record before.
         """
-        with self.sending() as reason:
-            if reason:
-                return Result(UNSENT, reason)
+        with self.sending() as refusal:
+            if refusal:
+                return refusal
             about = {"line": line.decode("utf-8", "replace")[:MOST_LINE]}
             return self.exchange(who, about, lambda: self.sender.send(line))
 
@@ -300,33 +306,33 @@ class Desk:
         return self.request(who, {"import": rows.decode()})
 
     @contextlib.contextmanager
-    def sending(self, draw: bool = False) -> Iterator[str]:
-        """The turn to send, with why nothing can be sent now, or ""."""
+    def sending(self, draw: bool = False) -> Iterator[Result | None]:
+        """The turn to send, with the refusal where nothing can be sent now."""
         with contextlib.ExitStack() as held:
             try:
                 held.enter_context(self.lock)
             except turns.Busy as error:
-                yield f"Nothing was recorded: {error}."
+                yield Result(UNSENT, f"Nothing was recorded: {error}.")
                 return
-            yield self.reason(draw)
+            yield self.refusal(draw)
 
-    def reason(self, draw: bool) -> str:
-        """Why nothing can be sent now, or ""."""
+    def refusal(self, draw: bool) -> Result | None:
+        """Why nothing can be sent now, if so."""
         if not draw and (said := self.closed()):
-            return said
+            return Result(UNSENT, said, name=SEASON_DELETED if self.ended() else "")
         try:
             self.settle()
         except Refused as error:
-            return f"Nothing was recorded. {error}"
-        return ""
+            return Result(UNSENT, f"Nothing was recorded. {error}")
+        return None
 
-    def difference(self, command: Command, seen: Seen) -> str:
-        """What has changed since a command was decided, or ""."""
+    def difference(self, command: Command, seen: Seen) -> Result | None:
+        """What has changed since a command was decided, if something has or cannot be looked up."""
         try:
             said = self.changed(self.present(subject({"command": command})), command, seen)
         except Refused as error:
-            return f"Nothing was recorded. {error}"
-        return f"{said} Nothing was recorded now." if said else ""
+            return Result(UNSENT, f"Nothing was recorded. {error}")
+        return Result(DIFFERS, f"{said} Nothing was recorded now.") if said else None
 
     def changed(self, register: Register, command: Command, seen: Seen) -> str:
         """What a register has otherwise than it was seen, with who recorded it last, or ""."""

@@ -2,13 +2,14 @@
 from typing import cast
 
 import flask
-from register_files import Refused
 
 from office.core import commands, rules
 from office.web.people import guard
 from office.web.people.guard import Few, needs, parts, person
 from office.web.people.roles import LISTS, READ, RECORD
-from office.web.register.desk import DIFFERS, DONE, REFUSED, Away, Command, Result, Seen, seen_by
+from office.web.register.desk import (
+    DIFFERS, DONE, REFUSED, SEASON_DELETED, TWO_PEOPLE, Away, Command, Result, Seen, seen_by,
+)
 
 screen = flask.Blueprint("register", __name__)
 JSON, CSV = "application/json", "text/csv"
@@ -112,22 +113,28 @@ def waiting(code: str) -> flask.Response:
     return passed(f"/school/{code}/waiting")
 
 
+# by what a request came to; by the register's own answer; and by what never lets it be sent. All
+# else may be sent again, as it is: 503
 STATUSES = {DONE: 200, REFUSED: 409, DIFFERS: 409}
+OF_REGISTER = {"fault": 400, "memory": 503, "failed": 503}
+OF_OFFICE = {TWO_PEOPLE: 403, SEASON_DELETED: 409}
 
 
 def answered(result: Result) -> flask.Response:
     """What a request came to: the register's own answer where there is one."""
+    status = STATUSES.get(result.outcome, 503)
     if result.answer:
         value = commands.read(result.answer)
-        is_fault = isinstance(value, dict) and "fault" in value
-        status = 400 if is_fault else STATUSES.get(result.outcome, 503)
-        return flask.Response(result.answer, status, mimetype=JSON)
+        own = (OF_REGISTER[it] for it in OF_REGISTER if isinstance(value, dict) and it in value)
+        return flask.Response(result.answer, next(own, status), mimetype=JSON)
     if result.is_done:
         return answer(200, done=True)
     said = {"outcome": result.outcome, "reason": result.said}
+    if result.name:
+        return answer(OF_OFFICE[result.name], name=result.name, **said)
     if not result.is_known:
         return answer(502, **said, unanswered=True)
-    return answer(STATUSES.get(result.outcome, 503), **said)
+    return answer(status, **said)
 
 
 @screen.post("/command")
@@ -163,8 +170,8 @@ def rows() -> flask.Response:
     body = to_record(CSV)
     try:
         body.decode("utf-8")
-    except UnicodeDecodeError as error:
-        raise Refused("the rows are no text in UTF-8") from error
+    except UnicodeDecodeError:
+        flask.abort(400, "the rows are no text in UTF-8")
     return answered(parts().desk.send_import(person(), body))
 
 
