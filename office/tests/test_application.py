@@ -148,6 +148,29 @@ def test_what_needs_no_right_is_on_record_so_often_in_an_hour(office: Site) -> N
     assert sup.get("/children/600").status_code == 403 and recorded("refused") == 501
 
 
+def test_sign_ins_are_on_record_so_often_in_an_hour(office: Site) -> None:
+    """And passwords that are changed: who does it in a loop is refused, so that each one is on
+    record. Others are not counted, nor what failed.
+    """
+    jane, bo, moment = office.browser("jane"), office.browser("bo"), [0.0]
+    few, record = office.app.extensions["few"], office.parts.history
+    few.clock, few.counts["sign-in jane"] = (lambda: moment[0]), (0.0, 498)
+    assert jane.sign_in("jane", "wrong").status_code == 403
+    assert [jane.sign_in("jane", office.passwords["jane"]).status_code for _ in range(4)] == [
+        303, 303, 503, 503]
+    assert sum((it.who, it.what) == ("jane", "signed in") for it in record.entries) == 3
+    [sessions] = office.parts.store.rows("SELECT count(*) AS many FROM session WHERE person='jane'")
+    assert sessions["many"] == 3 and bo.sign_in("bo", office.passwords["bo"]).status_code == 303
+    moment[0] = 3601.0
+    found = jane.sign_in("jane", office.passwords["jane"])
+    assert found.status_code == 303 and jane.get("/password").status_code == 200
+    few.counts["password jane"] = moment[0], 500
+    new = "a sea of grey boats"
+    found = jane.post("/password", {"present": office.passwords["jane"], "new": new, "again": new})
+    assert found.status_code == 403 and "has done this 500 times within an hour" in found.text
+    assert jane.sign_in("jane", office.passwords["jane"]).status_code == 303
+
+
 def test_a_refusal_is_on_record_once_in_a_while(office: Site) -> None:
     """A loop of somebody who is signed in does not fill the disk."""
     browser = office.browser("kim", "reader")

@@ -225,6 +225,13 @@ def record_few(what: str, **about: Any) -> None:
         record(what, **about)
 
 
+def see_few(what: str, name: str) -> None:
+    """Refuses what is on record each time, once it is not one of few."""
+    if not cast(Few, flask.current_app.extensions["few"]).is_one(f"{what} {name}"):
+        raise turns.Busy(f"{name} has done this {MOST_FEW} times within an hour, and nothing was"
+                         " done: try again in an hour.")
+
+
 def again(status: int, reason: str) -> AnyResponse | None:
     """The answer that keeps what was typed on a page of this site, so that it can be sent again; or
     None where there is nothing. No password is in it.

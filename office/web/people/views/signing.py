@@ -46,6 +46,7 @@ def sign_in() -> Answer:
         secret = parts().people.sign_in(
             name, request.form.get("password", ""), guard.address(),
             browser if name in names else "")
+        see_few(name, secret)
     except Refused as error:
         is_wait = isinstance(error, (attempts.TooMany, Busy))
         guard.sign_in_failed(failures.WAIT if is_wait else failures.PASSWORD)
@@ -58,6 +59,17 @@ def sign_in() -> Answer:
         max_age=BROWSER_SECONDS, secure=guard.cookie_name() == guard.COOKIE, httponly=True,
         samesite="Strict", path="/")
     return answer
+
+
+def see_few(name: str, secret: str) -> None:
+    """Ends the session that was begun, and refuses it, once too many of somebody are on record. (A
+    password that is wrong counts for nobody: no one else keeps them out by that.)
+    """
+    try:
+        guard.see_few("sign-in", name)
+    except Busy:
+        parts().people.end(secret)
+        raise
 
 
 def browser_cookie() -> str:
@@ -128,6 +140,7 @@ def come_back() -> Answer:
         found = provider()
         name, account = authority.account_in(found, accounts().claims(found))
         secret = parts().people.sign_in_outside(name, account)
+        see_few(name, secret)
     except Refused as error:
         guard.sign_in_failed(failures.ACCOUNT)
         return sign_in_page(to, str(error), ""), status_of(error)
@@ -168,6 +181,7 @@ def password() -> Answer:
         try:
             if form.get("new", "") != form.get("again", ""):
                 raise Refused("the new password is not the same in both fields")
+            guard.see_few("password", person().name)
             parts().people.set_password(person(), form.get("present", ""), form.get("new", ""))
             guard.record("changed the own password")
             return flask.redirect("/", 303)
