@@ -19,8 +19,9 @@ from .registers import Register
 if typing.TYPE_CHECKING:
     from office.web.parts import Parts
 
-# in the settings of a register while it is made from a copy
-BEGUN = "standby"
+# in the settings of a register while it is made from a copy: the first one keeps its units from
+# starting, until all is here and the verb that makes it starts them
+BEGUN, OPENS = "standby", "standby-opens"
 # the entries of a history that are requests to the register, and what became of them
 REQUESTS = (history.SENDS, history.ANSWER, history.SETTLED)
 
@@ -41,7 +42,8 @@ class Begun(typing.NamedTuple):
 
 def place(register: Register) -> pathlib.Path:
     """The file that has it."""
-    return register.settings / BEGUN
+    opens = register.settings / OPENS
+    return opens if opens.exists() else register.settings / BEGUN
 
 
 def begun(register: Register) -> Begun | None:
@@ -69,6 +71,12 @@ def keep(register: Register, found: Begun) -> None:
     """Keeps from which copy a register is made, before anything of it is."""
     files.folder(register.settings, 0o755)
     files.write(place(register), json.dumps(found._asdict()) + "\n", 0o644)
+
+
+def let_open(register: Register) -> None:
+    """Lets its units start, as all of it is here; it has not ended yet."""
+    if begun(register):
+        place(register).replace(register.settings / OPENS)
 
 
 def forget(register: Register) -> None:

@@ -222,7 +222,7 @@ def test_a_copy_that_does_not_open_is_no_copy(
 def test_nothing_starts_where_another_machine_has_taken_over(unit: str) -> None:
     text = (ROOT / "deploy/systemd" / unit).read_text(encoding="utf-8")
     found = re.findall(r"(?m)^ConditionPathExists=!(.*)$", text)
-    assert found == [f"/var/backups/admissions/%i/{second_copy.TAKEN_OVER}"]
+    assert f"/var/backups/admissions/%i/{second_copy.TAKEN_OVER}" in found
 
 
 def test_the_unit_of_the_second_copy_stops_the_office_then() -> None:

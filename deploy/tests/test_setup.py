@@ -460,7 +460,9 @@ def test_a_register_from_a_copy_that_was_killed_goes_on(
     monkeypatch.setattr(sites, "make_all", list)
     monkeypatch.setattr(serving, "make_folders", lambda _: [])
     monkeypatch.setattr(serving, "see_needed", lambda: None)
-    monkeypatch.setattr(serving, "start", lambda _: True)
+    # (which its units refuse as long as this is there)
+    monkeypatch.setattr(
+        serving, "start", lambda _: not (register.settings / brought.BEGUN).exists())
     monkeypatch.setattr(setup, "program", str)
     monkeypatch.setattr(setup, "call", lambda _, here, there: shutil.copyfile(here, there))
     add_people(register, ("jane", "head"))
@@ -488,7 +490,7 @@ def test_a_register_from_a_copy_that_was_killed_goes_on(
         [row] = parts.restores.sending.rows(found)
         assert parts.restores.sending.entry(row).about["command"]["child"] == 7
     assert "The history ends" not in capsys.readouterr().out
-    assert not (register.settings / brought.BEGUN).exists()
+    assert not brought.place(register).exists()
 
 
 @pytest.mark.parametrize(

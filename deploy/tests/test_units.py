@@ -7,7 +7,7 @@ import subprocess
 
 import pytest
 from conftest import ROOT
-from machine import sites
+from machine import brought, sites
 
 UNITS = ROOT / "deploy/systemd"
 MAIN = "user www-data;\nevents {\n\tworker_connections\t768; # as Debian has it\n\t# multi_accept on;\n}\n"
@@ -72,6 +72,13 @@ def test_the_lines_of_a_unit_are_those_that_the_page_promises(unit: str) -> None
 def lines_of(unit: str) -> dict[str, str]:
     """The lines of a unit by their names; of two with one name the last."""
     return dict(re.findall(r"(?m)^(\w+)=(.*)$", (UNITS / unit).read_text(encoding="utf-8")))
+
+
+@pytest.mark.parametrize("unit", ["admissions@.service", "admissions-office@.service", "admissions-office@.socket", "admissions-backup@.service"])
+def test_nothing_opens_a_register_in_the_middle_of_a_restore(unit: str) -> None:
+    """Neither a restart of the machine nor a timer: what came since the copy does not wait yet."""
+    found = re.findall(r"(?m)^ConditionPathExists=!(.*)$", (UNITS / unit).read_text(encoding="utf-8"))
+    assert f"/etc/admissions/%i/{brought.BEGUN}" in found
 
 
 @pytest.mark.parametrize("request_, capabilities", [

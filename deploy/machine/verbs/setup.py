@@ -120,6 +120,7 @@ def set_up(register: Register, given: argparse.Namespace) -> int:
         serving.report(brought.bring(register, pathlib.Path(given.copy)))
     serving.report(sites.make_all())
     serving.report(serving.other_problems(register))
+    brought.let_open(register)
     has_started = serving.start(register)
     if brought.begun(register) and not given.is_takeover:
         brought.forget(register)
@@ -335,7 +336,8 @@ def take_settings(register: Register, given: argparse.Namespace) -> typing.Itera
         path = pathlib.Path(given.history)
         yield from history_copies.put(register, path, history_copies.whole(path))
     if given.copy:
-        yield from settings_copy.restored(register, pathlib.Path(given.copy), not given.history)
+        yield from settings_copy.restored(
+            register, pathlib.Path(given.copy), not given.history, not given.is_takeover)
 
 
 def make_settings(register: Register, given: argparse.Namespace) -> typing.Iterator[str]:
