@@ -150,8 +150,25 @@ def put_aside(register: Register) -> typing.Iterator[pathlib.Path]:
         raise
 
 
-def restored(register: Register, data: bytes, name: str) -> typing.Iterator[str]:
-    """Brings back the file from a copy, where the application has none. Returns a line for it."""
+def for_another(data: bytes) -> tuple[bytes, bool]:
+    """A copy as another register has it: without the key that signs what browsers keep, which the
+    application makes anew, and without what the provider of accounts knows it by. And whether there
+    was a provider."""
+    from office.web.people.authority import SECRET, SETTING
+
+    with contextlib.closing(sqlite3.connect(":memory:", isolation_level=None)) as db:
+        db.deserialize(data)
+        db.execute("DELETE FROM setting WHERE name=?", (SECRET,))
+        found = db.execute("DELETE FROM setting WHERE name=? AND value<>''", (SETTING,)).rowcount
+        db.execute("VACUUM")
+        return db.serialize(), found > 0
+
+
+def restored(
+    register: Register, data: bytes, name: str, is_another: bool = False
+) -> typing.Iterator[str]:
+    """Brings back the file from a copy, which may be of another register, where the application has
+    none. Returns a line for it."""
     path = path_of(register)
     # (a log alone would be merged into the file that is brought back)
     there = [it for it in (path, pathlib.Path(f"{path}-wal")) if os.path.lexists(it)]
@@ -159,6 +176,10 @@ def restored(register: Register, data: bytes, name: str) -> typing.Iterator[str]
         yield f"{there[0]} is there already, and stays as it is"
         return
     count = len(people_in(data, name))
+    data, had_provider = for_another(data) if is_another else (data, False)
     files.folder(register.office, 0o700, OFFICE, OFFICE)
     files.write_as(OFFICE, path, data)
     yield f"took {path} from the archive, with {count} people and programs"
+    if had_provider:
+        yield ("sign-in by the accounts of the authority is not brought back:"
+               f" admissions-admin accounts {register.name} FILE")

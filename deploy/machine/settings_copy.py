@@ -139,11 +139,12 @@ def names_of(copy: str) -> dict[str, str]:
 
 
 def restored(
-    register: Register, copy: pathlib.Path, with_history: bool = True
+    register: Register, copy: pathlib.Path, with_history: bool = True, is_another: bool = False
 ) -> typing.Iterator[str]:
     """Brings back the people, settings and history that are beside a copy, where this machine has
     none of them. Returns a line for each. The site's name is set up as if it were given, and owners
     and modes are those that this program gives: whoever has the second place could write others.
+    Another register than that of the copy gets none of its secrets.
     """
     found, archive = members_of(copy), copies.settings_of(copy)
     if not found:
@@ -158,7 +159,8 @@ def restored(
         elif name in found and files.write(path, found[name], 0o644):
             yield f"took {path} from the archive"
     if data := found.get(office_store.NAME):
-        yield from office_store.restored(register, data, f"{office_store.NAME} of {archive}")
+        yield from office_store.restored(
+            register, data, f"{office_store.NAME} of {archive}", is_another)
     if with_history:
         yield from history_copies.restored(register, copy.parent / history_copies.FOLDER)
 

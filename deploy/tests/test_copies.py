@@ -24,13 +24,15 @@ from machine import (
     history_copies,
     nightly,
     office_store,
+    people,
     registers,
     second_copy,
     settings_copy,
     sites,
 )
 from machine.verbs import setup, status
-from office.web.people import people
+from office.web.people import authority
+from office.web.people import people as office_people
 from office.web.register.store import Store
 from office_files import (
     NO_HASH,
@@ -321,18 +323,18 @@ def test_a_copy_signs_nobody_in(
     """
     path = copy(office, "nightly-000001-2025-03-01T023000.db", with_settings=False)
     with contextlib.closing(Store(str(office_store.path_of(office)))) as store:
-        signed_in = people.People(store)
+        signed_in = office_people.People(store)
         secret = signed_in.begin("jane", False, f"{NO_HASH}jane")
         with store.writing() as db:
             db.execute("UPDATE person SET role='reader' WHERE name='alpha'")
             assert copy_settings(office) == 0
         assert signed_in.of_session(secret) is not None
-        digest = people.digest(secret)
+        digest = office_people.digest(secret)
         assert digest.encode() in office_store.path_of(office).with_suffix(".db-wal").read_bytes()
     archive = path.with_suffix(".tar").read_bytes()
     assert (digest.encode() in archive, secret.encode() in archive) == (False, False)
     with contextlib.closing(Store(str(people_beside(path, tmp_path)))) as store:
-        assert people.People(store).of_session(secret) is None
+        assert office_people.People(store).of_session(secret) is None
         assert store.rows("SELECT * FROM session") == []
         roles = {it["name"]: it["role"] for it in store.rows("SELECT * FROM person")}
     assert roles == {"alpha": "school-A", "jane": "head", "page": "reader"}
@@ -602,6 +604,32 @@ def test_people_alone_come_back_where_the_application_has_none(
         f"took {register.office}/office.db from the archive, with 3 people and programs",
     ]
     assert register.history.read_bytes() == before
+
+
+@pytest.mark.parametrize("is_another", [False, True])
+def test_another_register_gets_no_secret_of_the_first(
+    office: registers.Register, is_another: bool
+) -> None:
+    """As a practice register: who could make cookies for one of the two could for the other, and
+    sign in at the provider in its name. All else of the file is the same."""
+    path = copy(office, "nightly-000001-2025-03-01T023000.db", with_settings=False)
+    provider = authority.Provider("Council", "https://login.example", "admissions", "s3cret-of-it")
+    with people.opened(office) as (_, kept):
+        authority.set_provider(kept, provider)
+        key = authority.cookie_key(kept)
+        kept.set("months of retention", "12")
+    assert copy_settings(office) == 0
+    shutil.rmtree(office.office)
+    said = list(settings_copy.restored(office, path, True, is_another))
+    again = ("sign-in by the accounts of the authority is not brought back: admissions-admin"
+             f" accounts {office.name} FILE")
+    assert (again in said) == is_another
+    data = office_store.path_of(office).read_bytes()
+    assert (key.encode() in data, b"s3cret-of-it" in data) == (not is_another, not is_another)
+    with people.opened(office) as (_, kept):
+        assert authority.provider_of(kept) == (None if is_another else provider)
+        assert (authority.cookie_key(kept) == key) != is_another
+        assert kept.setting("months of retention") == "12"
 
 
 def test_notes_and_files_of_children_come_back_with_the_people(office: registers.Register) -> None:
