@@ -8,6 +8,7 @@ import json
 import logging
 import os
 import pathlib
+import subprocess
 import threading
 import time
 import tracemalloc
@@ -21,6 +22,7 @@ from register_files import Refused
 
 from office import audit
 from office.core.model import Draw
+from office.files import processes
 from office.web.letters import apart as letters_apart
 from office.web.letters import audits as letters_audits
 from office.web.letters import sets as letters_sets
@@ -375,6 +377,28 @@ def test_a_mail_merge_is_written_by_a_process_that_can_be_ended(tmp_path: pathli
     with pytest.raises(Refused):
         letters_apart.merge([["child"], [1]], "Offers", str(tmp_path / "other.xlsx"), ended)
     assert not (tmp_path / "other.xlsx").exists()
+
+
+def test_a_process_of_letters_has_nothing_of_the_environment(
+    monkeypatch: pytest.MonkeyPatch, tmp_path: pathlib.Path
+) -> None:
+    """What a template could read there: of the application it has a path and a locale."""
+    monkeypatch.setenv("KEY_OF_ANOTHER_SERVICE", "secret")
+
+    class Seen(Running):
+        """The process, with its environment."""
+
+        has: bytes = b""
+
+        def begin(self, process: subprocess.Popen[bytes]) -> None:
+            """Looks at it, once it is begun."""
+            self.has = pathlib.Path(f"/proc/{process.pid}/environ").read_bytes()
+            super().begin(process)
+
+    seen = Seen()
+    letters_apart.merge([["child"], [1]], "Offers", str(tmp_path / "letters.xlsx"), seen)
+    found = dict(it.split("=", 1) for it in seen.has.decode().split("\0") if it)
+    assert found == processes.ENVIRONMENT and set(found) == {"PATH", "LC_ALL"}
 
 
 def test_a_process_that_the_system_ends_for_memory_says_so(

@@ -174,7 +174,8 @@ def process(asked: bytes, running: Running) -> tuple[int, bytes, bytes]:
     places = [os.path.dirname(it) for it in (apart.HERE, os.path.abspath(register_files.__file__))]
     words = [sys.executable, "-I", "-B", "-c", BEGIN, *places]
     with subprocess.Popen(
-            words, stdin=subprocess.PIPE, stdout=subprocess.PIPE, stderr=subprocess.PIPE) as run:
+            words, stdin=subprocess.PIPE, stdout=subprocess.PIPE, stderr=subprocess.PIPE,
+            env=apart.ENVIRONMENT) as run:
         running.begin(run)
         try:
             out, errors = run.communicate(asked, timeout=MOST_SECONDS)
