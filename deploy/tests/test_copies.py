@@ -471,6 +471,9 @@ def test_a_history_that_was_changed_is_copied_beside_it_and_named(
     assert made_of(copied) == [before, b"".join(lines)]
     is_well, text = copies_status.copy_of(register)
     assert (is_well, f"line {line + 1}: the history was changed" in text) == (False, True)
+    is_well, text = status.history_of(register)
+    mend = f": admissions-admin history {register.name} --mend"
+    assert (is_well, text.endswith(mend)) == (False, True)
     register.history.write_bytes(before)
     assert acknowledge(register) == 0
     assert (copy_settings(register), copies_status.copy_of(register)[0]) == (0, True)

@@ -402,7 +402,7 @@ def history_of(register: Register) -> State:
         return False, f"{path} must be a file that {OFFICE} alone reads and writes: {how}"
     record = histories.of_register(register)
     if record.problem:
-        return False, record.problem
+        return False, f"{record.problem}: admissions-admin history {register.name} --mend"
     if lacking := history_copies.lacking(register):
         return False, lacking[0]
     if late := next(filter(is_late, record.open_requests()), None):
