@@ -4,6 +4,8 @@ import random
 import re
 import xml.etree.ElementTree as ET
 
+from conftest import ROOT
+
 from office.web.home import tasks as home
 from office.web.machinery import pictures
 from office.web.machinery.pictures import LEAST, SIDE, Circle, Home, Places, Span
@@ -68,6 +70,13 @@ def test_a_bar_is_as_long_as_its_share() -> None:
     assert 'width="24.6"' in pictures.bar(25, 100, "first")
     assert not any("first" in pictures.bar(0, it, "first") for it in (0, 100))
     assert home.share(1, 3) == "33.3%" and home.share(0, 0) == ""
+
+
+def test_each_bar_of_answers_has_a_colour() -> None:
+    """Or it is black, which is none in dark colours."""
+    css = (ROOT / "deploy/site/ui.css").read_text("utf-8")
+    for kind in home.ANSWERS:
+        assert re.search(rf"^rect[^{{]*\.{kind}\b[^{{]*{{ fill: var", css, re.M), kind
 
 
 def test_the_map_of_a_school_has_each_home_in_reach() -> None:

@@ -5,6 +5,7 @@ What is whose is stated here for each address, and not taken from the applicatio
 import datetime
 import io
 import pathlib
+import re
 import threading
 import types
 import zipfile
@@ -222,6 +223,8 @@ def test_files_of_several_children_are_on_record(office: Site) -> None:
              if it.what == "took a file"]
     assert found == [*(("portal", it) for it in answers), ("jane", "/lists/children/workbook"),
                      ("jane", "/lists/children/csv"), ("alpha", "/schools/A/workbook")]
+    said = re.findall(r"Downloaded ([^<]*)", jane.get("/activity/").text)
+    assert len(said) == len(found) and not [it for it in said if it.startswith("/")], said
 
 
 def test_heads_of_schools_see_a_round_from_its_day_on_and_audited(

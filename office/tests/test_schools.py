@@ -112,6 +112,7 @@ def test_a_school_is_typed_and_shown_whole_before_it_is_stored(empty: Site) -> N
     page = Page(jane.get(found.location).text)
     _, line = page.tables["Each line as it will be stored"]
     assert line[:5] == ["OAK", OAK["name"], "30", "4100", "3600"]
+    assert page.text.count('<td class="number">') == 3
     assert line[5] == (
         "1. sibling: with a brother or sister at the school"
         "2. within:1500: living within 1,500 metres of the school"

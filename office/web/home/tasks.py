@@ -200,11 +200,16 @@ def of_work(known: Known, register: Register) -> Iterator[Task]:
                    f"{known.answers:,} waiting", WAITING, "answers.show")
     for number, many in known.untold.items():
         draw = register.draws[number - 1]
-        whom = PART if draw.round == 1 else OFFERS
-        school = register.schools[draw.school].name if draw.school else ""
-        words = f"the offer of a place at {school}" if school else draw_in_words(draw)
-        yield Task(f"Send the letters of {words}", "They are not recorded as sent.",
-                   f"{many:,} left", WAITING, "letters.whom", {"whom": whom, "draw": str(number)})
+        values = {"whom": PART if draw.round == 1 else OFFERS, "draw": str(number)}
+        if draw.school:
+            names = texts.listed([register.children[it].name for it, is_new in
+                                  register.fresh[number].items() if is_new])
+            yield Task(f"Send the letter of the offer to {names}",
+                       f"A place at {register.schools[draw.school].name}. It is not recorded as"
+                       " sent.", f"{many:,} left", WAITING, "letters.whom", values)
+            continue
+        yield Task(f"Send the letters of {draw_in_words(draw)}", "They are not recorded as sent.",
+                   f"{many:,} left", WAITING, "letters.whom", values)
 
 
 def of_places(register: Register, today: datetime.date) -> Iterator[Task]:
@@ -437,6 +442,11 @@ def preferences_met(register: Register) -> list[int]:
     return [*(found[it] for it in on_screen.MET), none]
 
 
+# what can become of an offer, by the class of its colour
+ANSWERS = {"has": "Accepted", "open": "Not answered", "none": "Declined or withdrawn",
+           "other": "Another place since"}
+
+
 def answers(register: Register) -> list[tuple[str, int, str]]:
     """What became of the offers of all draws, each with the class of its colour."""
     offers = {(child, register.outcomes[number][child])
@@ -449,9 +459,8 @@ def answers(register: Register) -> list[tuple[str, int, str]]:
             found["open" if place.kind == model.OFFERED else "has"] += 1
         else:
             found["none" if (child, school) in register.left else "other"] += 1
-    words = {"has": "Accepted", "open": "Not answered", "none": "Declined or withdrawn",
-             "other": "Another place since"}
-    return [(words[kind], found[kind], kind) for kind in words if found[kind] or kind != "other"]
+    return [(words, found[kind], kind) for kind, words in ANSWERS.items()
+            if found[kind] or kind != "other"]
 
 
 def dates(

@@ -273,8 +273,12 @@ def file_of(path: str, names: Names) -> str:
         return f"the list ‘{on_screen.title(rest[0])}’"
     if first == "schools" and rest:
         return f"the lists of {names.school(rest[0])}"
+    if first == "school" and rest:
+        return f"the waiting list of {names.school(rest[0])}"
     return {"register": "the whole register", "activity": "the activity", "lots": "a sheet of lots",
-            "trials": "a trial"}.get(first, path)
+            "trials": "a trial", "draw": "the record of a round or offer",
+            "round": "the record of a round or offer",
+            "pairs": "the children who need a lot"}.get(first, path)
 
 
 def text_of(value: Any) -> str:
