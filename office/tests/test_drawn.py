@@ -65,6 +65,33 @@ def test_the_season_has_its_parts_and_today() -> None:
     assert 'class="today"' not in later and not re.search(r"style=|<script", text + later)
 
 
+def test_the_words_of_the_season_are_read_in_light_and_in_dark() -> None:
+    """The contrast of the words of a part with its bar is at least 4.5."""
+    css = (ROOT / "deploy/site/ui.css").read_text("utf-8")
+    light, dark = (dict(re.findall(r"--([\w-]+): (#\w+)", css[css.index(it):].partition("}")[0]))
+                   for it in ("\n:root {", "(prefers-color-scheme: dark)"))
+
+    def fill(kind: str, values: dict[str, str]) -> float:
+        found = re.search(rf"^{re.escape(kind)} {{ fill: (?:var\(--([\w-]+)\)|(#\w+));", css, re.M)
+        if found is None:
+            return light_of(values["ink"])
+        return light_of(values[found[1]] if found[1] else found[2])
+
+    for values in (light, {**light, **dark}):
+        for state in ("done", "now", "next"):
+            pair = sorted(fill(it, values) + 0.05 for it in (
+                f".drawn .span-words.{state}", f".span.{state}"))
+            assert pair[1] / pair[0] >= 4.5, (state, pair)
+
+
+def light_of(colour: str) -> float:
+    """The relative luminance of a colour, as WCAG 2.2 computes it."""
+    digits = colour[1:] if len(colour) == 7 else "".join(2 * it for it in colour[1:])
+    parts = [int(digits[at:at + 2], 16) / 255 for at in (0, 2, 4)]
+    linear = [it / 12.92 if it <= 0.04045 else ((it + 0.055) / 1.055) ** 2.4 for it in parts]
+    return 0.2126 * linear[0] + 0.7152 * linear[1] + 0.0722 * linear[2]
+
+
 def test_a_bar_is_as_long_as_its_share() -> None:
     """And one of nothing has no length."""
     assert 'width="24.6"' in pictures.bar(25, 100, "first")
