@@ -393,7 +393,7 @@ def test_what_is_refused_changes_nothing(
     before = everything(machine)
     with pytest.raises(Refused, match=said):
         run(*options)
-    with pytest.raises(Refused, match="no such register"):
+    with pytest.raises(Refused, match="no such register: .*; registers of this machine: "):
         run(name="secondary-2031")
     assert {**everything(machine), "lock": b""} == {**before, "lock": b""}
 

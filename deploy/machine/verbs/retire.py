@@ -37,7 +37,7 @@ from register_files import Refused
 
 from .. import answers, deletion, files, network, office_delete, second_copy, serving, sites
 from ..programs import USER, call, is_booted, tool
-from ..registers import Register, named, stored
+from ..registers import Register, known, named, stored
 
 LOGS, MOST_REASON = pathlib.Path("/var/log/admissions"), 200
 
@@ -55,10 +55,10 @@ def main(given: argparse.Namespace) -> int:
     register = named(given.name)
     record = deletion.record_of(register)
     if not anything(register) and not given.second_place:
-        if not record:
-            raise Refused(f"no such register: {register.name}", 2)
-        print(in_words(register, record))
-        return 0
+        if record:
+            print(in_words(register, record))
+            return 0
+        known(register.name)
     see_time(register, record, given.early)
     if given.second_place:
         see_own_place(register)
