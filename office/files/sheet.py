@@ -14,13 +14,15 @@ from xml.parsers import expat
 
 from register_files import Refused
 
-from office.core import libraries
+from office.core import libraries, texts
 
 from . import file_kinds, inputs
 
 SEPARATORS = {",": "commas", ";": "semicolons", "\t": "tabs"}
 SPACE = "http://schemas.openxmlformats.org/spreadsheetml/2006/main"
-MAIN, ROW, CELL = f"{{{SPACE}}}", f"{SPACE} row", f"{SPACE} c"
+MAIN, ROW, CELL, PAGE = f"{{{SPACE}}}", f"{SPACE} row", f"{SPACE} c", f"{SPACE} sheet"
+# more sheets than an office has, and so many of them are named in a refusal
+MOST_PAGES, MOST_NAMED = 250, 10
 # a row, the place of a column or None, a sentence, and whether it is an error
 Problem = tuple[int, int | None, str, bool]
 
@@ -189,8 +191,10 @@ def workbook(name: str, data: bytes, wanted: str | None, advice: str) -> Sheet:
         if wanted is not None:
             sheets = [it for it in sheets if it.title == wanted]
         if len(sheets) != 1:
-            names = ", ".join(it.title for it in book.worksheets)
-            raise Refused(f"{name} has the sheets {names}: {advice}")
+            names = [texts.cut(it.title) for it in book.worksheets]
+            more = ", .." if len(names) > MOST_NAMED else ""
+            named = ", ".join(names[:MOST_NAMED])
+            raise Refused(f"{name} has the sheets {named}{more}: {advice}")
         return sheet_of(name, sheets[0])
     except (Refused, MemoryError):
         raise
@@ -219,12 +223,12 @@ def see_parts(name: str, data: bytes) -> None:
 
 
 class Cells:
-    """Counts the cells of an Excel file, those without a value too, each of which takes memory as
-    it is read.
+    """Counts the cells and rows of an Excel file, those without a value too, and its sheets: each of
+    them takes time or memory as it is read.
     """
 
     def __init__(self, name: str) -> None:
-        self.name, self.total, self.in_row = name, 0, 0
+        self.name, self.total, self.in_row, self.pages = name, 0, 0, 0
 
     def count(self, part: IO[bytes]) -> None:
         """Counts those of a part, or refuses where they are too many. What is no XML has none."""
@@ -237,11 +241,14 @@ class Cells:
 
     def begin(self, tag: str, _: object) -> None:
         """Sees an element."""
-        if tag == ROW:
-            self.in_row = 0
-        elif tag == CELL:
+        if tag == PAGE:
+            self.pages += 1
+            if self.pages > MOST_PAGES:
+                raise Refused(f"{self.name} has too many sheets: an Excel file has at most"
+                              f" {MOST_PAGES} here")
+        if tag in (ROW, CELL):
             self.total += 1
-            self.in_row += 1
+            self.in_row = self.in_row + 1 if tag == CELL else 0
             if self.total > inputs.MOST_FORMATTED or self.in_row > inputs.MOST_IN_ROW:
                 most = (f"an Excel file has at most {inputs.MOST_FORMATTED:,} here, and"
                         f" {inputs.MOST_IN_ROW:,} in a row, with those that are empty")

@@ -422,20 +422,40 @@ def test_a_process_that_reads_a_file_is_ended_first(monkeypatch: pytest.MonkeyPa
     assert apart.done("any", "a try", {}, b"") == b"1000 500000000 False\n"
 
 
-@pytest.mark.parametrize("rows", [1, 3600])
-def test_empty_cells_are_counted_too(rows: int) -> None:
-    """A workbook of some kilobytes has millions of them, and each would take memory."""
-    space = "http://schemas.openxmlformats.org/spreadsheetml/2006/main"
-    row = f"<row>{'<c/>' * (3_600_000 // rows)}</row>"
-    text = f'<worksheet xmlns="{space}"><sheetData>{row * rows}</sheetData></worksheet>'
+def book_with(part: str, text: str) -> bytes:
+    """An Excel file in which a part is another text."""
     given, out = io.BytesIO(), io.BytesIO()
     openpyxl.Workbook().save(given)
     with zipfile.ZipFile(given) as old, zipfile.ZipFile(out, "w", zipfile.ZIP_DEFLATED) as new:
         for it in old.namelist():
-            new.writestr(it, text if it.endswith("sheet1.xml") else old.read(it))
+            new.writestr(it, text if it.endswith(part) else old.read(it))
     assert len(out.getvalue()) < 100_000
+    return out.getvalue()
+
+
+SPACE = "http://schemas.openxmlformats.org/spreadsheetml/2006/main"
+
+
+@pytest.mark.parametrize("rows, cells", [(1, 3_600_000), (3600, 1000), (2_500_000, 0)])
+def test_empty_cells_are_counted_too(rows: int, cells: int) -> None:
+    """A workbook of some kilobytes has millions of them, and each would take memory; and millions
+    of rows without any, of which each takes time.
+    """
+    row = f"<row>{'<c/>' * cells}</row>" if cells else "<row/>"
+    text = f'<worksheet xmlns="{SPACE}"><sheetData>{row * rows}</sheetData></worksheet>'
     with pytest.raises(Refused, match="a.xlsx has too many cells: an Excel file has at most"):
-        sheet_apart.read("a.xlsx", out.getvalue(), None, "")
+        sheet_apart.read("a.xlsx", book_with("sheet1.xml", text), None, "")
+
+
+def test_sheets_are_counted_and_few_are_named() -> None:
+    """Each of them is opened; and a message has some names, of which none is long."""
+    one = f'<sheet name="{"S" * 90}" sheetId="1" r:id="rId1"/>'
+    link = 'xmlns:r="http://schemas.openxmlformats.org/officeDocument/2006/relationships"'
+    for many, said in ((100_000, "^a.xlsx has too many sheets: an Excel file has at most 250 here"),
+                       (200, "^a.xlsx has the sheets (S{60}.., ){10}..: name one$")):
+        text = f'<workbook xmlns="{SPACE}" {link}><sheets>{one * many}</sheets></workbook>'
+        with pytest.raises(Refused, match=said):
+            sheet_apart.read("a.xlsx", book_with("workbook.xml", text), None, "name one")
 
 
 def test_a_process_that_is_ended_leaves_no_core(monkeypatch: pytest.MonkeyPatch) -> None:
