@@ -223,8 +223,8 @@ def see_parts(name: str, data: bytes) -> None:
 
 
 class Cells:
-    """Counts the cells and rows of an Excel file, those without a value too, and its sheets: each of
-    them takes time or memory as it is read.
+    """Counts the cells and rows of an Excel file, those without a value too, and its sheets: each
+    of them takes time or memory as it is read.
     """
 
     def __init__(self, name: str) -> None:

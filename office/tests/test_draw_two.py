@@ -286,8 +286,8 @@ def test_who_made_the_account_that_made_an_account_does_not_confirm(small: Machi
     """
     with small.office() as office:
         record = office.parts.history
-        for by, to in (("ann", "hal"), ("hal", "bea"), ("bea", "cy"), ("cy", "jane"), ("ann", "pat"),
-                       ("jane", "dee"), ("dee", "ike")):
+        for by, to in (("ann", "hal"), ("hal", "bea"), ("bea", "cy"), ("cy", "jane"),
+                       ("ann", "pat"), ("jane", "dee"), ("dee", "ike")):
             record.add(by, "added", {"person": to, "role": "officer"})
         office_of_two(office)
         number = begun(office)

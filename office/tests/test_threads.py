@@ -4,7 +4,6 @@ a sign-in keeps its threads.
 import contextlib
 import hashlib
 import http.client
-import json
 import os
 import pathlib
 import signal
