@@ -1,8 +1,9 @@
 // The fields of a child and of its application: the name of each, the type of its value, and its value where it is omitted.
-ghost use Rattle.std.specs.Prelude.{◌≡◌, ℕ, List, Option, None, Some, codes};
+ghost use Rattle.std.specs.Prelude.{◌≡◌, ℕ, List, Option, None, Some, codes, []};
 
 use crate::Field;
 use adm_types::{ChildNo, SchoolCode, Seq, Text};
+use std::alloc::Global;
 
 /// A child, by its number.
 pub struct ChildField;
@@ -18,7 +19,7 @@ impl Field for ChildField {
         "child"
     }
 
-    fn otherwise() -> Option<ChildNo> {
+    fn otherwise(_alloc: Global) -> Option<ChildNo> {
         None
     }
 }
@@ -36,7 +37,7 @@ impl Field for Name {
         "name"
     }
 
-    fn otherwise() -> Option<Text> {
+    fn otherwise(_alloc: Global) -> Option<Text> {
         None
     }
 }
@@ -55,7 +56,7 @@ impl Field for East {
         "east"
     }
 
-    fn otherwise() -> Option<u32> {
+    fn otherwise(_alloc: Global) -> Option<u32> {
         None
     }
 }
@@ -74,7 +75,7 @@ impl Field for North {
         "north"
     }
 
-    fn otherwise() -> Option<u32> {
+    fn otherwise(_alloc: Global) -> Option<u32> {
         None
     }
 }
@@ -92,7 +93,7 @@ impl Field for LookedAfter {
         "looked_after"
     }
 
-    fn otherwise() -> Option<bool> {
+    fn otherwise(_alloc: Global) -> Option<bool> {
         None
     }
 }
@@ -111,7 +112,7 @@ impl Field for Flags {
         "flags"
     }
 
-    fn otherwise() -> Option<u16> {
+    fn otherwise(_alloc: Global) -> Option<u16> {
         None
     }
 }
@@ -130,7 +131,26 @@ impl Field for Siblings {
         "siblings"
     }
 
-    fn otherwise() -> Option<Seq<SchoolCode>> {
+    fn otherwise(_alloc: Global) -> Option<Seq<SchoolCode>> {
+        None
+    }
+}
+
+/// The same column of a table, in which the catchment schools follow.
+pub struct SiblingsAndCatchments;
+
+impl Field for SiblingsAndCatchments {
+    type Value = (Seq<SchoolCode>, Seq<SchoolCode>);
+
+    ghost name = { codes "siblings" };
+
+    ghost otherwise = { None };
+
+    fn name() -> &'static str {
+        "siblings"
+    }
+
+    fn otherwise(_alloc: Global) -> Option<(Seq<SchoolCode>, Seq<SchoolCode>)> {
         None
     }
 }
@@ -149,7 +169,7 @@ impl Field for Present {
         "present"
     }
 
-    fn otherwise() -> Option<Option<SchoolCode>> {
+    fn otherwise(_alloc: Global) -> Option<Option<SchoolCode>> {
         Some(None)
     }
 }
@@ -167,7 +187,7 @@ impl Field for Day {
         "day"
     }
 
-    fn otherwise() -> Option<adm_types::Day> {
+    fn otherwise(_alloc: Global) -> Option<adm_types::Day> {
         None
     }
 }
@@ -186,7 +206,26 @@ impl Field for Preferences {
         "preferences"
     }
 
-    fn otherwise() -> Option<Seq<SchoolCode>> {
+    fn otherwise(_alloc: Global) -> Option<Seq<SchoolCode>> {
         None
+    }
+}
+
+/// The schools in whose catchment areas the child lives; none where it is omitted.
+pub struct Catchments;
+
+impl Field for Catchments {
+    type Value = Seq<SchoolCode>;
+
+    ghost name = { codes "catchments" };
+
+    ghost otherwise = { Some [] };
+
+    fn name() -> &'static str {
+        "catchments"
+    }
+
+    fn otherwise(alloc: Global) -> Option<Seq<SchoolCode>> {
+        Some(Seq::new(alloc))
     }
 }

@@ -27,6 +27,7 @@ fn meets(school: &School, child: &Child, criterion: Criterion) -> bool
 {
     match criterion {
         Criterion::Sibling => is_listed(child.siblings.as_slice(), &school.code),
+        Criterion::Catchment => is_listed(child.catchments.as_slice(), &school.code),
         Criterion::Within(metres) => is_nearer(school.at, child.home, metres + 1),
         Criterion::Flag(flag) => has_flag(child.flags, flag),
         Criterion::Feeder(feeder) => child.present == Some(feeder),

@@ -2,7 +2,7 @@
 use Rattle.adm_types.proofs.ReadBack.{plain_decimal, small_enough, IsPiece, no_text, piece_cons, decimal_piece, Reads, code_reads}
 use Rattle.adm_types.specs.Criteria.{first_criterion, criterion_of, criterion_text, is_criterion}
 use Rattle.adm_types.specs.contracts.criteria.CriterionPartialEq.TheImpl.{eq-value as criterion_eq}
-use Rattle.adm_types.specs.declared.criteria.Criterion.TheVariants.{Sibling, Within, Flag, Feeder}
+use Rattle.adm_types.specs.declared.criteria.Criterion.TheVariants.{Sibling, Within, Flag, Feeder, Catchment}
 use Rattle.adm_types.specs.declared.criteria.Criterion.{Criterion}
 use Rattle.std.proofs.Common.{sym, subst, true≢false, ◌≡◌, ℕ, ◌<◌, ◌^◌, true, List, [], ◌∷◌, ◌++◌, Some, None, nat_lt, refl, ap, arith}
 use Rattle.std.proofs.lemmas.Bool.Decides.{nat_tests}
@@ -29,6 +29,7 @@ flag_fits n h = grind (arith, nat_tests)
 pub criterion_again : (c : Criterion) → is_criterion c ≡ true → criterion_of (criterion_text c) ≡ Some c
 unfolding criterion_of
 criterion_again Sibling h = refl
+criterion_again Catchment h = refl
 criterion_again (Within metres) h = ap (λ o. first_criterion (option_map Within o) None) (plain_decimal metres (metres_fit metres h))
 criterion_again (Flag flag) h = ap (λ o. first_criterion None (first_criterion (option_map Flag o) None)) (plain_decimal flag (flag_fits flag h))
 criterion_again (Feeder school) h = ap (λ o. first_criterion None (first_criterion None (option_map Feeder o))) (code_reads school h).again
@@ -54,6 +55,12 @@ criterion_reads Sibling h = record {
   piece = fixed_piece (codes "sibling") [] refl no_text;
   some = omega arith;
   ascii = fixed_ascii (codes "sibling") [] refl IsAscii-nil;
+}
+criterion_reads Catchment h = record {
+  again = criterion_again Catchment h;
+  piece = fixed_piece (codes "catchment") [] refl no_text;
+  some = omega arith;
+  ascii = fixed_ascii (codes "catchment") [] refl IsAscii-nil;
 }
 criterion_reads (Within metres) h = record {
   again = criterion_again (Within metres) h;
@@ -87,6 +94,15 @@ same_criterion x y = (equal x y, λ e. subst (λ z. criterion_eq.it x z ≡ true
     equal Sibling (Within n) e = not_true e
     equal Sibling (Flag n) e = not_true e
     equal Sibling (Feeder n) e = not_true e
+    equal Sibling Catchment e = not_true e
+    equal Catchment Catchment e = refl
+    equal Catchment Sibling e = not_true e
+    equal Catchment (Within n) e = not_true e
+    equal Catchment (Flag n) e = not_true e
+    equal Catchment (Feeder n) e = not_true e
+    equal (Within m) Catchment e = not_true e
+    equal (Flag m) Catchment e = not_true e
+    equal (Feeder m) Catchment e = not_true e
     equal (Within m) Sibling e = not_true e
     equal (Within m) (Within n) e = ap Within ((unsigned_Decides m n).0 e)
     equal (Within m) (Flag n) e = not_true e
@@ -102,6 +118,7 @@ same_criterion x y = (equal x y, λ e. subst (λ z. criterion_eq.it x z ≡ true
 
     itself : (x : Criterion) → criterion_eq.it x x ≡ true
     itself Sibling = refl
+    itself Catchment = refl
     itself (Within m) = (unsigned_Decides m m).1 refl
     itself (Flag m) = (unsigned_Decides m m).1 refl
     itself (Feeder m) = (bytes_decides m m).1 refl

@@ -7,15 +7,7 @@ use Rattle.adm_types.specs.declared.rows.PresentRow.{PresentRow}
 
 -- the child, with this present school
 abbrev pub with_present : Child → Option (List ℕ) → Child
-with_present child school = record {
-  no = child.no;
-  name = child.name;
-  home = child.home;
-  looked_after = child.looked_after;
-  flags = child.flags;
-  siblings = child.siblings;
-  present = school;
-}
+with_present child school = record child { present = school }
 
 -- the same without a present school
 abbrev pub bare_child : Child → Child

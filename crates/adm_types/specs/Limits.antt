@@ -1,5 +1,5 @@
 -- The limits of names, points, schools, children and lists of schools.
-use Rattle.std.specs.Prelude.{ℕ, Bool, true, not, ◌&&◌, List, [], ◌∷◌, length, nat_le, nat_eq, Option, Some, None}
+use Rattle.std.specs.Prelude.{ℕ, Bool, true, false, not, ◌&&◌, List, [], ◌∷◌, length, nat_le, nat_eq, Option, Some, None}
 use Rattle.std.specs.List.{list_any, list_all}
 use Rattle.std.specs.Str.{chars}
 use Rattle.std.specs.Char.{is_control}
@@ -11,6 +11,8 @@ use Rattle.std.specs.Ordering.{nat_cmp}
 use Rattle.std.specs.declared.cmp.Ordering.{Ordering}
 use Rattle.adm_types.specs.declared.seasons.Size.{Size}
 use Rattle.adm_types.specs.declared.seasons.Size.TheVariants.{Standard, Large}
+use Rattle.adm_types.specs.declared.criteria.Criterion.{Criterion}
+use Rattle.adm_types.specs.declared.criteria.Criterion.TheVariants.{Sibling, Within, Flag, Feeder, Catchment}
 use Rattle.adm_types.specs.declared.rows.Point.{Point}
 use Rattle.adm_types.specs.declared.rows.School.{School}
 use Rattle.adm_types.specs.declared.rows.Child.{Child}
@@ -37,6 +39,20 @@ most_draws = 10000
 abbrev pub most_lots : Size → ℕ
 most_lots Standard = 1000000
 most_lots Large = 20000000
+
+-- in how many catchment areas a child lives at the most: a standard season has none
+abbrev pub most_catchments : Size → ℕ
+most_catchments Standard = 0
+most_catchments Large = 10
+
+-- whether a school may have this criterion
+abbrev pub is_allowed : Size → Criterion → Bool
+is_allowed Large criterion = true
+is_allowed Standard Catchment = false
+is_allowed Standard Sibling = true
+is_allowed Standard (Within metres) = true
+is_allowed Standard (Flag flag) = true
+is_allowed Standard (Feeder school) = true
 
 -- 1 to 80 bytes without control characters
 abbrev pub is_name : List ℕ → Bool
@@ -73,6 +89,16 @@ abbrev pub is_code_or_none : Option (List ℕ) → Bool
 is_code_or_none None = true
 is_code_or_none (Some school) = is_code school
 
--- a home on the map, at most 6 siblings' schools without repeat, and a present school that has a code, or none
+-- a home on the map, at most 6 siblings' schools without repeat, a present school that has a code, or none, and at most 10 catchment schools without repeat
 abbrev pub is_child_in_range : Child → Bool
-is_child_in_range c = is_on_map c.home && nat_le (length c.siblings) 6 && is_without_repeat c.siblings && is_code_or_none c.present
+is_child_in_range c =
+    is_on_map c.home && nat_le (length c.siblings) 6 && is_without_repeat c.siblings && is_code_or_none c.present
+    && nat_le (length c.catchments) (most_catchments Large) && is_without_repeat c.catchments
+
+-- and no more catchment schools than a season of this size allows
+abbrev pub is_child_of_size : Size → Child → Bool
+is_child_of_size size c = is_child_in_range c && nat_le (length c.catchments) (most_catchments size)
+
+-- a school in its limits, with criteria that a season of this size allows
+abbrev pub is_school_of_size : Size → School → Bool
+is_school_of_size size s = is_school_in_range s && list_all (is_allowed size) s.criteria

@@ -7,17 +7,18 @@ use crate::{SchoolCode, plain};
 use std::fmt;
 
 /// An oversubscription criterion: a sibling at the school, a home at most so many metres away, a
-/// verified flag, or a feeder school that the child is at.
+/// verified flag, a feeder school that the child is at, or a home in the school's catchment area.
 #[derive(Clone, Copy, PartialEq, Eq, Debug)]
 pub enum Criterion {
     Sibling,
     Within(u32),
     Flag(u32),
     Feeder(SchoolCode),
+    Catchment,
 }
 
 impl Criterion {
-    /// The criterion that a text writes: `sibling`, or `within:` and a plain number of metres, or
+    /// The criterion that a text writes: `sibling` or `catchment`, or `within:` and a plain number of metres, or
     /// `flag:` and a plain number, or `feeder:` and the code of a school. Whether the number is in
     /// the criterion's range is not tested here. It takes no memory.
     #[tactic(auto, unfolding(crate::specs::Criteria::criterion_of))]
@@ -26,6 +27,9 @@ impl Criterion {
     {
         if text == "sibling" {
             return Some(Criterion::Sibling);
+        }
+        if text == "catchment" {
+            return Some(Criterion::Catchment);
         }
         if let Some(metres) = number_after(text, "within:") {
             return Some(Criterion::Within(metres));
@@ -67,6 +71,7 @@ impl fmt::Display for Criterion {
     fn fmt<W: fmt::Write>(&self, f: &mut fmt::Formatter<W>) -> fmt::Result {
         match self {
             Criterion::Sibling => f.write_str("sibling"),
+            Criterion::Catchment => f.write_str("catchment"),
             Criterion::Within(metres) => write!(f, "within:{metres}"),
             Criterion::Flag(flag) => write!(f, "flag:{flag}"),
             Criterion::Feeder(school) => write!(f, "feeder:{school}"),
@@ -79,7 +84,7 @@ pub(crate) fn is_criterion(criterion: &Criterion) -> bool
     ensures { result ≡ is_criterion criterion.now }
 {
     match criterion {
-        Criterion::Sibling => true,
+        Criterion::Sibling | Criterion::Catchment => true,
         Criterion::Within(metres) => 1 <= *metres && *metres <= 2_200_000,
         Criterion::Flag(flag) => *flag <= 15,
         Criterion::Feeder(school) => is_code(school),
@@ -92,6 +97,6 @@ pub fn came_later(criterion: &Criterion) -> bool
 {
     match criterion {
         Criterion::Sibling | Criterion::Within(_) | Criterion::Flag(_) => false,
-        Criterion::Feeder(_) => true,
+        Criterion::Feeder(_) | Criterion::Catchment => true,
     }
 }

@@ -6,7 +6,7 @@ ghost use Rattle.std.specs.Char.{is_control};
 ghost use Rattle.adm_types.specs.Code.{is_code};
 ghost use Rattle.adm_types.specs.Criteria.{is_criterion};
 ghost use Rattle.adm_types.specs.declared.seasons.Size.TheVariants.{Large};
-ghost use Rattle.adm_types.specs.Limits.{most_schools, most_children, most_lots, is_name, is_on_map, is_code_or_none, is_pan, is_school_in_range, is_listed, is_without_repeat, is_child_in_range};
+ghost use Rattle.adm_types.specs.Limits.{most_schools, most_children, most_lots, is_name, is_on_map, is_code_or_none, is_pan, is_school_in_range, is_listed, is_without_repeat, is_child_in_range, most_catchments, is_allowed, is_child_of_size, is_school_of_size};
 
 use crate::criteria::is_criterion;
 use crate::{Child, Criterion, Point, School, SchoolCode, Size, Text};
@@ -35,6 +35,32 @@ impl Size {
         match self {
             Size::Standard => 2_000,
             Size::Large => 40_000,
+        }
+    }
+
+    /// In how many catchment areas a child lives at the most; none in a standard season.
+    pub fn most_catchments(self) -> usize
+        ensures { result ≡ most_catchments self }
+    {
+        match self {
+            Size::Standard => 0,
+            Size::Large => 10,
+        }
+    }
+
+    /// Whether a school may have this criterion.
+    fn is_allowed(self, criterion: &Criterion) -> bool
+        ensures { result ≡ is_allowed self criterion.now }
+    {
+        match self {
+            Size::Standard => match criterion {
+                Criterion::Catchment => false,
+                Criterion::Sibling
+                | Criterion::Within(_)
+                | Criterion::Flag(_)
+                | Criterion::Feeder(_) => true,
+            },
+            Size::Large => true,
         }
     }
 
@@ -129,11 +155,39 @@ pub fn is_without_repeat(codes: &[SchoolCode]) -> bool
     }
 }
 
-/// Whether a child's home, its siblings' schools and its present school are in their ranges.
+/// Whether a child's home, its siblings' schools, its present school and its catchment schools are
+/// in their ranges.
 pub fn is_child_in_range(child: &Child) -> bool
     ensures { result ≡ is_child_in_range child.now }
 {
     let siblings = child.siblings.as_slice();
     let fits = is_on_map(&child.home) && siblings.len() <= 6 && is_without_repeat(siblings);
+    let catchments = child.catchments.as_slice();
+    let most = Size::Large.most_catchments();
     fits && is_code_or_none(&child.present)
+        && catchments.len() <= most
+        && is_without_repeat(catchments)
+}
+
+/// Whether it has, beside, no more catchment schools than a season of this size allows.
+pub fn is_child_of_size(size: Size, child: &Child) -> bool
+    ensures { result ≡ is_child_of_size size child.now }
+{
+    is_child_in_range(child) && child.catchments.as_slice().len() <= size.most_catchments()
+}
+
+/// Whether a season of this size allows each of these criteria.
+fn are_allowed(size: Size, criteria: &[Criterion]) -> bool
+    ensures { result ≡ list_all (is_allowed size) criteria.now }
+{
+    criteria
+        .iter()
+        .all(|criterion| size.is_allowed(criterion))
+}
+
+/// Whether a school is in its limits, with criteria that a season of this size allows.
+pub fn is_school_of_size(size: Size, school: &School) -> bool
+    ensures { result ≡ is_school_of_size size school.now }
+{
+    is_school_in_range(school) && are_allowed(size, school.criteria.as_slice())
 }
