@@ -3,6 +3,7 @@ ghost use Rattle.std.specs.Prelude.{◌≡◌, ℕ, List, Option, None, codes};
 
 use adm_fields::Field;
 use adm_types::{Criterion, SchoolCode, Seq, Text};
+use std::alloc::Global;
 
 /// The name of a command.
 pub(crate) struct Cmd;
@@ -18,7 +19,7 @@ impl Field for Cmd {
         "cmd"
     }
 
-    fn otherwise() -> Option<Text> {
+    fn otherwise(_alloc: Global) -> Option<Text> {
         None
     }
 }
@@ -37,7 +38,7 @@ impl Field for SchoolField {
         "school"
     }
 
-    fn otherwise() -> Option<SchoolCode> {
+    fn otherwise(_alloc: Global) -> Option<SchoolCode> {
         None
     }
 }
@@ -56,7 +57,7 @@ impl Field for Pan {
         "pan"
     }
 
-    fn otherwise() -> Option<u32> {
+    fn otherwise(_alloc: Global) -> Option<u32> {
         None
     }
 }
@@ -75,7 +76,7 @@ impl Field for Criteria {
         "criteria"
     }
 
-    fn otherwise() -> Option<Seq<Criterion>> {
+    fn otherwise(_alloc: Global) -> Option<Seq<Criterion>> {
         None
     }
 }
@@ -94,7 +95,7 @@ impl Field for Draw {
         "draw"
     }
 
-    fn otherwise() -> Option<u32> {
+    fn otherwise(_alloc: Global) -> Option<u32> {
         None
     }
 }
@@ -113,7 +114,7 @@ impl Field for Lots {
         "lots"
     }
 
-    fn otherwise() -> Option<Seq<u32>> {
+    fn otherwise(_alloc: Global) -> Option<Seq<u32>> {
         None
     }
 }

@@ -24,7 +24,7 @@ where
 {
     match object.get(F::name()) {
         Some(value) => F::Value::read(alloc, value),
-        None => F::otherwise().ok_or(WireFault::MissingField),
+        None => F::otherwise(alloc).ok_or(WireFault::MissingField),
     }
 }
 
