@@ -22,7 +22,7 @@ records_of text = records default_config (strip_bom text)
 unfoldable pub row_in : ℕ → Record → Result ImportRow Fault
 row_in width fields = row_of (import_fields csv) width fields >>= λ v. Ok (import_of v)
 
--- the names of the fields; the last may be omitted where it may be so in a row
+-- the names of the fields, of which the last ones may be omitted where they may be so in a row
 unfoldable pub is_header : Record → Bool
 is_header fields = (import_fields header).1 0 fields
 

@@ -23,7 +23,7 @@ where
     F::Value: CsvKind,
     ensures { Gives result (cell_in F.otherwise F.Value.says width place (fields_of fields.now)) }
 {
-    match F::otherwise() {
+    match F::otherwise(alloc) {
         None => F::Value::read(alloc, text_at(fields, place)),
         Some(value) => {
             if place < width {
@@ -65,12 +65,12 @@ pub(crate) trait CsvFields: Fields {
         ensures { Gives result (form width place (fields_of fields.now)) };
 
     /// Whether a header names the fields, from a place on.
-    fn are_named(place: usize, fields: &ByteRecord) -> bool
+    fn are_named(alloc: Global, place: usize, fields: &ByteRecord) -> bool
         requires { place + count < 2 ^ 64 }
         ensures { result ≡ names place (fields_of fields.now) };
 
     /// Whether all of the fields may be omitted.
-    fn may_end() -> bool
+    fn may_end(alloc: Global) -> bool
         ensures { result ≡ ends };
 }
 
@@ -92,11 +92,11 @@ impl CsvFields for () {
         Ok(())
     }
 
-    fn are_named(place: usize, fields: &ByteRecord) -> bool {
+    fn are_named(_alloc: Global, place: usize, fields: &ByteRecord) -> bool {
         fields.len() == place
     }
 
-    fn may_end() -> bool {
+    fn may_end(_alloc: Global) -> bool {
         true
     }
 }
@@ -124,16 +124,16 @@ where
         Ok((value, others))
     }
 
-    fn are_named(place: usize, fields: &ByteRecord) -> bool {
+    fn are_named(alloc: Global, place: usize, fields: &ByteRecord) -> bool {
         if fields.len() == place {
-            F::otherwise().is_some() && Others::may_end()
+            F::otherwise(alloc).is_some() && Others::may_end(alloc)
         } else {
-            is_field(fields, place, F::name()) && Others::are_named(place + 1, fields)
+            is_field(fields, place, F::name()) && Others::are_named(alloc, place + 1, fields)
         }
     }
 
-    fn may_end() -> bool {
-        F::otherwise().is_some() && Others::may_end()
+    fn may_end(alloc: Global) -> bool {
+        F::otherwise(alloc).is_some() && Others::may_end(alloc)
     }
 }
 

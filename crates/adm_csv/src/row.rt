@@ -13,10 +13,10 @@ use std::alloc::Global;
 
 /// Whether a record is a header.
 #[tactic(auto, unfolding(crate::specs::Rows::is_header))]
-pub(crate) fn is_header(fields: &ByteRecord) -> bool
+pub(crate) fn is_header(alloc: Global, fields: &ByteRecord) -> bool
     ensures { result ≡ is_header (fields_of fields.now) }
 {
-    ImportFields::are_named(0, fields)
+    ImportFields::are_named(alloc, 0, fields)
 }
 
 /// The row that a record is, under a header of so many fields.

@@ -30,14 +30,14 @@ fn source<'a>(alloc: Global, text: &'a [u8]) -> ByteRecordsIntoIter<&'a [u8]>
 }
 
 /// Takes the header: the number of its fields.
-fn take_header(records: &mut ByteRecordsIntoIter<&[u8]>) -> Result<usize, Fault>
+fn take_header(alloc: Global, records: &mut ByteRecordsIntoIter<&[u8]>) -> Result<usize, Fault>
     requires { IsPlain records.old }
     ensures ok { IfOk result (λ width. (h : Record) × (remaining_of records.old ≡ h ∷ remaining_of records.new) × (is_header h ≡ true) × IsPlain records.new × (width ≡ length h)) }
     ensures err { IfErr result (λ e. FailsAt ⊥ (record { row = 0; fault = e }) e (remaining_of records.old)) }
 {
     match records.next() {
         Some(Ok(fields)) => {
-            if is_header(&fields) {
+            if is_header(alloc, &fields) {
                 Ok(fields.len())
             } else {
                 Err(Fault::Header)
@@ -102,7 +102,7 @@ fn rows_of(alloc: Global, text: &[u8]) -> Result<Vec<Row>, RowFault>
     ensures memory { IfErr result (λ e. e.fault ≡ Fault.Memory → IsReached e.row (records_of text.now)) }
 {
     let mut records = source(alloc, text);
-    match take_header(&mut records) {
+    match take_header(alloc, &mut records) {
         Ok(width) => rows_from(alloc, width, records),
         Err(fault) => Err(RowFault { row: 0, fault }),
     }
@@ -112,9 +112,10 @@ fn rows_of(alloc: Global, text: &[u8]) -> Result<Vec<Row>, RowFault>
 ///
 /// Records are as `csv` reads them with commas, double quotes and any number of fields: a byte
 /// order mark at the start and empty lines are no part of any. The first is the header, exactly
-/// `child,name,east,north,looked_after,flags,siblings,day,preferences`, or this with `,present`
-/// after it; each other is a row of as many fields, and the error is that of the first row with
-/// one. Under the shorter header no child has a present school. Read is reported whatever precedes
+/// `child,name,east,north,looked_after,flags,siblings,day,preferences`, or this with `,present` or
+/// with `,present,catchments` after it; each other is a row of as many fields, and the error is that
+/// of the first row with one. Under a header without `present` no child has a present school, and
+/// under one without `catchments` none has a catchment school. Read is reported whatever precedes
 /// it, and Memory may come at any point: their row is the one that was being read, that is, the
 /// number of records that had ended. Where Memory comes after the bytes were read, the records
 /// before its row have no error.
