@@ -21,7 +21,7 @@ MOST_DRAWS, MOST_NUMBER = 10_000, 2**32 - 1
 MOST = {2: (200, 2000, 1_000_000), 3: (1000, 40_000, 20_000_000)}
 OFFERED, ACCEPTED, PLAN = 1, 2, 3
 is_code = re.compile(r"[A-Z0-9]{1,8}").fullmatch
-criterion = re.compile(r"sibling|within:([1-9][0-9]*)|flag:(0|[1-9][0-9]*)|feeder:[A-Z0-9]{1,8}").fullmatch
+criterion = re.compile(r"sibling|catchment|within:([1-9][0-9]*)|flag:(0|[1-9][0-9]*)|feeder:[A-Z0-9]{1,8}").fullmatch
 has_control = re.compile(r"[\x00-\x1f\x7f-\x9f]").search
 
 
@@ -100,7 +100,8 @@ class Rows:
         )
 
     def is_child(self, child, name, east, north, looked_after, flags, siblings):
-        named = items(siblings)
+        siblings, bar, catchments = siblings.partition("|")
+        named, areas = items(siblings), items(catchments)
         return (
             1 <= child <= 9999999
             and is_name(name)
@@ -110,6 +111,10 @@ class Rows:
             and len(named) <= 6
             and len(set(named)) == len(named)
             and self.codes.issuperset(named)
+            and (bool(areas) if bar else True)
+            and len(areas) <= 10
+            and len(set(areas)) == len(areas)
+            and self.codes.issuperset(areas)
         )
 
     def is_application(self, child, day, preferences):

@@ -3,8 +3,9 @@ benchmarks compare with.
 
 A school is a dict with its code (school), point (east, north) and criteria, as the command
 add_school has them; a child one with its point, looked_after, flags, siblings and, where it has
-one, its present school (present), as the command add_child has them. Metres are rounded down. It
-shares no code with the program, and none with the audit, which is an opinion of its own.
+them, its present school (present) and its catchment schools (catchments), as the command add_child
+has them. Metres are rounded down. It shares no code with the program, and none with the audit,
+which is an opinion of its own.
 """
 import math
 from collections.abc import Mapping
@@ -23,6 +24,8 @@ def meets(school: Record, child: Record, criterion: str) -> bool:
     kind, _, value = criterion.partition(":")
     if kind == "sibling":
         return school["school"] in child["siblings"]
+    if kind == "catchment":
+        return school["school"] in child.get("catchments", ())
     if kind == "feeder":
         return bool(child.get("present") == value)
     if kind == "within":

@@ -93,7 +93,7 @@ def tables(document: dict[str, Any]) -> dict[str, list[str]]:
 def field_in_words(field: dict[str, Any]) -> str:
     """A field of a command with its kind, and its value where it is missing."""
     kind = KINDS.get(field["kind"], field["kind"])
-    omitted = str(field.get("omitted", "")).lower() or "none"
+    omitted = str(field.get("omitted") or "none").lower()
     missing = f" (may be missing: {omitted})" if field["optional"] else ""
     return f"`{field['field']}` {kind}{missing}"
 

@@ -44,7 +44,13 @@ LIMITS = (
     (
         "adm_types/Limits.is_child_in_range",
         "is_on_map c.home && nat_le (length c.siblings) <siblings.most>"
-        " && is_without_repeat c.siblings && is_code_or_none c.present",
+        " && is_without_repeat c.siblings && is_code_or_none c.present"
+        " && nat_le (length c.catchments) (most_catchments Large)"
+        " && is_without_repeat c.catchments",
+    ),
+    (
+        "adm_types/Limits.is_child_of_size",
+        "is_child_in_range c && nat_le (length c.catchments) (<catchments.most> size)",
     ),
     (
         "adm_commands/Apply.further_tests",
@@ -215,7 +221,9 @@ class Rules:
         return "A-Z0-9"
 
     def criteria(self) -> list[dict[str, Any]]:
-        """The forms of criteria: their texts, and the value that follows, with its limits."""
+        """The forms of criteria: their texts, and the value that follows, with its limits; `large`
+        if a large register alone may have it.
+        """
         limits: dict[str, dict[str, int]] = {}
         form = r"\(?(\w+)(?: (\w+)\))? = (?:true|is_from (\d+) (\d+) \2|nat_le \2 (\d+)|is_code \2)"
         for found in self.equations("adm_types/Criteria.is_criterion", form):
@@ -223,15 +231,20 @@ class Rules:
             limits[found[1]] = (
                 {"least": int(found[3] or 0), "most": int(most)} if most else {}
             )
+        form = r"(\w+) \(?(\w+)(?: \w+\))? = (true|false)"
+        sized = self.equations("adm_types/Limits.is_allowed", form)
+        large: dict[str, dict[str, bool]] = {it[2]: {"large": True} for it in sized if it[3] == "false"}
         _, text = self.parts("adm_types/Criteria.criterion_of")
-        first = re.fullmatch(
+        made: list[dict[str, Any]] = []
+        while first := re.fullmatch(
             r'if pointwise nat_eq text \(codes "(\w+)"\) then Some (\w+) else (.*)', text
-        )
-        if not first or limits.pop(first[2], None) != {}:
-            raise FormError(f"adm_types/Criteria.criterion_of has another form: {text}")
-        made: list[dict[str, Any]] = [{"text": first[1]}]
-        for variant, kind, prefix in self.read_after(parsed(first[3])):
-            made.append({"text": prefix, "value": kind, **limits.pop(variant)})
+        ):
+            if limits.pop(first[2], None) != {}:
+                raise FormError(f"adm_types/Criteria.criterion_of has another form: {text}")
+            made.append({"text": first[1], **large.get(first[2], {})})
+            text = first[3]
+        for variant, kind, prefix in self.read_after(parsed(text)):
+            made.append({"text": prefix, "value": kind, **limits.pop(variant), **large.get(variant, {})})
         if limits:
             raise FormError(f"adm_types/Criteria.criterion_of does not read {', '.join(limits)}")
         return made

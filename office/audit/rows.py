@@ -28,7 +28,7 @@ KEY_NAMES = ("class", "distance", "lot")
 
 
 # The tables that are looked into. Days are counted from 1970-01-01, lists are joined by semicolons,
-# and flags are bits.
+# and flags are bits. Where a child has catchment schools, they follow those of its siblings after |.
 class Meta(NamedTuple):
     """The season."""
 
@@ -271,7 +271,9 @@ class Problem:
         """Whether a child meets a criterion of a school that is so far from its home."""
         kind, _, value = criterion.partition(":")
         if kind == "sibling":
-            return code in split(child.siblings)
+            return code in split(child.siblings.partition("|")[0])
+        if kind == "catchment":
+            return code in split(child.siblings.partition("|")[2])
         if kind == "within":
             return metres <= int(value)
         if kind == "flag":

@@ -125,12 +125,13 @@ def outside(command: Mapping[str, Any]) -> list[str]:
         for name, value, limit in numbers_of(command)
         if not limit.has(value)
     ]
-    for name in ("criteria", "siblings"):
-        if len(command.get(name, [])) > rules.LIMITS[name].most:
-            most = rules.LIMITS[name].most
+    for name in ("criteria", "siblings", "catchments"):
+        most = rules.LARGE.get(name, rules.LIMITS[name]).most
+        if len(command.get(name, [])) > most:
             found.append(f'"{name}" has {len(command[name])} items, and may have {most}')
-    siblings = collections.Counter(command.get("siblings", []))
-    found += [f'"siblings" has {it} twice' for it, many in siblings.items() if many > 1]
+    for name in ("siblings", "catchments"):
+        given = collections.Counter(command.get(name, []))
+        found += [f'"{name}" has {it} twice' for it, many in given.items() if many > 1]
     if command["cmd"] == "raise_pan" and not found:
         found.append(
             f'"pan" is {command["pan"]}, and must not be less than the present admission number of'
@@ -150,7 +151,7 @@ def values_of(command: Any) -> dict[str, str]:
         if name in command and is_kind(kind, command[name])
     }
     codes = [command.get("school")]
-    for name in ("siblings", "preferences"):
+    for name in ("siblings", "catchments", "preferences"):
         if is_kind("list of code", command.get(name)):
             codes += command[name]
     if schools := list(dict.fromkeys(filter(rules.is_code, codes))):

@@ -53,6 +53,8 @@ def in_words(school: School, number: int, flags: Mapping[int, str] | None = None
     kind, _, value = school.criteria[number - 1].partition(":")
     if kind == "sibling":
         return "with a brother or sister at the school"
+    if kind == "catchment":
+        return "living in the school’s catchment area"
     if kind == "within":
         return f"living within {int(value):,} metres of the school"
     if kind == "flag":

@@ -67,8 +67,8 @@ class School(Protocol):
 
 
 class Context(Protocol):
-    """What readers know: the schools of a register, whether days are day/month/year, and the words
-    of flags.
+    """What readers know: the schools of a register, whether days are day/month/year, the words of
+    flags, and whether the register is large.
     """
 
     @property
@@ -79,6 +79,9 @@ class Context(Protocol):
 
     @property
     def words(self) -> Mapping[int, str]: ...
+
+    @property
+    def is_large(self) -> bool: ...
 
 
 def columns_up_to(has: Collection[str]) -> list[str]:
@@ -279,6 +282,17 @@ def siblings(text: str, context: Context) -> Field:
     return dataclasses.replace(found, likely=(*found.likely, without(text, found.item)))
 
 
+def catchments(text: str, context: Context) -> Field:
+    """The schools in whose catchment areas the home is. One that is not known may be left out."""
+    if not rules.has("catchments", context.is_large) and trimmed(text):
+        return Field("", "this register has no catchment areas", "no areas",
+                     likely=(Likely("Leave it out", ""),))
+    found = codes(text, context.schools, rules.LARGE["catchments"])
+    if found.fault != "school":
+        return found
+    return dataclasses.replace(found, likely=(*found.likely, without(text, found.item)))
+
+
 def preferences(text: str, context: Context) -> Field:
     """The schools that a family wants, best first."""
     return codes(text, context.schools, LIMITS["preferences"])
@@ -345,7 +359,7 @@ Reader = Callable[[str, Context], Field]
 READERS: dict[str, Reader] = {
     "child": child, "name": name, "east": coordinate, "north": north, "looked_after": truth,
     "flags": flags, "siblings": siblings, "day": day, "preferences": preferences,
-    "present": present,
+    "present": present, "catchments": catchments,
 }
 # of a column that has no reader of its own
 READERS_BY_KIND: dict[str, Reader] = {

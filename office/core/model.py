@@ -29,8 +29,9 @@ HELD, LEFT, BEFORE, BELOW, WAITS = "place", "left", "before", "below", "waits"
 # what put a refused child after the last one that a draw took in at a school
 CLASS, DISTANCE, LOT, NOBODY = "class", "distance", "lot", "nobody"
 REASONS = (CLASS, DISTANCE, LOT, NOBODY, None)
-# the members of a child that are not fields of commands
+# the members of a child that are not fields of commands, and what a field is that is not shown
 NO_DATA = ("application", "left", "place")
+OMITTED = {it.name: it.omitted for it in rules.COMMANDS["amend"].values() if it.is_optional}
 # the members of a preference that each has
 RANKED = operator.itemgetter("school", "class", "metres", "state")
 Pair = tuple[str, int]
@@ -56,8 +57,9 @@ class School:
 
 
 class Child(NamedTuple):
-    """A child: its home in metres, its flags as numbers, the codes of its siblings' schools, and
-    its present school or ""; and all its data by the names of the fields of commands.
+    """A child: its home in metres, its flags as numbers, the codes of its siblings' schools, its
+    present school or "", and its catchment schools; and all its data by the names of the fields of
+    commands.
     """
 
     number: int
@@ -68,6 +70,7 @@ class Child(NamedTuple):
     flags: tuple[int, ...]
     siblings: tuple[str, ...]
     present: str
+    catchments: tuple[str, ...]
     data: dict[str, Any]
 
 
@@ -592,10 +595,10 @@ def school_of(found: dict[str, Any]) -> School:
 
 def child_of(found: dict[str, Any]) -> Child:
     """A child of a document, with each field of its data, also one that is not named here."""
-    data = {name: it for name, it in found.items() if name not in NO_DATA}
+    data = {**OMITTED, **{name: it for name, it in found.items() if name not in NO_DATA}}
     return Child(found["child"], found["name"], found["east"], found["north"],
                  found["looked_after"], tuple(found["flags"]), tuple(found["siblings"]),
-                 found["present"], data)
+                 found["present"], tuple(data["catchments"]), data)
 
 
 def application_of(found: dict[str, Any]) -> Application:

@@ -41,11 +41,14 @@ class Field:
 
 @dataclasses.dataclass(frozen=True)
 class Criterion:
-    """A form of criteria: its text or prefix, the kind of what follows, and its limit if any."""
+    """A form of criteria: its text or prefix, the kind of what follows, its limit if any, and
+    whether a large register alone may have it.
+    """
 
     text: str
     value: str | None
     limit: Limit | None
+    is_of_large: bool
 
 
 def read(name: str) -> Any:
@@ -73,7 +76,8 @@ COMMANDS = {name: fields_of(it) for name, it in RULES["commands"].items()}
 COLUMNS = fields_of(RULES["columns"])
 CRITERIA = [
     Criterion(
-        it["text"], it.get("value"), Limit(it["least"], it["most"]) if "most" in it else None
+        it["text"], it.get("value"), Limit(it["least"], it["most"]) if "most" in it else None,
+        it.get("large", False),
     )
     for it in RULES["criteria"]
 ]
@@ -82,6 +86,11 @@ CODE = re.compile(
     f"{{{LIMITS['code'].least},{LIMITS['code'].most}}}"
 )
 CODE_IN_WORDS = f"{LIMITS['code'].least} to {LIMITS['code'].most} of A-Z and 0-9"
+
+
+def has(name: str, is_large: bool) -> bool:
+    """Whether a register of this size has any of a field: a limit of 0 is none."""
+    return is_large or name not in LIMITS or LIMITS[name].most > 0
 
 
 def filled(text: str, values: Mapping[str, str] | None = None) -> str:

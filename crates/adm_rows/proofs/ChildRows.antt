@@ -24,10 +24,10 @@ use Rattle.adm_types.specs.Numbers.{is_from, first_day, last_day}
 use Rattle.adm_register.specs.WellFormed.{has_days_in_order}
 use Rattle.adm_fields.specs.Lists.{Format, child_columns, application_fields, import_columns}
 use Rattle.adm_fields.specs.Records.{home_of, home_values, application_of, application_values, bare_import_of, import_values}
-use Rattle.adm_rows.specs.Forms.{truth_code, school_value, codes_text, day_value, state_columns, child_row, application_row, imported_row, place_row, left_row}
-use Rattle.adm_rows.specs.Faults.{IsChild, IsImportRow, IsImportReadAgain, AreReadAgain, IsPlaceRow, HasPlaceColumns, is_day, is_day_or_none, has_days_in_range}
+use Rattle.adm_rows.specs.Forms.{truth_code, school_value, codes_text, two_codes_text, two_lists_of, schools_value, day_value, state_columns, child_row, application_row, imported_row, place_row, left_row}
+use Rattle.adm_rows.specs.Faults.{IsChild, IsImportRow, IsImportReadAgain, IsChildReadAgain, AreReadAgain, IsPlaceRow, HasPlaceColumns, is_day, is_day_or_none, has_days_in_range}
 use Rattle.adm_rows.proofs.RowLemmas.{number_in, text_in}
-use Rattle.adm_rows.proofs.CodeLemmas.{codes_again}
+use Rattle.adm_rows.proofs.CodeLemmas.{codes_again, both_again}
 use Rattle.adm_rows.proofs.DrawRows.{school_from, school_back, truth_back}
 
 -- ---- children
@@ -38,7 +38,9 @@ metres_fit n h = grind (arith, nat_tests)
 -- a home has coordinates of 32 bits
 pub home_fits : (child : Child) → IsChild child → (child.home.east < 2 ^ 32) × (child.home.north < 2 ^ 32)
 home_fits child fits =
-    let known = and_parts (is_on_map child.home && nat_le (length child.siblings) 6 && is_without_repeat child.siblings) (is_code_or_none child.present) fits.in_range in
+    let areas = and_parts _ _ fits.in_range in
+    let room = and_parts _ _ areas.0 in
+    let known = and_parts (is_on_map child.home && nat_le (length child.siblings) 6 && is_without_repeat child.siblings) (is_code_or_none child.present) room.0 in
     let few = and_parts (is_on_map child.home && nat_le (length child.siblings) 6) (is_without_repeat child.siblings) known.0 in
     let home = and_parts (is_on_map child.home) (nat_le (length child.siblings) 6) few.0 in
     let each = and_parts (nat_le child.home.east 1500000) (nat_le child.home.north 1500000) home.0 in
@@ -50,10 +52,10 @@ flags_fit flags h = grind (arith, nat_tests)
 -- what each field of a child keeps, and then what others keep
 pub home_fit : {Others : Type 0} (child : Child) → IsChild child → Others
     → (is_child_number child.no ≡ true) × ((is_utf8 child.name ≡ true) × ((child.home.east < 2 ^ 32) × ((child.home.north < 2 ^ 32)
-    × (Unit {0} × ((child.flags < 65536) × ((list_all is_code child.siblings ≡ true) × Others))))))
+    × (Unit {0} × ((child.flags < 65536) × (((list_all is_code child.siblings ≡ true) × (list_all is_code child.catchments ≡ true)) × Others))))))
 home_fit child fits others =
     let home = home_fits child fits in
-    (fits.number_form, (fits.text, (home.0, (home.1, (tt, (flags_fit child.flags fits.flags, (fits.codes, others)))))))
+    (fits.number_form, (fits.text, (home.0, (home.1, (tt, (flags_fit child.flags fits.flags, ((fits.codes, fits.catchments), others)))))))
 
 -- ---- fields from their columns
 
@@ -97,12 +99,25 @@ read_back = record {
   some_codes = record { value = λ codes. Text (codes_text codes); from = λ v. unwrap_or (codes_of (text_in v)) []; again = λ codes. unwrap_or (codes_of (codes_text codes)) []; back = λ codes. refl };
 }
 
+-- the two lists that a text is read as
+abbrev lists_of : List ℕ → List (List ℕ) × List (List ℕ)
+lists_of text = unwrap_or (two_lists_of text) ([], [])
+
+-- the schools of siblings and catchment schools, the same way
+abbrev both_back : ReadBack (List (List ℕ) × List (List ℕ))
+both_back = record { value = schools_value; from = λ v. lists_of (text_in v); again = λ lists. lists_of (two_codes_text lists); back = λ lists. refl }
+
 -- a child from its row, which does not say its present school
 abbrev pub child_from : Row → Child
-child_from cells = home_of ((child_columns read_back).from cells)
+child_from cells = home_of ((child_columns read_back both_back).from cells)
 
-pub child_back : (c : Child) → AreReadAgain c.siblings → child_from (child_row c) ≡ bare_child c
-child_back c again = ap home_of ((child_columns read_back).back (home_values c)) ∙ (λ k. record (bare_child c) { siblings = unwrap_or (again k) [] })
+pub child_back : (c : Child) → IsChildReadAgain c → child_from (child_row c) ≡ bare_child c
+child_back c again =
+    ap home_of ((child_columns read_back both_back).back (home_values c))
+    ∙ (λ k. record (bare_child c) { siblings = (unwrap_or (again k) ([], [])).0; catchments = (unwrap_or (again k) ([], [])).1 })
+
+pub child_again : (c : Child) → IsChild c → IsChildReadAgain c
+child_again c fits = both_again (c.siblings, c.catchments) fits.codes fits.catchments
 
 -- ---- applications
 
@@ -116,15 +131,19 @@ application_back a again = ap application_of ((application_fields read_back).bac
 
 -- an imported row from its row
 abbrev pub imported_from : Row → ImportRow
-imported_from cells = bare_import_of ((import_columns read_back).from cells)
+imported_from cells = bare_import_of ((import_columns read_back both_back).from cells)
 
 pub imported_back : (r : ImportRow) → IsImportReadAgain r → imported_from (imported_row r) ≡ bare_import r
 imported_back r again =
-    ap bare_import_of ((import_columns read_back).back (import_values r))
-    ∙ (λ k. record { child = record (bare_child r.child) { siblings = unwrap_or (again.0 k) [] }; day = r.day; preferences = unwrap_or (again.1 k) [] })
+    ap bare_import_of ((import_columns read_back both_back).back (import_values r))
+    ∙ (λ k. record {
+      child = record (bare_child r.child) { siblings = (unwrap_or (again.0 k) ([], [])).0; catchments = (unwrap_or (again.0 k) ([], [])).1 };
+      day = r.day;
+      preferences = unwrap_or (again.1 k) [];
+    })
 
 pub import_again : (last : ℕ) (r : ImportRow) → IsImportRow last r → IsImportReadAgain r
-import_again last r fits = (codes_again r.child.siblings fits.child.codes, codes_again r.preferences fits.application.codes)
+import_again last r fits = (child_again r.child fits.child, codes_again r.preferences fits.application.codes)
 
 -- ---- places
 

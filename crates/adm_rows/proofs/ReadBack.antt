@@ -18,10 +18,10 @@ use Rattle.adm_draws.specs.Draws.{row_of}
 use Rattle.adm_rows.specs.Represents.{IsSizedIn, HoldsRegister}
 use Rattle.adm_rows.specs.Reads.{HoldsSeason, AreReadBack}
 use Rattle.adm_register.specs.Rows.{rows_in_order}
-use Rattle.adm_rows.specs.Faults.{IsSchool, IsReadAgain, IsChild, IsApplication, IsImportRow, IsImportReadAgain, AreReadAgain}
+use Rattle.adm_rows.specs.Faults.{IsSchool, IsReadAgain, IsChild, IsApplication, IsImportRow, IsImportReadAgain, AreReadAgain, IsChildReadAgain}
 use Rattle.adm_rows.proofs.SeasonRows.{same_season, same_version, same_count}
 use Rattle.adm_rows.proofs.SchoolRows.{reads_again}
-use Rattle.adm_rows.proofs.ChildRows.{import_again}
+use Rattle.adm_rows.proofs.ChildRows.{child_again, import_again}
 use Rattle.adm_rows.proofs.CodeLemmas.{codes_again}
 use Rattle.adm_rows.proofs.RowsFit.{schools_fit, children_fit, applications_fit, imported_fit}
 
@@ -35,7 +35,7 @@ one_row a b same = first_row a b (sym (one_permutation a (b ∷ []) same))
 pub read_back : (r : Register) → WellFormed r → AreReadBack (rows_in_order r)
 read_back r formed = record {
   schools = each_weaker IsSchool IsReadAgain reads_again _ (schools_fit r formed);
-  children = each_weaker IsChild (λ x. AreReadAgain x.siblings) (λ x fits. codes_again x.siblings fits.codes) _ (children_fit r formed);
+  children = each_weaker IsChild IsChildReadAgain child_again _ (children_fit r formed);
   applications = each_weaker (IsApplication (lists_end r.season)) (λ x. AreReadAgain x.list) (λ x fits. codes_again x.list fits.codes) _ (applications_fit r (lists_end r.season) formed refl);
   imported = each_weaker (IsImportRow (lists_end r.season)) IsImportReadAgain (import_again (lists_end r.season)) _ (imported_fit r (lists_end r.season) formed refl);
 }

@@ -37,11 +37,11 @@ use Rattle.adm_rows.specs.Present.{present_columns}
 use Rattle.adm_rows.specs.Reads.{HoldsFirst, HoldsPresent, AreReadBack}
 use Rattle.adm_register.specs.declared.register_rows.Rows.{Rows}
 use Rattle.adm_register.specs.Rows.{AreRowsOf, rows_in_order}
-use Rattle.adm_rows.specs.Faults.{IsSchool, IsReadAgain, IsChild, IsApplication, IsImportRow, IsImportReadAgain, IsPlaceRow, IsPresentRow, IsLeftRow, AreReadAgain}
+use Rattle.adm_rows.specs.Faults.{IsSchool, IsReadAgain, IsChild, IsApplication, IsImportRow, IsImportReadAgain, IsPlaceRow, IsPresentRow, IsLeftRow, AreReadAgain, IsChildReadAgain}
 use Rattle.adm_rows.proofs.RowLemmas.{values_back, values_shown, recursion_had}
 use Rattle.adm_rows.proofs.PresentReads.{columns_moved, presents_moved, presents_read}
 use Rattle.adm_rows.proofs.SchoolRows.{school_from, from_row, reads_again}
-use Rattle.adm_rows.proofs.ChildRows.{child_from, child_back, application_from, application_back, imported_from, imported_back, import_again, place_from, place_back, left_from, left_back}
+use Rattle.adm_rows.proofs.ChildRows.{child_from, child_back, child_again, application_from, application_back, imported_from, imported_back, import_again, place_from, place_back, left_from, left_back}
 use Rattle.adm_rows.proofs.CodeLemmas.{codes_again}
 use Rattle.adm_rows.proofs.RowsFit.{schools_fit, children_fit, applications_fit, imported_fit, places_fit, left_fit}
 
@@ -161,10 +161,10 @@ same_presents First db xs ys one two = subst₂ IsPermutation (sym one) (sym two
 same_presents Second db xs ys one two = columns_moved xs ys (IsPermutation-trans _ _ _ one (IsPermutation-sym _ _ two))
 
 -- the children that are read are those of the register, but for their present schools
-pub bare_children : (v : Version) (db : Trees) (r : Register) (read : List Child) → AllByRecursion (λ x. AreReadAgain x.siblings) read
+pub bare_children : (v : Version) (db : Trees) (r : Register) (read : List Child) → AllByRecursion IsChildReadAgain read
     → HasRows child (map child_row read) db → HoldsRegister v db r → IsPermutation (map bare_child read) (map bare_child (values r.children))
 bare_children v db r read again held file =
-    values_shown child_row child_from bare_child (λ x. AreReadAgain x.siblings) IsChild child_back (λ x fits. codes_again x.siblings fits.codes) read
+    values_shown child_row child_from bare_child IsChildReadAgain IsChild child_back child_again read
     (values r.children) _ again (children_fit r file.formed) held (file.rows.each child (child_in v))
 
 pub bare_imports : (v : Version) (db : Trees) (r : Register) (read : List ImportRow) → AllByRecursion IsImportReadAgain read
@@ -186,8 +186,8 @@ module _ {X Y : Type 0} (bare : X → Y) (P : Y → Type 0) where
   again_bare : (xs ys : List X) → map bare xs ≡ map bare ys → AllByRecursion (λ x. P (bare x)) ys → AllByRecursion (λ x. P (bare x)) xs
   again_bare xs ys same all = all_from xs (subst (AllByRecursion P) (sym same) (all_mapped ys all))
 
-pub children_again : (xs ys : List Child) → map bare_child xs ≡ map bare_child ys → AllByRecursion (λ x. AreReadAgain x.siblings) ys → AllByRecursion (λ x. AreReadAgain x.siblings) xs
-children_again = again_bare bare_child (λ x. AreReadAgain x.siblings)
+pub children_again : (xs ys : List Child) → map bare_child xs ≡ map bare_child ys → AllByRecursion IsChildReadAgain ys → AllByRecursion IsChildReadAgain xs
+children_again = again_bare bare_child IsChildReadAgain
 
 pub imports_again : (xs ys : List ImportRow) → map bare_import xs ≡ map bare_import ys → AllByRecursion IsImportReadAgain ys → AllByRecursion IsImportReadAgain xs
 imports_again = again_bare bare_import IsImportReadAgain

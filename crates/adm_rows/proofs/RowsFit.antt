@@ -1,6 +1,7 @@
 -- Each row of a register fits the columns of its table.
 use Rattle.std.proofs.Common.{refl, ◌≡◌, ◌<◌, ◌^◌, ℕ, arith, true, List, length, map, sym, subst}
 use Rattle.std.specs.List.{AllByRecursion}
+use Rattle.std.proofs.lemmas.Bool.{and_parts}
 use Rattle.std.proofs.lemmas.List.{length-map}
 use Rattle.std.specs.Cmp.{IsTotalOrder, nat_cmp_total, on_total, then_total}
 use Rattle.std.specs.declared.cmp.Ordering.{Ordering}
@@ -57,7 +58,8 @@ child_fits r formed number child fits = record {
   text = fits.text;
   in_range = fits.in_range;
   flags = fits.flags;
-  codes = codes_there r.schools formed.base.schools_fit child.siblings fits.siblings;
+  codes = codes_there r.schools formed.base.schools_fit child.siblings (and_parts _ _ fits.known).0;
+  catchments = codes_there r.schools formed.base.schools_fit child.catchments (and_parts _ _ fits.known).1;
 }
 
 pub children_fit : (r : Register) → WellFormed r → AllByRecursion IsChild (values r.children)

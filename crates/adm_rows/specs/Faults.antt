@@ -26,7 +26,7 @@ use Rattle.adm_rows.specs.declared.fault.OpenFault.{OpenFault}
 use Rattle.adm_rows.specs.declared.fault.OpenFault.TheVariants.{NotOurs, Version, BadRow, Disk, Memory}
 use Rattle.adm_register.specs.declared.rows_fault.RowsFault.{RowsFault}
 use Rattle.adm_register.specs.declared.rows_fault.RowsFault.TheVariants as rows
-use Rattle.adm_rows.specs.Forms.{phase_code, version_code, criteria_text, criteria_of, codes_text, day_value}
+use Rattle.adm_rows.specs.Forms.{phase_code, version_code, criteria_text, criteria_of, codes_text, two_codes_text, two_lists_of, day_value}
 
 -- the errors that say that the tables hold no register
 abbrev pub IsNoRegister : OpenFault → Type 0
@@ -77,13 +77,22 @@ pub record HasSeasonColumns (row : Row) (v : FileVersion) (size : Size) (phase :
 abbrev pub AreReadAgain : List (List ℕ) → Type 0
 AreReadAgain codes = codes_of (codes_text codes) ≡ Some codes
 
--- a child with a number, a name that is a text, numbers in their limits, 16 flags, and codes for its siblings' schools
+-- the text of two lists of codes is read as those
+abbrev pub AreBothReadAgain : List (List ℕ) × List (List ℕ) → Type 0
+AreBothReadAgain lists = two_lists_of (two_codes_text lists) ≡ Some lists
+
+-- the schools of its siblings and its catchment schools are read again
+abbrev pub IsChildReadAgain : Child → Type 0
+IsChildReadAgain child = AreBothReadAgain (child.siblings, child.catchments)
+
+-- a child with a number, a name that is a text, numbers in their limits, 16 flags, and codes for its siblings' schools and its catchment schools
 pub record IsChild (child : Child) : Type 0 where
   pub number_form : IsTrue (is_child_number child.no)
   pub text : IsTrue (is_utf8 child.name)
   pub in_range : IsTrue (is_child_in_range child)
   pub flags : IsTrue (nat_lt child.flags 65536)
   pub codes : IsTrue (list_all is_code child.siblings)
+  pub catchments : IsTrue (list_all is_code child.catchments)
 
 -- an application with a child's number, a day that is not after the last one, and codes
 pub record IsApplication (last : ℕ) (application : Application) : Type 0 where
@@ -96,9 +105,9 @@ pub record IsImportRow (last : ℕ) (row : ImportRow) : Type 0 where
   pub child : IsChild row.child
   pub application : IsApplication last (application_of row)
 
--- the codes of its child's siblings are read again, and so are its preferences
+-- its child's schools are read again, and so are its preferences
 abbrev pub IsImportReadAgain : ImportRow → Type 0
-IsImportReadAgain row = AreReadAgain row.child.siblings × AreReadAgain row.preferences
+IsImportReadAgain row = IsChildReadAgain row.child × AreReadAgain row.preferences
 
 -- a present school with a child's number and a code
 pub record IsPresentRow (row : PresentRow) : Type 0 where

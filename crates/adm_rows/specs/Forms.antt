@@ -1,11 +1,11 @@
 -- How a register's rows are written in its tables.
-use Rattle.std.specs.Prelude.{ℕ, pos, Bool, true, false, List, [], ◌∷◌, map, Option, Some, None, option_and_then, if◌then◌else◌}
+use Rattle.std.specs.Prelude.{ℕ, pos, Bool, true, false, List, [], ◌∷◌, ◌++◌, ◌==◌, map, Option, option_map, Some, None, option_and_then, if◌then◌else◌}
 use Rattle.std.specs.Fmt.{decimal}
 use Rattle.adm_types.specs.Seasons.{SeasonFacts}
 use Rattle.adm_types.specs.Fields.{plain_of}
 use Rattle.adm_types.specs.Criteria.{criterion_of, criterion_text}
 use Rattle.adm_types.specs.Numbers.{is_from, first_day, last_day}
-use Rattle.adm_types.specs.Joined.{joined, items_of}
+use Rattle.adm_types.specs.Joined.{joined, items_of, codes_of}
 use Rattle.adm_types.specs.declared.seasons.Phase.{Phase}
 use Rattle.adm_types.specs.declared.seasons.Phase.TheVariants.{Primary, Secondary}
 use Rattle.adm_types.specs.declared.seasons.Size.{Size}
@@ -63,6 +63,15 @@ truth_code false = 0
 abbrev pub codes_text : List (List ℕ) → List ℕ
 codes_text = joined
 
+-- `|` and codes of schools, where there are any
+abbrev pub after_bar : List (List ℕ) → List ℕ
+after_bar [] = []
+after_bar (code ∷ codes) = 124 ∷ codes_text (code ∷ codes)
+
+-- the codes of two lists as one text, which is that of the first alone where the second is empty
+abbrev pub two_codes_text : List (List ℕ) × List (List ℕ) → List ℕ
+two_codes_text lists = codes_text lists.0 ++ after_bar lists.1
+
 -- the code of a school, or NULL where there is none
 abbrev pub school_value : Option (List ℕ) → Value
 school_value None = Null
@@ -83,9 +92,13 @@ written = record {
   some_codes = λ codes. Text (codes_text codes);
 }
 
--- a row of `child`: its number, name and coordinates, whether it is looked after, its flags, and its siblings' schools
+-- the schools of its siblings and its catchment schools are one text
+abbrev pub schools_value : List (List ℕ) × List (List ℕ) → Value
+schools_value lists = Text (two_codes_text lists)
+
+-- a row of `child`: its number, name and coordinates, whether it is looked after, its flags, and its siblings' schools with its catchment schools
 abbrev pub child_row : Child → Row
-child_row c = child_columns written (home_values c)
+child_row c = child_columns written schools_value (home_values c)
 
 -- a row of `application`: the child, the day, and the schools of the list
 abbrev pub application_row : Application → Row
@@ -93,7 +106,7 @@ application_row a = application_fields written (application_values a)
 
 -- the columns of its child, and the day and the preferences of its application
 abbrev pub imported_row : ImportRow → Row
-imported_row r = import_columns written (import_values r)
+imported_row r = import_columns written schools_value (import_values r)
 
 -- a day, or NULL where there is none
 abbrev pub day_value : Option ℕ → Value
@@ -127,3 +140,18 @@ days_of = items_of day_of
 -- the criteria that a text lists, with `;` between each two, if it lists criteria
 abbrev pub criteria_of : List ℕ → Option (List Criterion)
 criteria_of = items_of criterion_of
+
+-- what is before the first `|`, and what is after it, where there is one
+abbrev pub cut_at_bar : List ℕ → List ℕ × Option (List ℕ)
+cut_at_bar [] = ([], None)
+cut_at_bar (b ∷ text) = if b == 124 then ([], Some text) else (b ∷ (cut_at_bar text).0, (cut_at_bar text).1)
+
+-- the codes before a `|`, with those after it, of which there is one at least
+abbrev pub with_second : Option (List ℕ) → List (List ℕ) → Option (List (List ℕ) × List (List ℕ))
+with_second None first = Some (first, [])
+with_second (Some []) first = None
+with_second (Some (b ∷ text)) first = option_map (λ second. (first, second)) (codes_of (b ∷ text))
+
+-- the two lists of codes that a text writes, if it writes two
+abbrev pub two_lists_of : List ℕ → Option (List (List ℕ) × List (List ℕ))
+two_lists_of text = option_and_then (with_second (cut_at_bar text).1) (codes_of (cut_at_bar text).0)

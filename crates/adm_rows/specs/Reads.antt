@@ -19,7 +19,7 @@ use Rattle.adm_rows.specs.Forms.{season_row}
 use Rattle.std.specs.FinMap.{values}
 use Rattle.adm_types.specs.Seasons.{SeasonFacts}
 use Rattle.adm_register.specs.State.{State as Register}
-use Rattle.adm_rows.specs.Faults.{IsReadAgain, AreReadAgain, IsImportReadAgain}
+use Rattle.adm_rows.specs.Faults.{IsReadAgain, AreReadAgain, IsChildReadAgain, IsImportReadAgain}
 use Rattle.adm_rows.specs.Represents.{HasRows, HoldsRegister, written_in, written_tables}
 
 -- in a file of this version the text queries each row of the table, column by column
@@ -81,6 +81,6 @@ FindsNoneWith v rows old new = (r : Register) → ReadsIn v (λ db. HoldsFirst v
 -- each of these is what its row is read as
 pub record AreReadBack (rows : Rows) : Type 0 where
   pub schools : AllByRecursion IsReadAgain rows.schools
-  pub children : AllByRecursion (λ x. AreReadAgain x.siblings) rows.children
+  pub children : AllByRecursion IsChildReadAgain rows.children
   pub applications : AllByRecursion (λ x. AreReadAgain x.list) rows.applications
   pub imported : AllByRecursion IsImportReadAgain rows.imported

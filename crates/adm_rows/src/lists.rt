@@ -2,9 +2,9 @@
 ghost use Rattle.std.specs.Prelude.{◌≡◌, [], ◌∷◌, ◌++◌, true, map, OnOk, IfOk, option_map, string_bytes, if◌then◌else◌};
 ghost use Rattle.adm_types.specs.Criteria.{criterion_text, criterion_of};
 ghost use Rattle.adm_types.specs.Joined.{pieces, all_some};
-ghost use Rattle.adm_rows.specs.Forms.{days_text, criteria_text, codes_text, day_of, days_of, criteria_of};
+ghost use Rattle.adm_rows.specs.Forms.{days_text, criteria_text, codes_text, two_codes_text, day_of, days_of, criteria_of, cut_at_bar, two_lists_of};
 
-use adm_types::{Criterion, Day, SchoolCode, plain};
+use adm_types::{Criterion, Day, SchoolCode, Seq, codes, plain};
 use std::alloc::{AllocError, Global};
 
 /// Adds a piece, after a `;` where it is not the first.
@@ -53,6 +53,22 @@ pub fn codes_text(alloc: Global, codes: &[SchoolCode]) -> Result<String, AllocEr
     'items: for code in codes {
         append(&mut text, is_first, code.as_str())?;
         is_first = false;
+    }
+    Ok(text)
+}
+
+/// The codes of two lists as one text: where the second has any, they follow after a `|`.
+pub fn two_codes_text(
+    alloc: Global,
+    first: &[SchoolCode],
+    second: &[SchoolCode],
+) -> Result<String, AllocError>
+    ensures { IfOk result (λ text. string_bytes text ≡ two_codes_text (first.now, second.now)) }
+{
+    let mut text = codes_text(alloc, first)?;
+    if !second.is_empty() {
+        text.push('|')?;
+        text.push_str(&codes_text(alloc, second)?)?;
     }
     Ok(text)
 }
@@ -122,4 +138,38 @@ pub fn criteria_in(alloc: Global, text: &str) -> Result<Option<Vec<Criterion>>, 
         return Ok(Some(Vec::new(alloc)));
     }
     all_some(alloc, criterion_pieces(alloc, text)?.as_slice())
+}
+
+/// What is before the first `|`, and what is after it, where there is one.
+fn cut_at_bar(text: &str) -> (&str, Option<&str>)
+    ensures first { result.0.now ≡ (cut_at_bar text.now).0 }
+    ensures rest { option_copied result.1 ≡ (cut_at_bar text.now).1 }
+{
+    match text.split_once('|') {
+        Some((first, rest)) => (first, Some(rest)),
+        None => (text, None),
+    }
+}
+
+/// The two lists of codes that a text writes.
+pub(crate) fn two_lists(
+    alloc: Global,
+    text: &str,
+) -> Result<Option<(Seq<SchoolCode>, Seq<SchoolCode>)>, AllocError>
+    ensures { IfOk result (λ lists. lists ≡ two_lists_of text.now) }
+{
+    let (first, rest) = cut_at_bar(text);
+    let Some(siblings) = codes(alloc, first)? else {
+        return Ok(None);
+    };
+    let Some(rest) = rest else {
+        return Ok(Some((siblings, Seq::new(alloc))));
+    };
+    if rest.is_empty() {
+        return Ok(None);
+    }
+    match codes(alloc, rest)? {
+        Some(catchments) => Ok(Some((siblings, catchments))),
+        None => Ok(None),
+    }
 }

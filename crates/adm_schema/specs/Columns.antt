@@ -33,7 +33,7 @@ columns = record {
 
 -- the columns of the table `child`, one for each field
 abbrev pub child_columns : List Column
-child_columns = fields.child_columns columns
+child_columns = fields.child_columns columns (Text, true)
 
 -- the columns of the table `application`, one for each field
 abbrev pub application_columns : List Column
@@ -41,7 +41,7 @@ application_columns = application_fields columns
 
 -- the columns of the table `imported`, one for each field
 abbrev pub imported_columns : List Column
-imported_columns = fields.import_columns columns
+imported_columns = fields.import_columns columns (Text, true)
 
 -- ---- the texts of SQL, over any columns of which the first is the key
 

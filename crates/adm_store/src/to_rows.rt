@@ -65,8 +65,8 @@ impl ToRow for School {
     }
 }
 
-/// The columns of a child's row, as they are written, and then others: metres from the west and the south, flag `f` as bit `f`, and codes of
-/// schools joined by `;`.
+/// The columns of a child's row, as they are written, and then others: metres from the west and the south, flag `f` as bit `f`, and the codes of its
+/// siblings' schools and its catchment schools, joined by `;`, with `|` between the two.
 pub type HomeRow<Others> = (ChildNo, (Text, (u32, (u32, (bool, (u16, (Text, Others)))))));
 
 /// The day and the preferences of an application, as they are written: codes of schools joined by `;`.
@@ -80,9 +80,13 @@ fn home_row<Others: Drop>(
 ) -> Result<HomeRow<Others>, AllocError>
     ensures { IfOk result (λ row. (others_of : Others → Columns) → (home_row others_of row ≡ child_row child.now ++ others_of others)) }
 {
-    let siblings = Text::from_string(lists::codes_text(alloc, child.siblings.as_slice())?);
+    let siblings = child.siblings.as_slice();
+    let schools = lists::two_codes_text(alloc, siblings, child.catchments.as_slice())?;
     let name = child.name.clone()?;
-    let last = (child.looked_after, (child.flags, (siblings, others)));
+    let last = (
+        child.looked_after,
+        (child.flags, (Text::from_string(schools), others)),
+    );
     Ok((
         child.no,
         (name, (child.home.east, (child.home.north, last))),

@@ -50,6 +50,7 @@ class Child:
     flags: tuple[int, ...] = ()
     siblings: tuple[str, ...] = ()
     present: str = ""
+    catchments: tuple[str, ...] = ()
 
 
 def metres(school: School, child: Child) -> int:
@@ -63,6 +64,8 @@ def is_met(criterion: str, school: School, child: Child) -> bool:
     match kind:
         case "sibling":
             return school.code in child.siblings
+        case "catchment":
+            return school.code in child.catchments
         case "within":
             return metres(school, child) <= int(value)
         case "flag":

@@ -25,6 +25,7 @@ TITLES = {
     "looked_after": ("Looked after", 5), "flags": ("Verified reasons", 6),
     "siblings": ("Siblings’ schools", 10), "day": ("Applied", 11),
     "preferences": ("Preferences", 22), "present": ("Present school", 8),
+    "catchments": ("Catchment schools", 10),
 }
 # the columns of the page after that of the name: those of the rows that each has, and the last one
 # all others
@@ -33,7 +34,7 @@ SHOWN = (("Number", ("child",)), ("Applied", ("day",)), ("Home", ("east", "north
 FACTS = "Facts"
 CLASSES = {ERROR: "error", LOOK: "hint now", FIXED: "hint"}
 # the columns whose items may be on lines of their own
-LISTS = ("flags", "siblings", "preferences")
+LISTS = ("flags", "siblings", "preferences", "catchments")
 
 
 @dataclasses.dataclass(frozen=True)
@@ -159,6 +160,8 @@ def text_of(column: str, read: str, words: Mapping[int, str]) -> str:
         return f"sibling at {texts.listed(read.split(';'))}"
     if column == "present":
         return f"now at {read}"
+    if column == "catchments":
+        return f"catchment area of {texts.listed(read.split(';'))}"
     return read.replace(";", "; ") if column in LISTS else read
 
 

@@ -76,13 +76,14 @@ class Row:
 
 @dataclasses.dataclass
 class Context:
-    """What readers of fields know: the schools of a register, whether days are day/month/year, and
-    the words of flags.
+    """What readers of fields know: the schools of a register, whether days are day/month/year, the
+    words of flags, and whether the register is large.
     """
 
     schools: Mapping[str, model.School]
     is_uk: bool
     words: Mapping[int, str] = dataclasses.field(default_factory=dict)
+    is_large: bool = False
 
 
 def values_of(row: Row) -> list[str]:

@@ -102,7 +102,8 @@ def checked(it: Staged, register: Register | None, words: Words) -> Checked:
         findings.append(Finding(number, column, value, text, kind, written, **more))
 
     broken = {note.column for note in it.notes if note.kind == ERROR}
-    context = Context(register.schools if register else {}, it.is_uk, words)
+    is_large = register is not None and register.is_large
+    context = Context(register.schools if register else {}, it.is_uk, words, is_large)
     for column in fields.COLUMNS:
         row_check.read_field(row, column, it.cells[column], context, add, column in broken)
     if LOST.search(it.cells["name"]):

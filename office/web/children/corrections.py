@@ -17,9 +17,12 @@ Cells = dict[str, str]
 
 @dataclasses.dataclass(frozen=True)
 class Context:
-    """What the readers of fields know: the schools of the register, and how days are typed."""
+    """What the readers of fields know: the schools of the register and whether it is large, and how
+    days are typed.
+    """
 
     schools: Mapping[str, School]
+    is_large: bool
     is_uk: bool = True
     words: Mapping[int, str] = dataclasses.field(default_factory=dict)
 
@@ -31,7 +34,7 @@ def cells_of(child: Child) -> Cells:
 
 def read(register: Register, number: int, cells: Cells) -> tuple[Command, dict[str, str]]:
     """The command of a correction, and what is expected in which field."""
-    context, wrong = Context(register.schools), {}
+    context, wrong = Context(register.schools, register.is_large), {}
     command: Command = {"cmd": "amend", "child": number}
     for it in FIELDS:
         found = fields.read(it.name, cells.get(it.name, ""), context)

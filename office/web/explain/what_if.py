@@ -115,7 +115,7 @@ def by_day(found: Setting, text: str) -> tuple[list[str], str]:
 
 
 # what of a child is other, in the value of a choice: it is before the number or the code
-CARE, FLAG, SIBLING, PRESENT = "care", "flag", "sibling", "present"
+CARE, FLAG, SIBLING, CATCHMENT, PRESENT = "care", "flag", "sibling", "catchment", "present"
 
 
 def criteria_of(found: Setting, flags: Mapping[int, str]) -> dict[str, str]:
@@ -132,6 +132,8 @@ def criteria_of(found: Setting, flags: Mapping[int, str]) -> dict[str, str]:
                 made[f"{FLAG}:{value}"] = flags.get(int(value)) or f"verified reason {value}"
             elif kind == "sibling" and code not in child.siblings:
                 made[f"{SIBLING}:{code}"] = f"a brother or sister at {school.name}"
+            elif kind == "catchment" and code not in child.catchments:
+                made[f"{CATCHMENT}:{code}"] = f"a home in the catchment area of {school.name}"
             elif kind == "feeder" and value != child.present:
                 made[f"{PRESENT}:{value}"] = f"in the feeder school {value}"
     return made
@@ -143,6 +145,7 @@ def with_details(child: Child, choice: str) -> Child:
     others: dict[str, dict[str, object]] = {
         CARE: {"looked_after": True}, FLAG: {"flags": sorted({*child.flags, numbers.read(value)})},
         SIBLING: {"siblings": sorted({*child.siblings, value})}, PRESENT: {"present": value},
+        CATCHMENT: {"catchments": sorted({*child.catchments, value})},
     }
     return child._replace(data={**child.data, **others[kind]})
 

@@ -25,7 +25,7 @@ ALIASES = {
 # the forms of criteria in a menu, where a value is typed beside it
 KINDS = {
     "sibling": "a brother or sister at the school", "within:": "home within so many metres",
-    "feeder:": "from the feeder school",
+    "catchment": "home in the school’s catchment area", "feeder:": "from the feeder school",
 }
 FLAG = "flag:"
 

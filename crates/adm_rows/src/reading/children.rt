@@ -1,7 +1,7 @@
 // The rows of `child` as children.
 ghost use Rattle.adm_schema.specs.Schema.{child};
 ghost use Rattle.adm_rows.specs.Forms.{child_row};
-ghost use Rattle.adm_rows.specs.Faults.{IsChild, AreReadAgain};
+ghost use Rattle.adm_rows.specs.Faults.{IsChild, IsChildReadAgain};
 
 use crate::reading::fields::values_in;
 use crate::reading::reader::Reader;
@@ -27,7 +27,7 @@ impl Reader for ChildReader {
 
     ghost Fits = { λ _ x. IsChild x };
 
-    ghost IsRead = { λ x. AreReadAgain x.siblings };
+    ghost IsRead = { IsChildReadAgain };
 
     fn select(&self) -> &'static str {
         select_children()

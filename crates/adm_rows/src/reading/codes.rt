@@ -5,10 +5,11 @@ ghost use Rattle.sqlite.specs.declared.types.Value.TheVariants.{Text as TextValu
 ghost use Rattle.sqlite.specs.Order.{column};
 ghost use Rattle.adm_types.specs.Code.{is_code};
 ghost use Rattle.adm_types.specs.Joined.{codes_of};
-ghost use Rattle.adm_rows.specs.Forms.{codes_text, school_value};
+ghost use Rattle.adm_rows.specs.Forms.{codes_text, two_codes_text, two_lists_of, school_value};
 ghost use Rattle.adm_types.specs.Limits.{is_code_or_none};
-ghost use Rattle.adm_rows.specs.Faults.{AreReadAgain};
+ghost use Rattle.adm_rows.specs.Faults.{AreReadAgain, AreBothReadAgain};
 
+use crate::lists::two_lists;
 use crate::reading::columns::value_at;
 use adm_register::RowsFault;
 use adm_types::{SchoolCode, Seq, codes};
@@ -68,4 +69,37 @@ pub(super) fn codes_at(alloc: Global, row: &Row, at: usize) -> Result<Seq<School
 {
     let text: String = value_at(row, at)?;
     codes_in(alloc, &text)
+}
+
+/// The two lists of codes that a text writes.
+fn two_lists_in(
+    alloc: Global,
+    text: &str,
+) -> Result<(Seq<SchoolCode>, Seq<SchoolCode>), RowsFault>
+    ensures ok { IfOk result (λ lists. text.now ≡ two_codes_text lists) }
+    ensures again { IfOk result (λ lists. two_lists_of text.now ≡ Some lists) }
+    ensures bad { IfErr result (λ e. e ≡ RowsFault.BadRow → (lists : List (List ℕ) × List (List ℕ)) → list_all is_code lists.0 ≡ true → list_all is_code lists.1 ≡ true → text.now ≡ two_codes_text lists → ⊥) }
+{
+    let Ok(read) = two_lists(alloc, text) else {
+        return Err(RowsFault::Memory);
+    };
+    let Some(lists) = read else {
+        return Err(RowsFault::BadRow);
+    };
+    Ok(lists)
+}
+
+/// Codes of schools, joined by `;`, and where there are others after them `|` and these.
+pub(super) fn two_lists_at(
+    alloc: Global,
+    row: &Row,
+    at: usize,
+) -> Result<(Seq<SchoolCode>, Seq<SchoolCode>), RowsFault>
+    requires { at < length row.now }
+    ensures ok { IfOk result (λ lists. column row.now at ≡ TextValue (two_codes_text lists)) }
+    ensures again { IfOk result AreBothReadAgain }
+    ensures bad { IfErr result (λ e. e ≡ RowsFault.BadRow → (lists : List (List ℕ) × List (List ℕ)) → (list_all is_code lists.0 ≡ true) × (list_all is_code lists.1 ≡ true) → column row.now at ≡ TextValue (two_codes_text lists) → ⊥) }
+{
+    let text: String = value_at(row, at)?;
+    two_lists_in(alloc, &text)
 }

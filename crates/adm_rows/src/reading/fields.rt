@@ -7,10 +7,10 @@ ghost use Rattle.sqlite.specs.declared.types.Value.TheVariants.{Int, Text as Tex
 ghost use Rattle.sqlite.specs.Order.{Row as RowOf, column};
 ghost use Rattle.adm_types.specs.Code.{is_code};
 ghost use Rattle.adm_types.specs.Limits.{is_from, is_child_number, first_day};
-ghost use Rattle.adm_rows.specs.Forms.{truth_code, codes_text};
-ghost use Rattle.adm_rows.specs.Faults.{HasFrom, AreReadAgain};
+ghost use Rattle.adm_rows.specs.Forms.{truth_code, codes_text, schools_value};
+ghost use Rattle.adm_rows.specs.Faults.{HasFrom, AreReadAgain, AreBothReadAgain};
 
-use crate::reading::codes::codes_at;
+use crate::reading::codes::{codes_at, two_lists_at};
 use crate::reading::columns::{child_at, day_at, flags_at, number_at, text_at, truth_at};
 use adm_fields::{Field, Fields};
 use adm_register::RowsFault;
@@ -123,6 +123,24 @@ impl Column for Seq<SchoolCode> {
         _last: Day,
     ) -> Result<Seq<SchoolCode>, RowsFault> {
         codes_at(alloc, row, at)
+    }
+}
+
+/// The schools of siblings, and catchment schools.
+impl Column for (Seq<SchoolCode>, Seq<SchoolCode>) {
+    ghost value = { schools_value };
+
+    ghost Fits = { λ _ lists. (list_all is_code lists.0 ≡ true) × (list_all is_code lists.1 ≡ true) };
+
+    ghost IsRead = { AreBothReadAgain };
+
+    fn read_at(
+        alloc: Global,
+        row: &Row,
+        at: usize,
+        _last: Day,
+    ) -> Result<(Seq<SchoolCode>, Seq<SchoolCode>), RowsFault> {
+        two_lists_at(alloc, row, at)
     }
 }
 
