@@ -14,8 +14,8 @@ pub child_decided : (schools : FinMap code_cmp School) (number : ℕ) (child : C
 child_decided schools number child = (
   λ test.
       let own = and_parts (nat_eq child.no number) (is_child schools child) test in
-      let siblings = and_parts _ _ own.1 in
-      let flags = and_parts _ _ siblings.0 in
+      let known = and_parts _ _ own.1 in
+      let flags = and_parts _ _ known.0 in
       let in_range = and_parts _ _ flags.0 in
       let name = and_parts _ _ in_range.0 in
       let text = and_parts _ _ name.0 in
@@ -26,9 +26,9 @@ child_decided schools number child = (
         name = name.1;
         in_range = in_range.1;
         flags = flags.1;
-        siblings = siblings.1;
+        known = known.1;
       },
   λ fits i.
       (unsigned_Decides child.no number).1 fits.own_number i
-      && (fits.number_form i && fits.text i && fits.name i && fits.in_range i && fits.flags i && fits.siblings i),
+      && (fits.number_form i && fits.text i && fits.name i && fits.in_range i && fits.flags i && fits.known i),
 )

@@ -24,7 +24,7 @@ use Rattle.adm_register.specs.State.{State, is_plan, application_of}
 use Rattle.adm_register.specs.Change.{put_all, cut_all, after}
 use Rattle.adm_register.specs.Fits.{FewAfter, BasePut, PlacesPut, LeftPut, DrawsPut, ImportedPut, Fit}
 use Rattle.adm_register.specs.Extends.{Extends, IsRaised, KeepsSchools}
-use Rattle.adm_register.specs.WellFormed.{WellFormed, AllRows, BaseFits, PlacesFit, LeftFits, DrawsFit, ImportedFit, has_first_round, is_entitled, lists_school, SchoolFits, ChildFits, ApplicationFits, PlaceFits, LeftPairFits, ImportFits, is_unplanned_at}
+use Rattle.adm_register.specs.WellFormed.{WellFormed, AllRows, BaseFits, PlacesFit, LeftFits, DrawsFit, ImportedFit, are_schools, has_first_round, is_entitled, lists_school, SchoolFits, ChildFits, ApplicationFits, PlaceFits, LeftPairFits, ImportFits, is_unplanned_at}
 use Rattle.adm_register.proofs.Maps.{code_cmp-IsAntisymmetric, left_cmp-total, left_cmp-IsAntisymmetric}
 use Rattle.adm_register.specs.Draws.{DrawFits, are_in_order, no_draws, count_draws, draws_so_far}
 use Rattle.adm_register.proofs.DrawLemmas.{DrawFits-grows, values_put, new_draws, are_in_order-append, with_draws-append}
@@ -39,7 +39,11 @@ ChildFits-grows schools new_schools grows number child fits = record {
   name = fits.name;
   in_range = fits.in_range;
   flags = fits.flags;
-  siblings = are_schools-grows schools new_schools grows child.siblings fits.siblings;
+  known =
+      let both = and_parts (are_schools schools child.siblings) (are_schools schools child.catchments) fits.known in
+      let siblings = are_schools-grows schools new_schools grows child.siblings both.0 in
+      let catchments = are_schools-grows schools new_schools grows child.catchments both.1 in
+      λ i. siblings i && catchments i;
 }
 
 module _ (schools new_schools : FinMap code_cmp School) (children new_children : FinMap nat_cmp Child) (more_schools : Grows schools new_schools) (more_children : Grows children new_children) where

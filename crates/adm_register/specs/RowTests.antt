@@ -16,7 +16,7 @@ use Rattle.adm_types.specs.declared.draws.Draw.{Draw}
 use Rattle.adm_table.specs.Same.{is_same_left}
 use Rattle.adm_register.specs.State.{application_of}
 use Rattle.adm_register.specs.Draws.{is_choice, is_known_outcome, is_known_lot}
-use Rattle.adm_register.specs.WellFormed.{are_schools, has_days_in_order, is_entitled, is_unplanned_at, places_outside_plans}
+use Rattle.adm_register.specs.WellFormed.{are_schools, has_schools_of, has_days_in_order, is_entitled, is_unplanned_at, places_outside_plans}
 
 -- whether a school fits, but for its key
 abbrev pub is_school : School → Bool
@@ -29,7 +29,7 @@ fits_school code school = bytes_eq school.code code && is_school school
 -- whether a child fits, but for its key
 abbrev pub is_child : FinMap code_cmp School → Child → Bool
 is_child schools child =
-    is_child_number child.no && is_utf8 child.name && is_name child.name && is_child_in_range child && nat_lt child.flags 65536 && are_schools schools child.siblings
+    is_child_number child.no && is_utf8 child.name && is_name child.name && is_child_in_range child && nat_lt child.flags 65536 && has_schools_of schools child
 
 -- whether a child fits at its number
 abbrev pub fits_child : FinMap code_cmp School → ℕ → Child → Bool

@@ -29,6 +29,10 @@ AllRows {K} {V} P rows = (key : K) (row : V) → get rows key ≡ Some row → P
 abbrev pub are_schools : FinMap code_cmp School → List (List ℕ) → Bool
 are_schools schools codes = list_all (contains_key schools) codes
 
+-- each school of its siblings, and each in whose catchment area it lives, is there
+abbrev pub has_schools_of : FinMap code_cmp School → Child → Bool
+has_schools_of schools child = are_schools schools child.siblings && are_schools schools child.catchments
+
 -- a school is at its own code, with a name and numbers in their limits
 pub record SchoolFits (code : List ℕ) (school : School) : Type 0 where
   pub own_code : school.code ≡ code
@@ -37,7 +41,7 @@ pub record SchoolFits (code : List ℕ) (school : School) : Type 0 where
   pub name : IsTrue (is_name school.name)
   pub in_range : IsTrue (is_school_in_range school)
 
--- a child is at its own number, with a name and numbers in their limits, 16 flags, and siblings at schools that are there
+-- a child is at its own number, with a name and numbers in their limits, 16 flags, and siblings' and catchment schools that are there
 pub record ChildFits (schools : FinMap code_cmp School) (number : ℕ) (child : Child) : Type 0 where
   pub own_number : child.no ≡ number
   pub number_form : IsTrue (is_child_number child.no)
@@ -45,7 +49,7 @@ pub record ChildFits (schools : FinMap code_cmp School) (number : ℕ) (child : 
   pub name : IsTrue (is_name child.name)
   pub in_range : IsTrue (is_child_in_range child)
   pub flags : IsTrue (nat_lt child.flags 65536)
-  pub siblings : IsTrue (are_schools schools child.siblings)
+  pub known : IsTrue (has_schools_of schools child)
 
 -- 1 to 10 schools that are there, without repeat, by the last day of the lists, for a child that is there
 pub record ApplicationFits (last_list_day : ℕ) (schools : FinMap code_cmp School) (children : FinMap nat_cmp Child) (number : ℕ) (application : Application) : Type 0 where

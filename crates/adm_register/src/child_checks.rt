@@ -17,7 +17,8 @@ impl RowCheck<ChildNo> for Child {
     }
 }
 
-/// Whether a child's name and numbers are in their limits, and its siblings' schools are there.
+/// Whether a child's name and numbers are in their limits, and its siblings' and catchment schools
+/// are there.
 fn is_child(tables: &Tables, child: &Child) -> bool
     ensures { result ≡ is_child tables.now.schools child.now }
 {
@@ -25,9 +26,7 @@ fn is_child(tables: &Tables, child: &Child) -> bool
     let _number = child.no.get();
     let _text = child.name.as_str();
     let _flags = child.flags;
-    is_name(&child.name)
-        && is_child_in_range(child)
-        && tables.are_schools(child.siblings.as_slice())
+    is_name(&child.name) && is_child_in_range(child) && tables.has_schools_of(child)
 }
 
 impl RowCheck<ChildNo> for Application {

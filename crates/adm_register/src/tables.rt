@@ -5,7 +5,7 @@ ghost use Rattle.std.specs.Map.{values_of};
 ghost use Rattle.adm_register.specs.Plans.{has_plan};
 ghost use Rattle.adm_register.specs.Rows.{place_of, places_at, vacancies, is_counted};
 ghost use Rattle.adm_register.specs.State.{only_season, is_plan};
-ghost use Rattle.adm_register.specs.WellFormed.{are_schools, places_outside_plans, is_unplanned_at, has_first_round};
+ghost use Rattle.adm_register.specs.WellFormed.{are_schools, has_schools_of, places_outside_plans, is_unplanned_at, has_first_round};
 
 use crate::groups::{Base, Course};
 use adm_table::{Keyed, Piece};
@@ -147,6 +147,14 @@ impl Tables {
         ensures { result ≡ are_schools self.now.schools codes.now }
     {
         codes.iter().all(|code| self.has_school(*code))
+    }
+
+    /// Whether each school of the child's siblings, and each in whose catchment area it lives, is
+    /// there.
+    pub fn has_schools_of(&self, child: &Child) -> bool
+        ensures { result ≡ has_schools_of self.now.schools child.now }
+    {
+        self.are_schools(child.siblings.as_slice()) && self.are_schools(child.catchments.as_slice())
     }
 
     /// How many schools there are.
