@@ -80,7 +80,7 @@ add_school-fit old school kept well passes =
     let pass = passed (add_school.tests old school) passes in
     record {
       base = record {
-        schools = (record { own_code = refl; code_form = kept.code_form; text = kept.text; name = (pass refusal.BadText); in_range = (pass refusal.OutOfRange) }, tt);
+        schools = (record { own_code = refl; code_form = kept.code_form; text = kept.text; name = (pass refusal.BadText); in_range = (and_parts _ _ (pass refusal.OutOfRange)).0 }, tt);
         kept_schools = (λ was there. absurd (none-some was (sym (none_of _ (pass refusal.SchoolKnown)) ∙ there)), tt);
         few_schools = len-insert_room nat_list_cmp_total old.schools school.code school (most_schools old.season.size) (ltb-true _ _ (pass refusal.RegisterFull));
         children = tt;
@@ -122,9 +122,9 @@ add_child-fit old child kept well passes =
       number_form = kept.number_form;
       text = kept.text;
       name = (pass refusal.BadText);
-      in_range = (pass refusal.OutOfRange);
+      in_range = (and_parts _ _ (pass refusal.OutOfRange)).0;
       flags = kept.flags;
-      siblings = (pass refusal.UnknownSchool);
+      known = (pass refusal.UnknownSchool);
     })
     (len-insert_room nat_cmp_total old.children child.no child (most_children old.season.size) (ltb-true _ _ (pass refusal.RegisterFull)))
 
@@ -138,9 +138,9 @@ amend-fit old child kept well passes =
       number_form = kept.number_form;
       text = kept.text;
       name = (pass refusal.BadText);
-      in_range = (pass refusal.OutOfRange);
+      in_range = (and_parts _ _ (pass refusal.OutOfRange)).0;
       flags = kept.flags;
-      siblings = (pass refusal.UnknownSchool);
+      known = (pass refusal.UnknownSchool);
     }) (rw same_len well.base.few_children)
 
 pub name_plan-fit : (old : State) (child : ℕ) (school : List ℕ) → WellFormed old → first_failing (name_plan.tests old child school) ≡ None → Fit old (name_plan.change_of child school)

@@ -7,14 +7,14 @@ use Rattle.std.specs.BTreeMap.{is_at}
 use Rattle.std.specs.Cmp.{nat_cmp_total, eq_by_cmp_equiv}
 use Rattle.std.specs.FinMap.{get, len, len-insert, get-insert, contains_key}
 use Rattle.std.proofs.lemmas.Bool.{ltb-true, ltb-false, lt-ltb, le-ltb}
-use Rattle.adm_types.specs.Limits.{is_from, is_without_repeat, is_name, is_child_in_range, most_children, most_preferences}
+use Rattle.adm_types.specs.Limits.{is_from, is_without_repeat, is_name, is_child_of_size, most_children, most_preferences}
 use Rattle.adm_types.specs.Seasons.{lists_end}
 use Rattle.adm_types.specs.declared.rows.Row.{Row as ImportRow}
 use Rattle.adm_types.specs.declared.commands.Refusal.TheVariants as refusal
 use Rattle.adm_table.specs.TableRows.{row_at}
 use Rattle.adm_register.specs.State.{State, application_of}
 use Rattle.adm_register.specs.Plans.{has_plan}
-use Rattle.adm_register.specs.WellFormed.{are_schools}
+use Rattle.adm_register.specs.WellFormed.{are_schools, has_schools_of}
 use Rattle.adm_commands.specs.Tests.{first_failing}
 use Rattle.adm_commands.specs.Commands.AddChild as add_child
 use Rattle.adm_commands.specs.Commands.Apply as apply
@@ -107,8 +107,8 @@ module _ (old : State) (added : List (ℕ × ImportRow)) (seen : State) (beside 
     add_beside =
         let child = beside.children row.child.no ∙ ap (λ b. b || contains_key old.children row.child.no) new in
         let few = (λ i. nat_lt (beside.count i) (most_children (beside.season i).size)) ∙ sym (room_left (len old.children) (length added) (most_children old.season.size)) in
-        λ i. (not (child i), refusal.ChildKnown) ∷ (is_name row.child.name, refusal.BadText) ∷ (is_child_in_range row.child, refusal.OutOfRange)
-        ∷ (are_schools (beside.schools i) row.child.siblings, refusal.UnknownSchool) ∷ (few i, refusal.RegisterFull) ∷ []
+        λ i. (not (child i), refusal.ChildKnown) ∷ (is_name row.child.name, refusal.BadText)
+        ∷ (is_child_of_size (beside.season i).size row.child, refusal.OutOfRange) ∷ (has_schools_of (beside.schools i) row.child, refusal.UnknownSchool) ∷ (few i, refusal.RegisterFull) ∷ []
 
     pub apply_beside : apply.further_tests seen (application_of row) ≡ apply.further_tests old (application_of row)
     apply_beside =

@@ -57,9 +57,9 @@ child_fits old row kept fits = record {
   number_form = kept.child.number_form;
   text = kept.child.text;
   name = fits.name;
-  in_range = fits.in_range;
+  in_range = (and_parts _ _ fits.in_range).0;
   flags = kept.child.flags;
-  siblings = fits.siblings;
+  known = fits.known;
 }
 
 application_fits : (old : State) (children : _) (row : ImportRow) → KeptByImportRow row → IsAddable old row → contains_key children row.child.no ≡ true

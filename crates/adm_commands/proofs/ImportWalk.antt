@@ -10,14 +10,14 @@ use borrow.Author.Tests.{ltb-true}
 use Rattle.std.proofs.lemmas.Bool.{not-true}
 use Rattle.adm_lists.proofs.Maps.{contains_key-insert}
 use Rattle.adm_lists.proofs.Each.{each_weaker}
-use Rattle.adm_types.specs.Limits.{is_from, is_without_repeat, is_name, is_child_in_range, most_children, most_preferences}
+use Rattle.adm_types.specs.Limits.{is_from, is_without_repeat, is_name, is_child_of_size, most_children, most_preferences}
 use Rattle.adm_types.specs.Seasons.{lists_end}
 use Rattle.adm_types.specs.declared.rows.Row.{Row as ImportRow}
 use Rattle.adm_types.specs.declared.commands.Refusal.{Refusal}
 use Rattle.adm_register.specs.Change.{after, change_of_child}
 use Rattle.adm_register.specs.State.{State, application_of}
 use Rattle.adm_commands.specs.Tests.{first_failing}
-use Rattle.adm_register.specs.WellFormed.{are_schools}
+use Rattle.adm_register.specs.WellFormed.{are_schools, has_schools_of}
 use Rattle.adm_commands.specs.Commands.AddChild as add_child
 use Rattle.adm_commands.specs.Commands.Apply as apply
 use Rattle.adm_commands.specs.Commands.Import.{change_of, is_known, row_tests, refusal_of_row, with_row, after_row, refused_from, or_later, new_rows}
@@ -30,8 +30,8 @@ use Rattle.adm_commands.proofs.Passed.{passed, passed_rest, both_pass}
 pub record IsAddable (s : State) (row : ImportRow) : Type 0 where
   pub new_child : not (contains_key s.children row.child.no) ≡ true
   pub name : is_name row.child.name ≡ true
-  pub in_range : is_child_in_range row.child ≡ true
-  pub siblings : are_schools s.schools row.child.siblings ≡ true
+  pub in_range : is_child_of_size s.season.size row.child ≡ true
+  pub known : has_schools_of s.schools row.child ≡ true
   pub in_time : nat_le row.day (lists_end s.season) ≡ true
   pub preferences : (is_from 1 most_preferences (length row.preferences) && is_without_repeat row.preferences) ≡ true
   pub listed : are_schools s.schools row.preferences ≡ true
@@ -49,7 +49,7 @@ addable s row passes =
         new_child = new refusal.ChildKnown;
         name = new refusal.BadText;
         in_range = new refusal.OutOfRange;
-        siblings = new refusal.UnknownSchool;
+        known = new refusal.UnknownSchool;
         in_time = applied refusal.ListClosed;
         preferences = applied refusal.BadPreferences;
         listed = applied refusal.UnknownSchool;
@@ -99,7 +99,7 @@ module _ (s : State) (row : ImportRow) where
     new_child = not_before other.child.no fits.new_child;
     name = fits.name;
     in_range = fits.in_range;
-    siblings = fits.siblings;
+    known = fits.known;
     in_time = fits.in_time;
     preferences = fits.preferences;
     listed = fits.listed;

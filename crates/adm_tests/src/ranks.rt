@@ -29,6 +29,7 @@ fn child(alloc: Global, home: Point, looked_after: bool, flags: u16) -> Result<C
         flags,
         siblings: Seq::new(alloc),
         present: None,
+        catchments: Seq::new(alloc),
     })
 }
 

@@ -9,7 +9,7 @@ use crate::failing::first_failing;
 use crate::one_row::one;
 use adm_register::{Difference, Tables};
 use adm_table::Shared;
-use adm_types::limits::{is_name, is_school_in_range};
+use adm_types::limits::{is_name, is_school_of_size};
 use adm_types::{Refusal, School};
 use std::alloc::{AllocError, Global};
 
@@ -18,11 +18,12 @@ use std::alloc::{AllocError, Global};
 fn refusal_of(old: &Tables, school: &School) -> Option<Refusal>
     ensures { result ≡ first_failing (tests old.now school.now) }
 {
-    let most = old.season().size().most_schools();
+    let size = old.season().size();
+    let most = size.most_schools();
     first_failing(&[
         (!old.has_school(school.code), Refusal::SchoolKnown),
         (is_name(&school.name), Refusal::BadText),
-        (is_school_in_range(school), Refusal::OutOfRange),
+        (is_school_of_size(size, school), Refusal::OutOfRange),
         (old.school_count() < most, Refusal::RegisterFull),
     ])
 }

@@ -8,7 +8,7 @@ use crate::child_values::put_child;
 use crate::command_result::{CommandResult, done, refused};
 use crate::failing::first_failing;
 use adm_register::Tables;
-use adm_types::limits::{is_child_in_range, is_name};
+use adm_types::limits::{is_child_of_size, is_name};
 use adm_types::{Child, Refusal};
 use std::alloc::{AllocError, Global};
 
@@ -17,14 +17,12 @@ use std::alloc::{AllocError, Global};
 fn refusal_of(old: &Tables, child: &Child) -> Option<Refusal>
     ensures { result ≡ first_failing (tests old.now child.now) }
 {
+    let size = old.season().size();
     first_failing(&[
         (old.has_child(child.no), Refusal::UnknownChild),
         (is_name(&child.name), Refusal::BadText),
-        (is_child_in_range(child), Refusal::OutOfRange),
-        (
-            old.are_schools(child.siblings.as_slice()),
-            Refusal::UnknownSchool,
-        ),
+        (is_child_of_size(size, child), Refusal::OutOfRange),
+        (old.has_schools_of(child), Refusal::UnknownSchool),
     ])
 }
 
