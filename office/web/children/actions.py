@@ -181,10 +181,17 @@ def namesakes(register: Register, child: Child) -> list[tuple[Child, str]]:
 FIELDS = tuple(it for it in rules.COMMANDS["amend"].values() if it.name != "child")
 
 
-def facts_of(child: Child, flag_words: Callable[[tuple[int, ...]], str]) -> list[tuple[str, str]]:
+def fields_of(register: Register) -> tuple[rules.Field, ...]:
+    """The fields of a child that a register of this size has."""
+    return tuple(it for it in FIELDS if rules.has(it.name, register.is_large))
+
+
+def facts_of(
+    register: Register, child: Child, flag_words: Callable[[tuple[int, ...]], str],
+) -> list[tuple[str, str]]:
     """The data of a child, with its flags in words."""
     found = []
-    for field in FIELDS:
+    for field in fields_of(register):
         value = child.data[field.name]
         if isinstance(value, bool):
             text = "yes" if value else "no"

@@ -216,7 +216,7 @@ def lines_shown(
     register: Register, draft: Draft, words: Mapping[int, str], shown: str,
 ) -> list[Line]:
     """The lines of a draft as it was shown, each of which can be stored."""
-    lines = schools.lines_of(draft.rows(), register.schools, words)
+    lines = schools.lines_of(draft.rows(), register.schools, words, register.is_large)
     if digest(lines) != shown:
         raise Refused("the draft was changed since it was shown: look at it again. Nothing was"
                       " stored")

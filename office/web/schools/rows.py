@@ -28,6 +28,7 @@ KINDS = {
     "catchment": "home in the school’s catchment area", "feeder:": "from the feeder school",
 }
 FLAG = "flag:"
+OF_LARGE = {it.text for it in rules.CRITERIA if it.is_of_large}
 
 
 @dataclasses.dataclass(frozen=True)
@@ -119,6 +120,7 @@ def cells_of_command(command: Command) -> Cells:
 
 def lines_of(
     given: Iterable[tuple[int, Cells]], known: Mapping[str, School], words: Mapping[int, str],
+    is_large: bool = False,
 ) -> list[Line]:
     """The lines of a draft, compared with the schools of the register and with one another."""
     read_lines = [(number, cells, *read(cells, words)) for number, cells in given]
@@ -130,6 +132,8 @@ def lines_of(
         if command and there and not is_there:
             other = differences(there, command)
             wrong = {"school": f"the register has this school with other data: {other}"}
+        if command and not is_large and OF_LARGE.intersection(command["criteria"]):
+            wrong = {"criteria": "only a large register has catchment areas"}
         if command and codes.count(command["school"]) > 1:
             wrong = {"school": "another line has this code too"}
         is_right = command is not None and not wrong
@@ -200,10 +204,12 @@ def rows_of(rows: Sequence[Row]) -> list[Cells]:
             for row in rows[1:]]
 
 
-def menu(words: Mapping[int, str]) -> list[tuple[str, str]]:
+def menu(words: Mapping[int, str], is_large: bool) -> list[tuple[str, str]]:
     """The criteria of a menu: the form, and its words. Each flag is one of its own."""
     found = [("", "–")]
     for it in rules.CRITERIA:
+        if it.is_of_large and not is_large:
+            continue
         if it.text == FLAG and it.limit:
             numbers = range(it.limit.least, it.limit.most + 1)
             found += [(f"{FLAG}{at}", f"verified reason {at}"

@@ -35,7 +35,7 @@ from office.web.schools.moves import Step
 
 from .. import corrections
 from .. import actions as children
-from ..actions import FIELDS, Question
+from ..actions import FIELDS, Question, fields_of
 
 screen = flask.Blueprint("child", __name__, url_prefix="/children")
 Answer = str | Response | tuple[str, int]
@@ -84,7 +84,7 @@ def shown(register: Register, number: int) -> dict[str, Any]:
         "place": wording.place(register, place), "deadline": wording.deadline(place),
         "applied": application.day if application else None,
         "is_late": application is not None and not register.is_in_time(application.day),
-        "facts": children.facts_of(child, flags.flag_words),
+        "facts": children.facts_of(register, child, flags.flag_words),
     }
 
 
@@ -316,7 +316,7 @@ def form_page(
     present = seen_of(register, {"cmd": "amend", "child": number}).text
     words = flags.present()
     return flask.render_template(
-        "correct.html", child=child, fields=FIELDS, wrong=wrong or {}, said=said,
+        "correct.html", child=child, fields=fields_of(register), wrong=wrong or {}, said=said,
         cells=cells or (cells_in(typed) if typed else corrections.cells_of(child)),
         is_bad=status != 200, label=wording.label, seen=typed.get("seen", present),
         is_kept=bool(typed) and not wrong and not point,
@@ -407,7 +407,8 @@ def compare_page(
         same = "The register has these details already: there is nothing to record."
         return form_page(number, typed, said=f"{said} {same}".strip(), status=409, cells=cells)
     return flask.render_template(
-        "correction.html", child=child, changes=changes, cells=cells, said=said, fields=FIELDS,
+        "correction.html", child=child, changes=changes, cells=cells, said=said,
+        fields=fields_of(register),
         keys=keys, point=source_of(register, number, cells, keys),
         warnings=list(corrections.warnings(child, command)),
         seen=seen_of(register, command).text, is_flags=corrections.is_flags,

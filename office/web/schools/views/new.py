@@ -51,13 +51,14 @@ def page(
     seen: str = "",
 ) -> Answer:
     """The draft, with the form of one school: a new one, or a line of the draft as it was seen."""
-    words, known, is_away = flags.present(), {}, False
+    words, known, is_large, is_away = flags.present(), {}, False, False
     try:
-        known = parts().desk.register().schools
+        register = parts().desk.register()
+        known, is_large = register.schools, register.is_large
         draft().look(DRAFT)
     except Refused as error:
         said, status, is_away = f"{said} {sentence(str(error))}".strip(), 503, True
-    lines = schools.lines_of(draft().rows(), known, words)
+    lines = schools.lines_of(draft().rows(), known, words, is_large)
     is_running = draft().is_running(DRAFT)
     shown = schools.chosen((cells or NONE).get("criteria", ""), words)
     rows = shown + [("", "")] * (LIMITS["criteria"].most - len(shown))
@@ -65,7 +66,7 @@ def page(
     return flask.render_template(
         "new_schools.html", lines=lines, order=order, digest=drafts.digest(lines),
         is_ready=drafts.is_ready(lines) and not is_away, cells=cells or NONE,
-        wrong=wrong or {}, said=said, is_bad=status != 200, rows=rows, forms=schools.menu(words),
+        wrong=wrong or {}, said=said, is_bad=status != 200, rows=rows, forms=schools.menu(words, is_large),
         outcomes=outcomes or [], is_running=is_running, came=draft().came_of(), number=number,
         label=label, columns=COLUMNS, limits=LIMITS,
         seen=seen,
@@ -88,7 +89,9 @@ def onward(many: int) -> Response:
     """Leads to the question where nothing is wrong in the draft, else to the draft."""
     lines: list[Line] = []
     with contextlib.suppress(Refused):
-        lines = schools.lines_of(draft().rows(), parts().desk.register().schools, flags.present())
+        register = parts().desk.register()
+        lines = schools.lines_of(
+            draft().rows(), register.schools, flags.present(), register.is_large)
     if not drafts.is_ready(lines) or draft().came_of() or draft().is_running(DRAFT):
         return to_draft(str(many))
     return flask.redirect(flask.url_for("new_schools.ask", digest=drafts.digest(lines)), 303)
