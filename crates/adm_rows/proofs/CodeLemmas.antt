@@ -1,5 +1,5 @@
 -- The texts of codes are read back as what they were written from.
-use Rattle.std.proofs.Common.{◌≡◌, ◌∙◌, Bool, map, ℕ, true, false, List, [], ◌∷◌, ◌++◌, Some, None, refl, sym, ap, subst, arith}
+use Rattle.std.proofs.Common.{◌≡◌, ◌≢◌, ◌∙◌, ◌<◌, suc, length, get_or, Bool, map, ℕ, true, false, List, [], ◌∷◌, ◌++◌, Some, None, refl, sym, ap, subst, arith}
 use Rattle.std.specs.Prelude.{Option, option_map, option_and_then, if◌then◌else◌, ◌==◌, not}
 use Rattle.std.specs.List.{AllByRecursion, list_all}
 use Rattle.std.specs.Str.{IsAscii, IsUtf8}
@@ -90,19 +90,36 @@ codes_unbarred (code ∷ next ∷ codes) all =
     unbarred_append code (59 ∷ codes_text (next ∷ codes)) (code_unbarred code (and_parts _ _ (and_parts _ _ all).0).1)
     (and_from _ _ refl (codes_unbarred (next ∷ codes) (and_parts _ _ all).1))
 
+is_other : (b : ℕ) → b ≢ 124 → not (b == 124) ≡ true
+is_other b other = by (b == 124) refl
+  where
+    by : (bar : Bool) → (b == 124) ≡ bar → not bar ≡ true
+    by true is = absurd (other (is_bar b is))
+    by false is = refl
+
+unbarred : (text : List ℕ) → ((i : ℕ) → i < length text → get_or text i 0 ≢ 124) → IsUnbarred text
+unbarred [] each = refl
+unbarred (b ∷ text) each = and_from _ _ (is_other b (each 0 (omega arith))) (unbarred text (λ i low. each (suc i) (omega arith)))
+
 -- a text without a `|` is whole before it
-pub cut_free : (text : List ℕ) → IsUnbarred text → cut_at_bar text ≡ (text, None)
+cut_free : (text : List ℕ) → IsUnbarred text → cut_at_bar text ≡ (text, None)
 cut_free [] h = refl
 cut_free (b ∷ text) h =
     let it = and_parts (not (b == 124)) (list_all (λ b. not (b == 124)) text) h in
     rw (is_no_bar b it.0, cut_free text it.1) refl
 
 -- the first `|` cuts a text
-pub cut_barred : (front rest : List ℕ) → IsUnbarred front → cut_at_bar (front ++ 124 ∷ rest) ≡ (front, Some rest)
+cut_barred : (front rest : List ℕ) → IsUnbarred front → cut_at_bar (front ++ 124 ∷ rest) ≡ (front, Some rest)
 cut_barred [] rest h = refl
 cut_barred (b ∷ front) rest h =
     let it = and_parts (not (b == 124)) (list_all (λ b. not (b == 124)) front) h in
     rw (is_no_bar b it.0, cut_barred front rest it.1) refl
+
+pub cut_some : (text front rest : List ℕ) → text ≡ front ++ 124 ∷ rest → ((i : ℕ) → i < length front → get_or front i 0 ≢ 124) → cut_at_bar text ≡ (front, Some rest)
+cut_some text front rest is each = ap cut_at_bar is ∙ cut_barred front rest (unbarred front each)
+
+pub cut_none : (text : List ℕ) → ((i : ℕ) → i < length text → get_or text i 0 ≢ 124) → cut_at_bar text ≡ (text, None)
+cut_none text each = cut_free text (unbarred text each)
 
 -- codes after a `|`, of which there is one at least
 some_second : (first : List (List ℕ)) (text code : List ℕ) (codes : List (List ℕ)) → codes_of text ≡ Some (code ∷ codes) → with_second (Some text) first ≡ Some (first, code ∷ codes)
@@ -144,11 +161,11 @@ barred (Some rest) = 124 ∷ rest
 cut_whole : (text : List ℕ) → text ≡ (cut_at_bar text).0 ++ barred (cut_at_bar text).1
 unfolding barred
 cut_whole [] = refl
-cut_whole (b ∷ text) = by (b == 124) refl
+cut_whole (b ∷ text) = by (cut_whole text) (b == 124) refl
   where
-    by : (bar : Bool) → (b == 124) ≡ bar → b ∷ text ≡ (cut_at_bar (b ∷ text)).0 ++ barred (cut_at_bar (b ∷ text)).1
-    by true is = rw is (ap (λ c. c ∷ text) (is_bar b is))
-    by false is = rw is (ap (λ t. b ∷ t) (cut_whole text))
+    by : text ≡ (cut_at_bar text).0 ++ barred (cut_at_bar text).1 → (bar : Bool) → (b == 124) ≡ bar → b ∷ text ≡ (cut_at_bar (b ∷ text)).0 ++ barred (cut_at_bar (b ∷ text)).1
+    by whole true is = rw is (ap (λ c. c ∷ text) (is_bar b is))
+    by whole false is = rw is (ap (λ t. b ∷ t) whole)
 
 -- a text of which two lists of codes are read is the text of these
 pub text_of_lists : (text : List ℕ) (lists : List (List ℕ) × List (List ℕ)) → two_lists_of text ≡ Some lists → text ≡ two_codes_text lists

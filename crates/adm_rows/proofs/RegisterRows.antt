@@ -209,7 +209,7 @@ presents_fit r formed =
     one_fits : (n : ℕ) (b : Bool) (c : Child) → IsChild c → n ≡ c.no → (o : Option (List ℕ)) → c.present ≡ o → AllByRecursion IsPresentRow (present_row n b o)
     one_fits n b c fits own None is = tt
     one_fits n b c fits own (Some code) is =
-        let coded : is_code_or_none c.present ≡ true = (and_parts _ (is_code_or_none c.present) fits.in_range).1 in
+        let coded : is_code_or_none c.present ≡ true = (and_parts _ (is_code_or_none c.present) (and_parts _ _ (and_parts _ _ fits.in_range).0).0).1 in
         (record { number_form = subst (λ k. is_child_number k ≡ true) (sym own) fits.number_form; code_form = sym (ap is_code_or_none is) ∙ coded }, tt)
 
 pub holds_register : (v : Version) (db : Trees) (r : Register) (rows : Rows) → HoldsRows v db rows → AreRowsOf rows r → WellFormed r → HoldsRegister v db r

@@ -1,5 +1,5 @@
 // Lists as texts, with `;` between each two items.
-ghost use Rattle.std.specs.Prelude.{◌≡◌, [], ◌∷◌, ◌++◌, true, map, OnOk, IfOk, option_map, string_bytes, if◌then◌else◌};
+ghost use Rattle.std.specs.Prelude.{option_copied, ◌≡◌, [], ◌∷◌, ◌++◌, true, map, OnOk, IfOk, option_map, string_bytes, if◌then◌else◌};
 ghost use Rattle.adm_types.specs.Criteria.{criterion_text, criterion_of};
 ghost use Rattle.adm_types.specs.Joined.{pieces, all_some};
 ghost use Rattle.adm_rows.specs.Forms.{days_text, criteria_text, codes_text, two_codes_text, day_of, days_of, criteria_of, cut_at_bar, two_lists_of};
