@@ -7,3 +7,4 @@ pub mod Imports
 pub mod NoBetterList
 pub mod Places
 pub mod Sizes
+pub mod Allowed

@@ -1,6 +1,5 @@
 -- A register of the standard size is small, and a command keeps the season.
-use Rattle.std.proofs.Common.{◌≡◌, ap, subst, true, ◌≤◌, ◌+◌, List, [], ◌∷◌, length, arith, leb-true}
-use Rattle.std.specs.Prelude.{◌&&◌}
+use Rattle.std.proofs.Common.{◌≡◌, ap, subst, true, ◌≤◌, List, [], ◌∷◌, arith, leb-true}
 use Rattle.std.specs.FinMap.{len, values}
 use Rattle.std.proofs.lemmas.Bool.{and_parts}
 use Rattle.adm_types.specs.Limits.{most_schools, most_children, most_lots}
