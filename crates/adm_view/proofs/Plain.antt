@@ -20,13 +20,13 @@ use Rattle.adm_types.specs.declared.draws.Outcome.{Outcome}
 use Rattle.adm_types.specs.Seasons.{SeasonFacts}
 use Rattle.adm_types.specs.declared.seasons.Size.{Size}
 use Rattle.adm_types.specs.declared.seasons.Size.TheVariants.{Standard, Large}
-use Rattle.adm_fields.specs.Lists.{child_fields}
+use Rattle.adm_fields.specs.Lists.{child_fields, optional_fields}
 use Rattle.adm_fields.specs.Records.{child_values}
 use Rattle.adm_register.specs.State.{State}
 use Rattle.adm_register.specs.Rows.{place_of}
 use Rattle.adm_register.specs.declared.standings.Standing.{Standing}
 use Rattle.adm_register.specs.Waits.{standing_of}
-use Rattle.adm_view.specs.Writing.{number_data, list_data, code_or_empty, members}
+use Rattle.adm_view.specs.Writing.{number_data, list_data, code_or_empty, is_left_out, put_field, members}
 use Rattle.adm_view.specs.Children.{day_or_null, offered_data, reminded_data, place_data, rank_members, wait_members, preference_data, application_data, child_data}
 use Rattle.adm_view.specs.Schools.{school_data}
 use Rattle.adm_cutoffs.specs.Cutoffs.{cutoffs_of, refusals_of}
@@ -97,6 +97,13 @@ put_plain n k d (member l e ms) p q =
     chosen n (slice_cmp nat_cmp k l) (member k d (member l e ms)) (member l d ms) (member l e (put k d ms)) (and_member n k d (member l e ms) p q) (and_member n l d ms p rest)
     (and_member n l e (put k d ms) (first_member n l e ms q) (put_plain n k d ms p rest))
 
+either_members : (n : ℕ) (b : Bool) (a c : Members) → ArePlain n a → ArePlain n c → ArePlain n (cond b a c)
+either_members n true a c p q = p
+either_members n false a c p q = q
+
+put_field_plain : {A : Type 0} (n : ℕ) (otherwise : Option A) (k : List ℕ) (d : Data) (ms : Members) → IsPlain n d → ArePlain n ms → ArePlain n (put_field otherwise k d ms)
+put_field_plain n otherwise k d ms p q = either_members n (is_left_out otherwise d) ms (put k d ms) q (put_plain n k d ms p q)
+
 -- ---- children
 
 plain_day_or_null : (n : ℕ) (day : Option ℕ) → IsPlain n (day_or_null day)
@@ -143,6 +150,14 @@ plain_code_or_empty : (n : ℕ) (code : Option (List ℕ)) → IsPlain n (code_o
 plain_code_or_empty n None = plain_text n _
 plain_code_or_empty n (Some code) = plain_text n _
 
+plain_optional : (n : ℕ) (child : Child) → ArePlain (n + 1) (optional_fields members (child.present, (child.catchments, tt)))
+plain_optional n child =
+    let none : Option (Option (List ℕ)) = Some None in
+    let empty : Option (List (List ℕ)) = Some [] in
+    let catchments = list_data string child.catchments in
+    put_field_plain (n + 1) none (codes "present") (code_or_empty child.present) (put_field empty (codes "catchments") catchments no_members) (plain_code_or_empty _ child.present)
+    (put_field_plain (n + 1) empty (codes "catchments") catchments no_members (plain_list string n (plain_text n) child.catchments) (no_more _))
+
 plain_fields : (n : ℕ) (child : Child) → ArePlain (n + 1) (child_fields members (child_values child))
 plain_fields n child =
     put_plain (n + 1) (codes "child") _ _ (plain_number _ _)
@@ -152,7 +167,7 @@ plain_fields n child =
     (put_plain (n + 1) (codes "looked_after") _ _ (plain_truth _ _)
     (put_plain (n + 1) (codes "flags") _ _ (plain_list number_data n (plain_number n) _)
     (put_plain (n + 1) (codes "siblings") _ _ (plain_list string n (plain_text n) _)
-    (put_plain (n + 1) (codes "present") _ no_members (plain_code_or_empty _ child.present) (no_more _))))))))
+    (plain_optional n child)))))))
 
 pub plain_child : (n : ℕ) (s : State) (child : Child) → IsPlain (n + 1 + 1 + 1 + 1) (child_data s child)
 plain_child n s child =

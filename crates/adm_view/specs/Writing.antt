@@ -1,6 +1,6 @@
 -- Values and records as JSON data: what data each kind of value is, and the members of an object for each list of fields.
-use Rattle.std.specs.Prelude.{ℕ, zero, suc, List, [], ◌∷◌, ◌++◌, map, filter, Option, Some, None}
-use Rattle.serde_json.specs.Data.{Data, boolean, number, unsigned, string, array, Members, no_members, put}
+use Rattle.std.specs.Prelude.{ℕ, zero, suc, List, [], ◌∷◌, ◌++◌, map, filter, Bool, true, false, Option, Some, None, if◌then◌else◌}
+use Rattle.serde_json.specs.Data.{Data, boolean, number, unsigned, string, array, no_items, Members, no_members, put}
 use Rattle.serde_json.specs.View.{items_of}
 use Rattle.adm_types.specs.Flags.{has_flag}
 use Rattle.adm_types.specs.Criteria.{criterion_text}
@@ -38,10 +38,24 @@ flags_data bits = list_data number_data (filter (has_flag bits) (numbers_below 1
 abbrev pub criterion_data : Criterion → Data
 criterion_data criterion = string (criterion_text criterion)
 
+-- whether data are an empty list
+abbrev pub is_empty_list : Data → Bool
+is_empty_list (array no_items) = true
+is_empty_list d = false
+
+-- whether a field is left out: it may be omitted, and its data are an empty list
+abbrev pub is_left_out : {A : Type 0} → Option A → Data → Bool
+is_left_out None d = false
+is_left_out (Some default) d = is_empty_list d
+
+-- others with the member for a field, unless it is left out
+abbrev pub put_field : {A : Type 0} → Option A → List ℕ → Data → Members → Members
+put_field otherwise name d others = if is_left_out otherwise d then others else put name d others
+
 -- records as the members of JSON objects, each value in the form of its kind
 abbrev pub members : Format (λ A. A → Data) (λ A. A → Members)
 members = record {
-  field = λ name otherwise kind others v. put name (kind v.0) (others v.1);
+  field = λ name otherwise kind others v. put_field otherwise name (kind v.0) (others v.1);
   no_more = λ v. no_members;
   a_child = number_data;
   a_code_or_none = code_or_empty;

@@ -1,10 +1,10 @@
 // The fields of a record as the members of a JSON object.
 ghost use Rattle.std.specs.Prelude.{◌≡◌, IfOk};
-ghost use Rattle.serde_json.specs.Data.{Members, no_members, put};
+ghost use Rattle.serde_json.specs.Data.{Members, no_members};
 ghost use Rattle.serde_json.specs.View.{view, members_view};
 ghost use Rattle.adm_fields.specs.Lists.{child_fields};
 ghost use Rattle.adm_fields.specs.Records.{child_values};
-ghost use Rattle.adm_view.specs.Writing.{members};
+ghost use Rattle.adm_view.specs.Writing.{is_empty_list, is_left_out, put_field, members};
 
 use crate::kinds::Kind;
 use adm_fields::{ChildFields, Field, child_refs};
@@ -34,15 +34,34 @@ impl<'a, F: Field, Refs, Others: ObjectFields<Refs>> ObjectFields<(&'a F::Value,
 where
     F::Value: Kind,
 {
-    ghost written = { λ refs. put F.name (F.Value.form refs.0.now) (Others.written refs.1) };
+    ghost written = { λ refs. put_field F.otherwise F.name (F.Value.form refs.0.now) (Others.written refs.1) };
 
     fn members(
         alloc: Global,
         refs: &(&'a F::Value, Refs),
     ) -> Result<Map<String, Value>, AllocError> {
         let mut object = Others::members(alloc, &refs.1)?;
-        serde_json::put(&mut object, alloc, F::name(), refs.0.value(alloc)?)?;
+        let value = refs.0.value(alloc)?;
+        if !is_left_out::<F>(alloc, &value) {
+            serde_json::put(&mut object, alloc, F::name(), value)?;
+        }
         Ok(object)
+    }
+}
+
+/// Whether a field with this value is left out: it may be omitted, and is an empty list.
+fn is_left_out<F: Field>(alloc: Global, value: &Value) -> bool
+    ensures { result ≡ is_left_out F.otherwise (view value.now) }
+{
+    F::otherwise(alloc).is_some() && is_empty_list(value)
+}
+
+fn is_empty_list(value: &Value) -> bool
+    ensures { result ≡ is_empty_list (view value.now) }
+{
+    match value.as_array() {
+        Some(items) => items.is_empty(),
+        None => false,
     }
 }
 
