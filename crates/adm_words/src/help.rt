@@ -82,9 +82,8 @@ Example, before the first round, with the lots of its seven pairs:
 
 pub(crate) const IMPORT: &str = with_store!(
     r#"All rows are imported, or none; there are 2000 at most. The first line of the
-file is one of these:
+file is this, alone or with ,present or ,present,catchments after it:
   child,name,east,north,looked_after,flags,siblings,day,preferences
-  child,name,east,north,looked_after,flags,siblings,day,preferences,present
 
 Columns:
   child         the child's number, from 1 to 9999999
@@ -97,6 +96,7 @@ Columns:
   day           the day of the application, YYYY-MM-DD
   preferences   codes of 1 to 10 schools between semicolons, best first
   present       the code of the present school, or empty
+  catchments    for a large register: codes of its catchment schools, or empty
 
 Example, in a register with the schools OAK and ELM:
   printf '%s\n' \
