@@ -33,7 +33,8 @@ use Rattle.adm_view.specs.Register.{register_data}
 use Rattle.adm_view_laws.specs.Alike.{without_lots, DocumentDeterminesRegister}
 use Rattle.adm_view_laws.proofs.Values.{same_images, same_items, same_forms, same_text}
 use Rattle.adm_view_laws.proofs.DeterminedMaps.{agree, absent, map_determined, images_determined}
-use Rattle.adm_view_laws.proofs.DeterminedChildren.{same_child, place_there, left_there, application_there, IsApplicationOf, same_application, IsPlaceOf, same_place}
+use Rattle.adm_view_laws.proofs.ShownChildren.{shown}
+use Rattle.adm_view_laws.proofs.DeterminedChildren.{same_child, IsApplicationOf, same_application, IsPlaceOf, same_place}
 use Rattle.adm_view_laws.proofs.DeterminedSchools.{same_school}
 use Rattle.adm_view_laws.proofs.DeterminedDraws.{same_draw}
 use Rattle.adm_view_laws.proofs.DeterminedSeason.{same_season}
@@ -139,7 +140,7 @@ module _ (a b : State) (first : WellFormed a) (second : WellFormed b) (e : regis
       at_key k (Some c) is =
           let parts : application_data a c (rows.get a.applications c.no) ≡ application_data b c (rows.get b.applications c.no) =
           same_Some (application_data a c (rows.get a.applications c.no)) (application_data b c (rows.get b.applications c.no))
-          (sym (application_there a c) ∙ ap (get (codes "application")) (each_child k c is) ∙ application_there b c) in
+          (sym (shown a c).application ∙ ap (get (codes "application")) (each_child k c is) ∙ (shown b c).application) in
           subst (λ n. rows.get a.applications n ≡ rows.get b.applications n) (child_own a first k c is)
           (same_application a b c (rows.get a.applications c.no) (rows.get b.applications c.no) (application_fits a first c.no) (application_fits b second c.no) parts)
 
@@ -150,7 +151,7 @@ module _ (a b : State) (first : WellFormed a) (second : WellFormed b) (e : regis
       at_key k None is = no_place a first k is ∙ sym (no_place b second k (sym (ap (λ m. rows.get m k) children_same) ∙ is))
       at_key k (Some c) is =
           let parts : place_data (place_of a c.no) ≡ place_data (place_of b c.no) =
-          same_Some (place_data (place_of a c.no)) (place_data (place_of b c.no)) (sym (place_there a c) ∙ ap (get (codes "place")) (each_child k c is) ∙ place_there b c) in
+          same_Some (place_data (place_of a c.no)) (place_data (place_of b c.no)) (sym (shown a c).place ∙ ap (get (codes "place")) (each_child k c is) ∙ (shown b c).place) in
           subst (λ n. rows.get a.places n ≡ rows.get b.places n) (child_own a first k c is)
           (same_place c.no (rows.get a.places c.no) (rows.get b.places c.no) (place_fits a first c.no) (place_fits b second c.no) parts)
 
@@ -158,7 +159,7 @@ module _ (a b : State) (first : WellFormed a) (second : WellFormed b) (e : regis
   left_codes : (k : ℕ) (c : Child) → rows.get a.children k ≡ Some c → left_of a k ≡ left_of b k
   left_codes k c is =
       let parts : list_data string (left_of a c.no) ≡ list_data string (left_of b c.no) =
-      same_Some (list_data string (left_of a c.no)) (list_data string (left_of b c.no)) (sym (left_there a c) ∙ ap (get (codes "left")) (each_child k c is) ∙ left_there b c) in
+      same_Some (list_data string (left_of a c.no)) (list_data string (left_of b c.no)) (sym (shown a c).left ∙ ap (get (codes "left")) (each_child k c is) ∙ (shown b c).left) in
       subst (λ n. left_of a n ≡ left_of b n) (child_own a first k c is) (same_items string string (left_of a c.no) (left_of b c.no) (λ x y i j. same_text x y) parts)
 
   -- so each pair of one is a pair of the other

@@ -1,15 +1,16 @@
 -- A child, its application, its place and the schools that it left are determined by its data.
-use Rattle.std.proofs.Common.{◌≡◌, ◌∙◌, ap, sym, refl, ℕ, ◌+◌, ◌≤◌, true, List, length, Option, Some, None, arith, codes}
+use Rattle.std.proofs.Common.{◌≡◌, ◌∙◌, ap, sym, refl, ℕ, ◌+◌, ◌≤◌, true, List, [], ◌∷◌, length, Option, Some, None, arith, codes}
 use Rattle.std.specs.Prelude.{option_map, ◌&&◌, nat_lt, nat_le}
 use Rattle.std.proofs.lemmas.Bool.{and_parts}
 use Rattle.std.proofs.lemmas.Bool.Decides.{nat_tests}
-use Rattle.std.proofs.lemmas.Option.{same_Some}
+use Rattle.std.proofs.lemmas.Option.{none-some, same_Some}
 use Rattle.std.specs.FinMap as rows
 use Rattle.serde_json.specs.Data.{Data, string, object, put}
 use Rattle.serde_json.specs.Find.{get}
 use Rattle.serde_json.proofs.OnLiterals.{serde_json_on_literals}
 use Rattle.adm_types.specs.Numbers.{first_day, last_day}
-use Rattle.adm_types.specs.Limits.{is_from, is_on_map, is_without_repeat, is_child_in_range, is_code_or_none}
+use Rattle.adm_types.specs.Limits.{is_from, is_on_map, is_without_repeat, is_child_in_range, is_code_or_none, most_catchments}
+use Rattle.adm_types.specs.declared.seasons.Size.TheVariants.{Large}
 use Rattle.adm_types.specs.declared.rows.School.{School}
 use Rattle.adm_types.specs.declared.rows.Child.{Child}
 use Rattle.adm_types.specs.declared.rows.Application.{Application}
@@ -18,49 +19,48 @@ use Rattle.adm_types.specs.declared.rows.PlaceRow.{PlaceRow}
 use Rattle.adm_types.specs.declared.rows.PlaceState.{PlaceState}
 use Rattle.adm_types.specs.declared.rows.PlaceState.TheVariants.{Offered, Accepted, Plan}
 use Rattle.adm_register.specs.State.{State}
-use Rattle.adm_register.specs.Rows.{place_of}
 use Rattle.adm_register.specs.Waits.{standing_of}
 use Rattle.adm_register.specs.WellFormed.{has_days_in_order}
 use Rattle.adm_register.specs.declared.standings.Standing.{Standing}
-use Rattle.adm_view.specs.Writing.{number_data, list_data, day_data, flags_data, code_or_empty}
-use Rattle.adm_view.specs.Children.{kind_of, offered_data, reminded_data, day_or_null, place_data, rank_members, wait_members, preference_state, preference_data, application_data, left_of, child_data}
+use Rattle.adm_view.specs.Writing.{list_data, day_data}
+use Rattle.adm_view.specs.Children.{kind_of, offered_data, reminded_data, day_or_null, place_data, rank_members, wait_members, preference_state, preference_data, application_data, child_data}
+use Rattle.adm_view_laws.proofs.ShownChildren.{said, shown}
 use Rattle.adm_view_laws.proofs.Values.{same_items, same_number, same_text, other_length, same_truth, same_present, same_day, same_flags}
 
 -- ---- fields
 
--- the name, home, flags, siblings and present school of a child that is in its limits
+same_said : (xs ys : List (List ℕ)) → said xs ≡ said ys → xs ≡ ys
+same_said [] [] e = refl
+same_said [] (y ∷ ys) e = absurd (none-some (list_data string (y ∷ ys)) e)
+same_said (x ∷ xs) [] e = absurd (none-some (list_data string (x ∷ xs)) (sym e))
+same_said (x ∷ xs) (y ∷ ys) e = same_items string string (x ∷ xs) (y ∷ ys) (λ v w i j. same_text v w) (same_Some (list_data string (x ∷ xs)) (list_data string (y ∷ ys)) e)
+
+present_fits : (c : Child) → is_child_in_range c ≡ true → is_code_or_none c.present ≡ true
+present_fits c p =
+    let home = is_on_map c.home && nat_le (length c.siblings) 6 && is_without_repeat c.siblings in
+    let few = home && is_code_or_none c.present && nat_le (length c.catchments) (most_catchments Large) in
+    let first = (and_parts few (is_without_repeat c.catchments) p).0 in
+    (and_parts home (is_code_or_none c.present) (and_parts (home && is_code_or_none c.present) (nat_le (length c.catchments) (most_catchments Large)) first).0).1
+
+-- the name, home, flags, siblings, present school and catchment schools of a child that is in its limits
 pub same_child : (a b : State) (c d : Child) → is_child_in_range c ≡ true → is_child_in_range d ≡ true → nat_lt c.flags 65536 ≡ true → nat_lt d.flags 65536 ≡ true → child_data a c ≡ child_data b d → c ≡ d
-unfolding serde_json_on_literals
 same_child a b c d p q few too e =
-    let no : c.no ≡ d.no = same_number c.no d.no (same_Some (number_data c.no) (number_data d.no) (ap (get (codes "child")) e)) in
-    let name : c.name ≡ d.name = same_text c.name d.name (same_Some (string c.name) (string d.name) (ap (get (codes "name")) e)) in
-    let east : c.home.east ≡ d.home.east = same_number c.home.east d.home.east (same_Some (number_data c.home.east) (number_data d.home.east) (ap (get (codes "east")) e)) in
-    let north : c.home.north ≡ d.home.north = same_number c.home.north d.home.north (same_Some (number_data c.home.north) (number_data d.home.north) (ap (get (codes "north")) e)) in
-    let looked_after : c.looked_after ≡ d.looked_after = same_truth c.looked_after d.looked_after (same_Some _ _ (ap (get (codes "looked_after")) e)) in
-    let flags : c.flags ≡ d.flags = same_flags c.flags d.flags (grind (arith, nat_tests)) (grind (arith, nat_tests)) (same_Some (flags_data c.flags) (flags_data d.flags) (ap (get (codes "flags")) e)) in
+    let m = shown a c in
+    let n = shown b d in
+    let no : c.no ≡ d.no = same_number c.no d.no (same_Some _ _ (sym m.child ∙ ap (get (codes "child")) e ∙ n.child)) in
+    let name : c.name ≡ d.name = same_text c.name d.name (same_Some _ _ (sym m.name ∙ ap (get (codes "name")) e ∙ n.name)) in
+    let east : c.home.east ≡ d.home.east = same_number c.home.east d.home.east (same_Some _ _ (sym m.east ∙ ap (get (codes "east")) e ∙ n.east)) in
+    let north : c.home.north ≡ d.home.north = same_number c.home.north d.home.north (same_Some _ _ (sym m.north ∙ ap (get (codes "north")) e ∙ n.north)) in
+    let looked_after : c.looked_after ≡ d.looked_after = same_truth c.looked_after d.looked_after (same_Some _ _ (sym m.looked_after ∙ ap (get (codes "looked_after")) e ∙ n.looked_after)) in
+    let flags : c.flags ≡ d.flags =
+    same_flags c.flags d.flags (grind (arith, nat_tests)) (grind (arith, nat_tests)) (same_Some _ _ (sym m.flags ∙ ap (get (codes "flags")) e ∙ n.flags)) in
     let siblings : c.siblings ≡ d.siblings =
-    same_items string string c.siblings d.siblings (λ x y i j. same_text x y) (same_Some (list_data string c.siblings) (list_data string d.siblings) (ap (get (codes "siblings")) e)) in
+    same_items string string c.siblings d.siblings (λ x y i j. same_text x y) (same_Some _ _ (sym m.siblings ∙ ap (get (codes "siblings")) e ∙ n.siblings)) in
     let present : c.present ≡ d.present =
-    same_present c.present d.present (present_fits c p) (present_fits d q) (same_Some (code_or_empty c.present) (code_or_empty d.present) (ap (get (codes "present")) e)) in
+    same_present c.present d.present (present_fits c p) (present_fits d q) (same_Some _ _ (sym m.present ∙ ap (get (codes "present")) e ∙ n.present)) in
+    let catchments : c.catchments ≡ d.catchments = same_said c.catchments d.catchments (sym m.catchments ∙ ap (get (codes "catchments")) e ∙ n.catchments) in
     λ i.
-    record { no = no i; name = name i; home = record { east = east i; north = north i }; looked_after = looked_after i; flags = flags i; siblings = siblings i; present = present i }
-  where
-    present_fits : (c : Child) → is_child_in_range c ≡ true → is_code_or_none c.present ≡ true
-    present_fits c p = (and_parts (is_on_map c.home && nat_le (length c.siblings) 6 && is_without_repeat c.siblings) (is_code_or_none c.present) p).1
-
--- ---- what else its data have
-
-pub place_there : (s : State) (c : Child) → get (codes "place") (child_data s c) ≡ Some (place_data (place_of s c.no))
-unfolding serde_json_on_literals
-place_there s c = refl
-
-pub left_there : (s : State) (c : Child) → get (codes "left") (child_data s c) ≡ Some (list_data string (left_of s c.no))
-unfolding serde_json_on_literals
-left_there s c = refl
-
-pub application_there : (s : State) (c : Child) → get (codes "application") (child_data s c) ≡ Some (application_data s c (rows.get s.applications c.no))
-unfolding serde_json_on_literals
-application_there s c = refl
+    record { no = no i; name = name i; home = record { east = east i; north = north i }; looked_after = looked_after i; flags = flags i; siblings = siblings i; present = present i; catchments = catchments i }
 
 -- ---- the application
 

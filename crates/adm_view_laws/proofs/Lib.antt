@@ -2,6 +2,7 @@ pub mod Entries
 pub mod Waiting
 pub mod Values
 pub mod DeterminedMaps
+pub mod ShownChildren
 pub mod DeterminedChildren
 pub mod DeterminedSchools
 pub mod DeterminedDraws

@@ -22,6 +22,7 @@ use Rattle.adm_view.specs.Children.{child_data, children_data}
 use Rattle.adm_view.specs.Schools.{school_data, schools_data}
 use Rattle.adm_view.specs.Register.{register_data}
 use Rattle.adm_view_laws.specs.Laws.{IsOnlyEntry, ChildEntriesAreOfDocument, SchoolEntriesAreOfDocument}
+use Rattle.adm_view_laws.proofs.ShownChildren.{shown}
 use Rattle.adm_view_laws.proofs.Values.{same_number, same_text}
 
 -- ---- what the document and its entries have
@@ -33,10 +34,6 @@ children_there s = refl
 schools_there : (s : State) → get (codes "schools") (register_data s) ≡ Some (schools_data s)
 unfolding serde_json_on_literals
 schools_there s = refl
-
-child_there : (s : State) (child : Child) → get (codes "child") (child_data s child) ≡ Some (number_data child.no)
-unfolding serde_json_on_literals
-child_there s child = refl
 
 school_there : (s : State) (school : School) → get (codes "school") (school_data s school) ≡ Some (string school.code)
 unfolding serde_json_on_literals
@@ -70,7 +67,7 @@ module _ (s : State) (well : WellFormed s) where
   only_child : (child : Child) → rows.get s.children child.no ≡ Some child
       → IsOnlyEntry (register_data s) (codes "children") (codes "child") (number_data child.no) (child_data s child)
   only_child child there =
-      only_one (child_data s) (λ (c : Child). number_data c.no) (register_data s) (codes "children") (codes "child") (values s.children) child (child_there s) (children_there s)
+      only_one (child_data s) (λ (c : Child). number_data c.no) (register_data s) (codes "children") (codes "child") (values s.children) child (λ c. (shown s c).child) (children_there s)
       (in_values nat_cmp_total nat_cmp-IsAntisymmetric s.children child.no child there)
       (λ c among same. same_Some c child (sym (child_own c among) ∙ ap (rows.get s.children) (same_number c.no child.no same) ∙ there))
 
