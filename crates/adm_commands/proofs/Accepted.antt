@@ -80,7 +80,7 @@ add_school-fit old school kept well passes =
     let pass = passed (add_school.tests old school) passes in
     record {
       base = record {
-        schools = (record { own_code = refl; code_form = kept.code_form; text = kept.text; name = (pass refusal.BadText); in_range = (and_parts _ _ (pass refusal.OutOfRange)).0 }, tt);
+        schools = (record { own_code = refl; code_form = kept.code_form; text = kept.text; name = (pass refusal.BadText); in_range = (and_parts _ _ (pass refusal.OutOfRange)).0; of_size = (and_parts _ _ (pass refusal.OutOfRange)).1 }, tt);
         kept_schools = (λ was there. absurd (none-some was (sym (none_of _ (pass refusal.SchoolKnown)) ∙ there)), tt);
         few_schools = len-insert_room nat_list_cmp_total old.schools school.code school (most_schools old.season.size) (ltb-true _ _ (pass refusal.RegisterFull));
         children = tt;
@@ -103,7 +103,7 @@ add_school-fit old school kept well passes =
     }
 
 -- a child that fits is written
-pub put_child-fit : (old : State) (child : Child) → WellFormed old → ChildFits old.schools child.no child → len (insert old.children child.no child) ≤ most_children old.season.size → Fit old (change_of_child child)
+pub put_child-fit : (old : State) (child : Child) → WellFormed old → ChildFits old.season.size old.schools child.no child → len (insert old.children child.no child) ≤ most_children old.season.size → Fit old (change_of_child child)
 put_child-fit old child well fits few = record {
   base = record { schools = tt; kept_schools = tt; few_schools = tt; children = (fits, tt); few_children = few; applications = tt };
   places = places_stay old (child ∷ []) well;
@@ -123,6 +123,7 @@ add_child-fit old child kept well passes =
       text = kept.text;
       name = (pass refusal.BadText);
       in_range = (and_parts _ _ (pass refusal.OutOfRange)).0;
+      of_size = (and_parts _ _ (pass refusal.OutOfRange)).1;
       flags = kept.flags;
       known = (pass refusal.UnknownSchool);
     })
@@ -139,6 +140,7 @@ amend-fit old child kept well passes =
       text = kept.text;
       name = (pass refusal.BadText);
       in_range = (and_parts _ _ (pass refusal.OutOfRange)).0;
+      of_size = (and_parts _ _ (pass refusal.OutOfRange)).1;
       flags = kept.flags;
       known = (pass refusal.UnknownSchool);
     }) (rw same_len well.base.few_children)

@@ -51,13 +51,14 @@ is_another old number new there gone =
       | false ↦ λ tie. refl
     ] refl
 
-child_fits : (old : State) (row : ImportRow) → KeptByImportRow row → IsAddable old row → ChildFits old.schools row.child.no row.child
+child_fits : (old : State) (row : ImportRow) → KeptByImportRow row → IsAddable old row → ChildFits old.season.size old.schools row.child.no row.child
 child_fits old row kept fits = record {
   own_number = refl;
   number_form = kept.child.number_form;
   text = kept.child.text;
   name = fits.name;
   in_range = (and_parts _ _ fits.in_range).0;
+  of_size = (and_parts _ _ fits.in_range).1;
   flags = kept.child.flags;
   known = fits.known;
 }
@@ -89,8 +90,8 @@ import-fit old rows added well kept accepted permuted sorted =
         schools = tt;
         kept_schools = tt;
         few_schools = tt;
-        children = each_map (λ (r : ImportRow). r.child) (λ (c : Child). ChildFits old.schools c.no c) added
-            (each_weaker (λ (r : ImportRow). KeptByImportRow r × IsAddable old r) (λ (r : ImportRow). ChildFits old.schools r.child.no r.child) (λ r it. child_fits old r it.0 it.1) added both);
+        children = each_map (λ (r : ImportRow). r.child) (λ (c : Child). ChildFits old.season.size old.schools c.no c) added
+            (each_weaker (λ (r : ImportRow). KeptByImportRow r × IsAddable old r) (λ (r : ImportRow). ChildFits old.season.size old.schools r.child.no r.child) (λ r it. child_fits old r it.0 it.1) added both);
         few_children = few_after (most_children old.season.size) children (map (λ (r : ImportRow). r.child) added) (omega (arith, count, same, room));
         applications = each_map application_of (λ (a : Application). ApplicationFits (lists_end old.season) old.schools children a.child a) added
             (each_weaker (λ (r : ImportRow). (KeptByImportRow r × IsAddable old r) × (contains_key children r.child.no ≡ true))
@@ -110,7 +111,7 @@ import-fit old rows added well kept accepted permuted sorted =
       draws = draws_stay old (change_of added) refl;
       imported = record {
         each = each_weaker (λ (r : ImportRow). (KeptByImportRow r × IsAddable old r) × (contains_key children r.child.no ≡ true))
-            (λ (r : ImportRow). ImportFits (lists_end old.season) old.schools children r.child.no r)
+            (λ (r : ImportRow). ImportFits old.season.size (lists_end old.season) old.schools children r.child.no r)
             (λ r it. record { child = child_fits old r it.0.0 it.0.1; application = application_fits old children r it.0.0 it.0.1 it.1 }) added known;
         new_rows = each_new old rows added (imports_known old well) accepted permuted;
       };

@@ -44,7 +44,7 @@ module _ (old : State) (school : List ℕ) (pan : ℕ) (well : WellFormed old) w
         let same_len = len-insert nat_list_cmp_total old.schools row.code now ∙ ap (λ b. cond b (len old.schools) (len old.schools + 1)) (ap is_some here) in
         record {
           base = record {
-            schools = (record { own_code = refl; code_form = fits.code_form; text = fits.text; name = fits.name; in_range = λ i. parts.0 i && first.1 i && second.1 i && third.1 i }, tt);
+            schools = (record { own_code = refl; code_form = fits.code_form; text = fits.text; name = fits.name; in_range = λ i. parts.0 i && first.1 i && second.1 i && third.1 i; of_size = fits.of_size }, tt);
             kept_schools = (λ was same. subst (λ w. IsRaised w now) (same_Some row was (sym here ∙ same)) (record { number = least; others = refl }), tt);
             few_schools = rw same_len well.base.few_schools;
             children = tt;

@@ -11,6 +11,7 @@ use Rattle.std.proofs.lemmas.Bool.{and_parts}
 use Rattle.std.proofs.lemmas.Option.{same_Some}
 use Rattle.adm_types.specs.Limits.{most_schools, most_children}
 use Rattle.adm_types.specs.Seasons.{lists_end}
+use Rattle.adm_types.specs.declared.seasons.Size.{Size}
 use Rattle.adm_types.specs.declared.rows.School.{School}
 use Rattle.adm_types.specs.declared.rows.Child.{Child}
 use Rattle.adm_types.specs.declared.rows.Application.{Application}
@@ -31,13 +32,15 @@ use Rattle.adm_register.proofs.DrawLemmas.{DrawFits-grows, values_put, new_draws
 use Rattle.adm_register.proofs.Puts.{Grows, put_all-grows, there_before, all_stay, AllRows-put_all, are_schools-grows}
 
 -- rows fit still where the rows that they name are there still
-ChildFits-grows : (schools new_schools : FinMap code_cmp School) → Grows schools new_schools → (number : ℕ) (child : Child) → ChildFits schools number child → ChildFits new_schools number child
-ChildFits-grows schools new_schools grows number child fits = record {
+ChildFits-grows : (size : Size) (schools new_schools : FinMap code_cmp School) → Grows schools new_schools → (number : ℕ) (child : Child) → ChildFits size schools number child
+    → ChildFits size new_schools number child
+ChildFits-grows size schools new_schools grows number child fits = record {
   own_number = fits.own_number;
   number_form = fits.number_form;
   text = fits.text;
   name = fits.name;
   in_range = fits.in_range;
+  of_size = fits.of_size;
   flags = fits.flags;
   known =
       let both = and_parts (are_schools schools child.siblings) (are_schools schools child.catchments) fits.known in
@@ -57,9 +60,9 @@ module _ (schools new_schools : FinMap code_cmp School) (children new_children :
     known = are_schools-grows schools new_schools more_schools a.list fits.known;
   }
 
-  ImportFits-grows : (last number : ℕ) (r : ImportRow) → ImportFits last schools children number r → ImportFits last new_schools new_children number r
-  ImportFits-grows last number r fits = record {
-    child = ChildFits-grows schools new_schools more_schools number r.child fits.child;
+  ImportFits-grows : (size : Size) (last number : ℕ) (r : ImportRow) → ImportFits size last schools children number r → ImportFits size last new_schools new_children number r
+  ImportFits-grows size last number r fits = record {
+    child = ChildFits-grows size schools new_schools more_schools number r.child fits.child;
     application = ApplicationFits-grows last number (application_of r) fits.application;
   }
 
@@ -104,11 +107,11 @@ module _ (old : State) (change : Difference) where
   base_fits base put = record {
     season_is = base.season_is;
     few_schools = few (λ (s : School). s.code) (most_schools old.season.size) old.schools change.schools base.few_schools put.few_schools;
-    schools_fit = AllRows-put_all nat_list_cmp_total code_cmp-IsAntisymmetric (λ (s : School). s.code) SchoolFits old.schools change.schools
+    schools_fit = AllRows-put_all nat_list_cmp_total code_cmp-IsAntisymmetric (λ (s : School). s.code) (SchoolFits old.season.size) old.schools change.schools
         (λ code row there still. base.schools_fit code row there) put.schools;
     few_children = few (λ (c : Child). c.no) (most_children old.season.size) old.children change.children base.few_children put.few_children;
-    children_fit = AllRows-put_all nat_cmp_total nat_cmp-IsAntisymmetric (λ (c : Child). c.no) (ChildFits new.schools) old.children change.children
-        (λ number row there still. ChildFits-grows old.schools new.schools more_schools number row (base.children_fit number row there)) put.children;
+    children_fit = AllRows-put_all nat_cmp_total nat_cmp-IsAntisymmetric (λ (c : Child). c.no) (ChildFits old.season.size new.schools) old.children change.children
+        (λ number row there still. ChildFits-grows old.season.size old.schools new.schools more_schools number row (base.children_fit number row there)) put.children;
     applications_fit = AllRows-put_all nat_cmp_total nat_cmp-IsAntisymmetric (λ (a : Application). a.child)
         (ApplicationFits (lists_end old.season) new.schools new.children) (cut_all old.applications change.ended) change.applications
         (λ number row there still. ApplicationFits-grows old.schools new.schools old.children new.children more_schools more_children (lists_end old.season) number row
@@ -210,8 +213,8 @@ module _ (old : State) (change : Difference) where
   -- the imported rows fit after the change
   imported_fit : ImportedFit old.season old.schools old.children old.imported → ImportedPut old change → ImportedFit new.season new.schools new.children new.imported
   imported_fit imported put = AllRows-put_all nat_cmp_total nat_cmp-IsAntisymmetric (λ (r : ImportRow). r.child.no)
-      (ImportFits (lists_end old.season) new.schools new.children) old.imported change.imported
-      (λ number row there still. ImportFits-grows old.schools new.schools old.children new.children more_schools more_children (lists_end old.season) number row (imported number row there)) put.each
+      (ImportFits old.season.size (lists_end old.season) new.schools new.children) old.imported change.imported
+      (λ number row there still. ImportFits-grows old.schools new.schools old.children new.children more_schools more_children old.season.size (lists_end old.season) number row (imported number row there)) put.each
 
   -- so the state after the change is a register
   pub after-keeps : WellFormed old → Fit old change → WellFormed new

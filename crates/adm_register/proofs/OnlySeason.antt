@@ -18,9 +18,9 @@ only_season-WellFormed season is = record {
   base = record {
     season_is = is;
     few_schools = omega (arith, len-empty code_cmp School);
-    schools_fit = AllRows-empty code_cmp SchoolFits;
+    schools_fit = AllRows-empty code_cmp (SchoolFits season.size);
     few_children = omega (arith, len-empty nat_cmp Child);
-    children_fit = AllRows-empty nat_cmp (ChildFits empty);
+    children_fit = AllRows-empty nat_cmp (ChildFits season.size empty);
     applications_fit = AllRows-empty nat_cmp (ApplicationFits (lists_end season) empty empty);
   };
   places = record {
@@ -29,5 +29,5 @@ only_season-WellFormed season is = record {
   };
   left = AllRows-empty left_cmp (LeftPairFits empty empty empty);
   draws = record { each = AllRows-empty nat_cmp (DrawFits empty empty); in_order = ap (are_in_order season no_draws) (values-empty nat_cmp Draw) };
-  imported = AllRows-empty nat_cmp (ImportFits (lists_end season) empty empty);
+  imported = AllRows-empty nat_cmp (ImportFits season.size (lists_end season) empty empty);
 }

@@ -29,10 +29,10 @@ FewAfter limit rows (row ∷ put) = len rows ≤ limit
 
 -- what is written to the schools, the children and the applications fits the rows after the change; the schools are new, or what they were but for a number that is not smaller
 pub record BasePut (old : State) (change : Difference) : Type 0 where
-  pub schools : AllByRecursion (λ (s : School). SchoolFits s.code s) change.schools
+  pub schools : AllByRecursion (λ (s : School). SchoolFits old.season.size s.code s) change.schools
   pub kept_schools : AllByRecursion (λ (s : School). (was : School) → get old.schools s.code ≡ Some was → IsRaised was s) change.schools
   pub few_schools : FewAfter (most_schools old.season.size) (after old change).schools change.schools
-  pub children : AllByRecursion (λ (c : Child). ChildFits (after old change).schools c.no c) change.children
+  pub children : AllByRecursion (λ (c : Child). ChildFits old.season.size (after old change).schools c.no c) change.children
   pub few_children : FewAfter (most_children old.season.size) (after old change).children change.children
   pub applications : AllByRecursion (λ (a : Application). ApplicationFits (lists_end old.season) (after old change).schools (after old change).children a.child a) change.applications
 
@@ -54,7 +54,7 @@ pub record DrawsPut (old : State) (change : Difference) : Type 0 where
 
 -- the imported rows that are written fit the rows after the change, and are new
 pub record ImportedPut (old : State) (change : Difference) : Type 0 where
-  pub each : AllByRecursion (λ (r : ImportRow). ImportFits (lists_end old.season) (after old change).schools (after old change).children r.child.no r) change.imported
+  pub each : AllByRecursion (λ (r : ImportRow). ImportFits old.season.size (lists_end old.season) (after old change).schools (after old change).children r.child.no r) change.imported
   pub new_rows : AllByRecursion (λ (r : ImportRow). not (contains_key old.imported r.child.no) ≡ true) change.imported
 
 -- what is written is in the order of its keys, and so is what is deleted; nothing is both written and deleted

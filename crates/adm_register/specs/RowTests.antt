@@ -5,7 +5,8 @@ use Rattle.std.specs.Ordering.{nat_cmp}
 use Rattle.std.specs.FinMap.{FinMap, get, contains_key}
 use Rattle.std.specs.Str.{is_utf8}
 use Rattle.adm_types.specs.Code.{is_code}
-use Rattle.adm_types.specs.Limits.{is_from, is_child_number, first_day, most_preferences, is_name, is_school_in_range, is_child_in_range, is_without_repeat, code_cmp}
+use Rattle.adm_types.specs.Limits.{is_from, is_child_number, first_day, most_preferences, is_name, is_school_of_size, is_child_of_size, is_without_repeat, code_cmp}
+use Rattle.adm_types.specs.declared.seasons.Size.{Size}
 use Rattle.adm_types.specs.declared.rows.School.{School}
 use Rattle.adm_types.specs.declared.rows.Child.{Child}
 use Rattle.adm_types.specs.declared.rows.Application.{Application}
@@ -19,21 +20,21 @@ use Rattle.adm_register.specs.Draws.{is_choice, is_known_outcome, is_known_lot}
 use Rattle.adm_register.specs.WellFormed.{are_schools, has_schools_of, has_days_in_order, is_entitled, is_unplanned_at, places_outside_plans}
 
 -- whether a school fits, but for its key
-abbrev pub is_school : School → Bool
-is_school school = is_code school.code && is_utf8 school.name && is_name school.name && is_school_in_range school
+abbrev pub is_school : Size → School → Bool
+is_school size school = is_code school.code && is_utf8 school.name && is_name school.name && is_school_of_size size school
 
 -- whether a school fits at its code
-abbrev pub fits_school : List ℕ → School → Bool
-fits_school code school = bytes_eq school.code code && is_school school
+abbrev pub fits_school : Size → List ℕ → School → Bool
+fits_school size code school = bytes_eq school.code code && is_school size school
 
 -- whether a child fits, but for its key
-abbrev pub is_child : FinMap code_cmp School → Child → Bool
-is_child schools child =
-    is_child_number child.no && is_utf8 child.name && is_name child.name && is_child_in_range child && nat_lt child.flags 65536 && has_schools_of schools child
+abbrev pub is_child : Size → FinMap code_cmp School → Child → Bool
+is_child size schools child =
+    is_child_number child.no && is_utf8 child.name && is_name child.name && is_child_of_size size child && nat_lt child.flags 65536 && has_schools_of schools child
 
 -- whether a child fits at its number
-abbrev pub fits_child : FinMap code_cmp School → ℕ → Child → Bool
-fits_child schools number child = nat_eq child.no number && is_child schools child
+abbrev pub fits_child : Size → FinMap code_cmp School → ℕ → Child → Bool
+fits_child size schools number child = nat_eq child.no number && is_child size schools child
 
 -- whether an application fits, but for its key
 abbrev pub is_application : ℕ → FinMap code_cmp School → FinMap nat_cmp Child → Application → Bool
@@ -63,12 +64,12 @@ abbrev pub fits_left : FinMap code_cmp School → FinMap nat_cmp Child → FinMa
 fits_left schools children places key pair = is_same_left pair key && is_left schools children places pair
 
 -- whether a school fits at its code, and its places that are not a plan's are at most its admission number
-abbrev pub fits_school_with : FinMap nat_cmp PlaceRow → List ℕ → School → Bool
-fits_school_with places code school = fits_school code school && nat_le (places_outside_plans places code) school.pan
+abbrev pub fits_school_with : Size → FinMap nat_cmp PlaceRow → List ℕ → School → Bool
+fits_school_with size places code school = fits_school size code school && nat_le (places_outside_plans places code) school.pan
 
 -- whether an imported row fits at its child's number
-abbrev pub fits_import : ℕ → FinMap code_cmp School → FinMap nat_cmp Child → ℕ → ImportRow → Bool
-fits_import last_list_day schools children number row = fits_child schools number row.child && fits_application last_list_day schools children number (application_of row)
+abbrev pub fits_import : Size → ℕ → FinMap code_cmp School → FinMap nat_cmp Child → ℕ → ImportRow → Bool
+fits_import size last_list_day schools children number row = fits_child size schools number row.child && fits_application last_list_day schools children number (application_of row)
 
 -- whether a draw fits, but for its form and its key
 abbrev pub is_known_draw : FinMap code_cmp School → FinMap nat_cmp Child → Draw → Bool

@@ -1,5 +1,5 @@
 -- Which states are registers: what each row must fit, table by table.
-use Rattle.std.specs.Prelude.{◌≡◌, ℕ, ◌+◌, ◌≤◌, Bool, true, false, not, is_some, count_by, if◌then◌else◌, ◌&&◌, nat_lt, List, length, IsTrue, Option, Some, None, bytes_eq}
+use Rattle.std.specs.Prelude.{◌≡◌, ℕ, ◌+◌, ◌≤◌, Bool, true, false, not, is_some, count_by, if◌then◌else◌, ◌&&◌, nat_lt, nat_le, List, length, IsTrue, Option, Some, None, bytes_eq}
 use Rattle.std.specs.List.{list_all}
 use Rattle.std.specs.Ordering.{nat_cmp}
 use Rattle.std.specs.declared.cmp.Ordering.{Ordering}
@@ -7,7 +7,8 @@ use Rattle.std.specs.FinMap.{FinMap, get, len, values, contains_key}
 use Rattle.std.specs.Str.{is_utf8}
 use Rattle.adm_types.specs.Code.{is_code}
 use Rattle.adm_types.specs.Seasons.{SeasonFacts, IsSeason, lists_end}
-use Rattle.adm_types.specs.Limits.{is_from, is_child_number, first_day, last_day, most_schools, most_children, most_preferences, is_name, is_school_in_range, is_child_in_range, is_listed, is_without_repeat, code_cmp}
+use Rattle.adm_types.specs.Limits.{is_from, is_child_number, first_day, last_day, most_schools, most_children, most_preferences, is_name, is_school_in_range, is_child_in_range, is_allowed, most_catchments, is_listed, is_without_repeat, code_cmp}
+use Rattle.adm_types.specs.declared.seasons.Size.{Size}
 use Rattle.adm_types.specs.declared.rows.School.{School}
 use Rattle.adm_types.specs.declared.rows.Child.{Child}
 use Rattle.adm_types.specs.declared.rows.Application.{Application}
@@ -33,21 +34,23 @@ are_schools schools codes = list_all (contains_key schools) codes
 abbrev pub has_schools_of : FinMap code_cmp School → Child → Bool
 has_schools_of schools child = are_schools schools child.siblings && are_schools schools child.catchments
 
--- a school is at its own code, with a name and numbers in their limits
-pub record SchoolFits (code : List ℕ) (school : School) : Type 0 where
+-- a school is at its own code, with a name and numbers in their limits, and criteria that a season of this size allows
+pub record SchoolFits (size : Size) (code : List ℕ) (school : School) : Type 0 where
   pub own_code : school.code ≡ code
   pub code_form : IsTrue (is_code school.code)
   pub text : IsTrue (is_utf8 school.name)
   pub name : IsTrue (is_name school.name)
   pub in_range : IsTrue (is_school_in_range school)
+  pub of_size : IsTrue (list_all (is_allowed size) school.criteria)
 
 -- a child is at its own number, with a name and numbers in their limits, 16 flags, and siblings' and catchment schools that are there
-pub record ChildFits (schools : FinMap code_cmp School) (number : ℕ) (child : Child) : Type 0 where
+pub record ChildFits (size : Size) (schools : FinMap code_cmp School) (number : ℕ) (child : Child) : Type 0 where
   pub own_number : child.no ≡ number
   pub number_form : IsTrue (is_child_number child.no)
   pub text : IsTrue (is_utf8 child.name)
   pub name : IsTrue (is_name child.name)
   pub in_range : IsTrue (is_child_in_range child)
+  pub of_size : IsTrue (nat_le (length child.catchments) (most_catchments size))
   pub flags : IsTrue (nat_lt child.flags 65536)
   pub known : IsTrue (has_schools_of schools child)
 
@@ -104,9 +107,9 @@ pub record LeftPairFits (schools : FinMap code_cmp School) (children : FinMap na
 pub record BaseFits (season : SeasonFacts) (schools : FinMap code_cmp School) (children : FinMap nat_cmp Child) (applications : FinMap nat_cmp Application) : Type 0 where
   pub season_is : IsSeason season
   pub few_schools : len schools ≤ most_schools season.size
-  pub schools_fit : AllRows SchoolFits schools
+  pub schools_fit : AllRows (SchoolFits season.size) schools
   pub few_children : len children ≤ most_children season.size
-  pub children_fit : AllRows (ChildFits schools) children
+  pub children_fit : AllRows (ChildFits season.size schools) children
   pub applications_fit : AllRows (ApplicationFits (lists_end season) schools children) applications
 
 -- how many places at the school are not those of a plan
@@ -128,13 +131,13 @@ pub record DrawsFit (season : SeasonFacts) (schools : FinMap code_cmp School) (c
   pub in_order : IsTrue (are_in_order season no_draws (values draws))
 
 -- an imported row is at its child's number, and the child and its application could be added
-pub record ImportFits (last_list_day : ℕ) (schools : FinMap code_cmp School) (children : FinMap nat_cmp Child) (number : ℕ) (row : ImportRow) : Type 0 where
-  pub child : ChildFits schools number row.child
+pub record ImportFits (size : Size) (last_list_day : ℕ) (schools : FinMap code_cmp School) (children : FinMap nat_cmp Child) (number : ℕ) (row : ImportRow) : Type 0 where
+  pub child : ChildFits size schools number row.child
   pub application : ApplicationFits last_list_day schools children number (application_of row)
 
 -- each imported row fits the rows that it names
 abbrev pub ImportedFit : SeasonFacts → FinMap code_cmp School → FinMap nat_cmp Child → FinMap nat_cmp ImportRow → Type 0
-ImportedFit season schools children imported = AllRows (ImportFits (lists_end season) schools children) imported
+ImportedFit season schools children imported = AllRows (ImportFits season.size (lists_end season) schools children) imported
 
 -- each group of rows fits, and what they read of the others
 pub record WellFormed (s : State) : Type 0 where

@@ -14,8 +14,10 @@ use crate::draws_so_far::are_in_order;
 use crate::tables::{Tables, is_plan};
 use adm_draws::is_draw;
 use adm_table::{Piece, Shared, Table};
-use adm_types::limits::{is_listed, is_name, is_school_in_range};
-use adm_types::{ChildNo, Draw, LeftPair, Lot, Outcome, PlaceRow, PlaceState, School, SchoolCode};
+use adm_types::limits::{is_listed, is_name, is_school_of_size};
+use adm_types::{
+    ChildNo, Draw, LeftPair, Lot, Outcome, PlaceRow, PlaceState, School, SchoolCode, Size,
+};
 use std::alloc::{AllocError, Global};
 
 /// A row that is tested beside the other rows of its register.
@@ -111,22 +113,23 @@ fn are_few(tables: &Tables) -> bool
 }
 
 impl RowCheck<SchoolCode> for School {
-    ghost fits = { λ s. fits_school_with s.places };
+    ghost fits = { λ s. fits_school_with s.season.size s.places };
 
     fn fits_in(&self, tables: &Tables, code: &SchoolCode) -> bool {
         let pan = self.pan as usize;
-        self.code == *code && is_school(self) && tables.places_outside_plans(*code) <= pan
+        let size = tables.season().size();
+        self.code == *code && is_school(size, self) && tables.places_outside_plans(*code) <= pan
     }
 }
 
-/// Whether a school's name and numbers are in their limits.
-fn is_school(school: &School) -> bool
-    ensures { result ≡ is_school school.now }
+/// Whether a school's name, numbers and criteria are in the limits of the season's size.
+fn is_school(size: Size, school: &School) -> bool
+    ensures { result ≡ is_school size school.now }
 {
     // read only so that the check sees what their types keep
     let _code = school.code.as_str();
     let _text = school.name.as_str();
-    is_name(&school.name) && is_school_in_range(school)
+    is_name(&school.name) && is_school_of_size(size, school)
 }
 
 impl RowCheck<ChildNo> for PlaceRow {

@@ -6,27 +6,28 @@ ghost use Rattle.adm_register.specs.RowTests.{fits_child, is_child, fits_applica
 
 use crate::checks::RowCheck;
 use crate::tables::Tables;
-use adm_types::limits::{MOST_PREFERENCES, is_child_in_range, is_name, is_without_repeat};
+use adm_types::limits::{MOST_PREFERENCES, is_child_of_size, is_name, is_without_repeat};
 use adm_types::{Application, Child, ChildNo, Day, Row, SchoolCode};
 
 impl RowCheck<ChildNo> for Child {
-    ghost fits = { λ s. fits_child s.schools };
+    ghost fits = { λ s. fits_child s.season.size s.schools };
 
     fn fits_in(&self, tables: &Tables, number: &ChildNo) -> bool {
         self.no == *number && is_child(tables, self)
     }
 }
 
-/// Whether a child's name and numbers are in their limits, and its siblings' and catchment schools
-/// are there.
+/// Whether a child's name and numbers are in the limits of the season's size, and its siblings' and
+/// catchment schools are there.
 fn is_child(tables: &Tables, child: &Child) -> bool
-    ensures { result ≡ is_child tables.now.schools child.now }
+    ensures { result ≡ is_child tables.now.season.size tables.now.schools child.now }
 {
     // read only so that the check sees what their types keep
     let _number = child.no.get();
     let _text = child.name.as_str();
     let _flags = child.flags;
-    is_name(&child.name) && is_child_in_range(child) && tables.has_schools_of(child)
+    let size = tables.season().size();
+    is_name(&child.name) && is_child_of_size(size, child) && tables.has_schools_of(child)
 }
 
 impl RowCheck<ChildNo> for Application {
@@ -59,7 +60,7 @@ pub fn is_preference_list(list: &[SchoolCode]) -> bool
 }
 
 impl RowCheck<ChildNo> for Row {
-    ghost fits = { λ s. fits_import (lists_end s.season) s.schools s.children };
+    ghost fits = { λ s. fits_import s.season.size (lists_end s.season) s.schools s.children };
 
     fn fits_in(&self, tables: &Tables, number: &ChildNo) -> bool {
         let child = self.child.no;

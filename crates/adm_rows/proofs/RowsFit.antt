@@ -52,7 +52,7 @@ pub schools_fit : (r : Register) → WellFormed r → AllByRecursion IsSchool (v
 schools_fit r formed = each_value nat_list_cmp_total same_code IsSchool r.schools (λ code s is. let fits = formed.base.schools_fit code s is in
     record { code_form = fits.code_form; text = fits.text; in_range = fits.in_range })
 
-child_fits : (r : Register) → WellFormed r → (number : ℕ) (child : Child) → ChildFits r.schools number child → IsChild child
+child_fits : (r : Register) → WellFormed r → (number : ℕ) (child : Child) → ChildFits r.season.size r.schools number child → IsChild child
 child_fits r formed number child fits = record {
   number_form = fits.number_form;
   text = fits.text;

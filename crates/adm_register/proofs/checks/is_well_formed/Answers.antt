@@ -29,11 +29,11 @@ returns c =
     let rows = c.tables.inside in
     let view = c.tables.view_is in
     let last = lists_end s.season in
-    let schools = rows_decided (fits_school_with s.places) (λ code school. SchoolFits code school
+    let schools = rows_decided (fits_school_with s.season.size s.places) (λ code school. SchoolFits s.season.size code school
     × (places_outside_plans s.places code ≤ school.pan)) nat_list_cmp_total code_cmp-IsAntisymmetric
-    (school_decided_with s.places) rows.base.schools s.schools c.all_fit.result (ap (λ s. s.schools) view) c.all_fit.ensures.ordered c.all_fit.ensures.tested in
-    let children = rows_decided (fits_child s.schools) (ChildFits s.schools) nat_cmp_total nat_cmp-IsAntisymmetric
-    (child_decided s.schools) rows.base.children s.children c.all_fit-2.result (ap (λ s. s.children) view) c.all_fit-2.ensures.ordered c.all_fit-2.ensures.tested in
+    (school_decided_with s.season.size s.places) rows.base.schools s.schools c.all_fit.result (ap (λ s. s.schools) view) c.all_fit.ensures.ordered c.all_fit.ensures.tested in
+    let children = rows_decided (fits_child s.season.size s.schools) (ChildFits s.season.size s.schools) nat_cmp_total nat_cmp-IsAntisymmetric
+    (child_decided s.season.size s.schools) rows.base.children s.children c.all_fit-2.result (ap (λ s. s.children) view) c.all_fit-2.ensures.ordered c.all_fit-2.ensures.tested in
     let applications = rows_decided (fits_application last s.schools s.children) (ApplicationFits last s.schools s.children) nat_cmp_total nat_cmp-IsAntisymmetric
     (application_decided last s.schools s.children) rows.base.applications s.applications c.all_fit-3.result
     (ap (λ s. s.applications) view) c.all_fit-3.ensures.ordered c.all_fit-3.ensures.tested in
@@ -45,8 +45,8 @@ returns c =
     (left_decided s.schools s.children s.places) rows.course.left s.left c.all_fit-5.result (ap (λ s. s.left) view) c.all_fit-5.ensures.ordered c.all_fit-5.ensures.tested in
     let known = rows_decided (fits_known_draw s.schools s.children) (IsKnown s.schools s.children) nat_cmp_total nat_cmp-IsAntisymmetric
     (draw_known s.schools s.children) rows.course.draws s.draws c.all_fit-6.result (ap (λ s. s.draws) view) c.all_fit-6.ensures.ordered c.all_fit-6.ensures.tested in
-    let imported = rows_decided (fits_import last s.schools s.children) (ImportFits last s.schools s.children) nat_cmp_total nat_cmp-IsAntisymmetric
-    (import_decided last s.schools s.children) rows.course.imported s.imported c.all_fit-7.result (ap (λ s. s.imported) view) c.all_fit-7.ensures.ordered c.all_fit-7.ensures.tested in
+    let imported = rows_decided (fits_import s.season.size last s.schools s.children) (ImportFits s.season.size last s.schools s.children) nat_cmp_total nat_cmp-IsAntisymmetric
+    (import_decided s.season.size last s.schools s.children) rows.course.imported s.imported c.all_fit-7.result (ap (λ s. s.imported) view) c.all_fit-7.ensures.ordered c.all_fit-7.ensures.tested in
     let rows_listed = c.in_ok-draws.ensures.rows ∙ sym (values_rows nat_cmp_total rows.course.draws c.to_vec.ensures.ordered) ∙ ap (λ s. values s.draws) view in
     let formed = c.in_ok-all_formed.ensures ∙ ap (list_all is_draw) (c.deref.ensures.value ∙ rows_listed) in
     let in_order = c.are_in_order.ensures ∙ (λ i. are_in_order (c.season-2.ensures i) no_draws ((c.deref-2.ensures.value ∙ rows_listed) i)) in (
