@@ -180,9 +180,7 @@ pub fn is_child_of_size(size: Size, child: &Child) -> bool
 fn are_allowed(size: Size, criteria: &[Criterion]) -> bool
     ensures { result ≡ list_all (is_allowed size) criteria.now }
 {
-    criteria
-        .iter()
-        .all(|criterion| size.is_allowed(criterion))
+    criteria.iter().all(|criterion| size.is_allowed(criterion))
 }
 
 /// Whether a school is in its limits, with criteria that a season of this size allows.
