@@ -7,4 +7,3 @@ pub mod Imports
 pub mod NoBetterList
 pub mod Places
 pub mod Sizes
-pub mod Allowed

@@ -1,8 +1,9 @@
 -- A register of the standard size is small, and a command keeps the season.
-use Rattle.std.proofs.Common.{◌≡◌, ap, subst, true, ◌≤◌, List, [], ◌∷◌, arith, leb-true}
+use Rattle.std.proofs.Common.{◌≡◌, ap, subst, true, refl, ℕ, nat_le, length, ◌≤◌, List, [], ◌∷◌, arith, leb-true}
+use Rattle.std.specs.List.{list_all}
 use Rattle.std.specs.FinMap.{len, values}
 use Rattle.std.proofs.lemmas.Bool.{and_parts}
-use Rattle.adm_types.specs.Limits.{most_schools, most_children, most_lots}
+use Rattle.adm_types.specs.Limits.{most_schools, most_children, most_lots, most_catchments, is_allowed}
 use Rattle.adm_types.specs.Seasons.{SeasonFacts}
 use Rattle.adm_types.specs.declared.draws.Draw.{Draw}
 use Rattle.adm_register.specs.State.{State}
@@ -18,11 +19,20 @@ lots_within season before (draw ∷ draws) few in_order =
     let both = and_parts (is_next season before draw) _ in_order in
     lots_within season (count_draw before draw) draws (leb-true _ _ (and_parts _ _ both.0).1) both.1
 
+no_codes : (codes : List (List ℕ)) → nat_le (length codes) 0 ≡ true → codes ≡ []
+no_codes [] few = refl
+no_codes (code ∷ codes) few = absurd (omega (arith, leb-true _ _ few))
+
 pub standard_is_small_lem : StandardIsSmall
 standard_is_small_lem s well size = record {
   schools = subst (λ z. len s.schools ≤ most_schools z) size well.base.few_schools;
   children = subst (λ z. len s.children ≤ most_children z) size well.base.few_children;
   lots = subst (λ z. (count_draws no_draws (values s.draws)).lots ≤ most_lots z) size (lots_within s.season no_draws (values s.draws) (omega arith) well.draws.in_order);
+  criteria = λ code school there. subst (λ z. list_all (is_allowed z) school.criteria ≡ true) size (well.base.schools_fit code school there).of_size;
+  catchments = λ number child there.
+      no_codes child.catchments (subst (λ z. nat_le (length child.catchments) (most_catchments z) ≡ true) size (well.base.children_fit number child there).of_size);
+  imported = λ number row there.
+      no_codes row.child.catchments (subst (λ z. nat_le (length row.child.catchments) (most_catchments z) ≡ true) size (well.imported number row there).child.of_size);
 }
 
 pub season_stays_lem : SeasonStays

@@ -4,7 +4,7 @@ ghost use Rattle.adm_command_laws.specs.Imports.{ImportOnce};
 ghost use Rattle.adm_command_laws.specs.Steps.{OneStep, RepeatSafe, SomeStep, StepKeeps};
 ghost use Rattle.adm_command_laws.specs.NextRound.{RoundIsPosed, NoBetterList};
 ghost use Rattle.adm_command_laws.specs.Places.{PlacesHaveCause};
-ghost use Rattle.adm_command_laws.specs.Sizes.{EachIsAllowed, SeasonStays, StandardIsSmall};
+ghost use Rattle.adm_command_laws.specs.Sizes.{SeasonStays, StandardIsSmall};
 
 use adm_match_laws::{no_gain, one_best};
 use adm_round::{allotment_fits, one_allotment, posed_without_fault};
@@ -78,7 +78,8 @@ pub fn no_better_list()
     no_gain();
 }
 
-/// A register of the standard size has at most 200 schools, 2,000 children and 1,000,000 lots.
+/// A register of the standard size has at most 200 schools, 2,000 children and 1,000,000 lots, and
+/// neither the criterion `catchment` nor a catchment school.
 pub fn standard_is_small()
     ensures { StandardIsSmall }
 {}
@@ -86,11 +87,4 @@ pub fn standard_is_small()
 /// No accepted command changes the season of a register, of which its size is a part.
 pub fn season_stays()
     ensures { SeasonStays }
-{}
-
-/// After any commands that were accepted since the season began, its size allows each school's
-/// criteria and each child's catchment schools: a register of the standard size has neither a
-/// catchment school nor the criterion `catchment`.
-pub fn each_is_allowed()
-    ensures { EachIsAllowed }
 {}
