@@ -40,9 +40,9 @@ class Register(model.Season):
 
     lists: dict[int, list[str]]
 
-    def __init__(self, holidays=()):
+    def __init__(self, holidays=(), is_large=False):
         super().__init__()
-        self.days, self.holidays = {}, sorted(set(holidays))
+        self.days, self.holidays, self.is_large = {}, sorted(set(holidays)), is_large
 
     def entrants(self):
         return {
@@ -158,7 +158,7 @@ class Register(model.Season):
                 "reminded": place["reminded"],
                 "school": place["school"],
             },
-            **{name: it[name] for name in OMITTED},
+            **{name: it[name] for name in OMITTED if name != "catchments" or it[name]},
             "siblings": it["siblings"],
         }
 
@@ -238,6 +238,7 @@ class Register(model.Season):
             "last_list_day": LAST,
             "offer_day": offer_day(self.holidays),
             "phase": "secondary",
+            **({"size": "large"} if self.is_large else {}),
             "year": 2025,
         }
         return {
