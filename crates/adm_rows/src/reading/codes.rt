@@ -72,10 +72,7 @@ pub(super) fn codes_at(alloc: Global, row: &Row, at: usize) -> Result<Seq<School
 }
 
 /// The two lists of codes that a text writes.
-fn two_lists_in(
-    alloc: Global,
-    text: &str,
-) -> Result<(Seq<SchoolCode>, Seq<SchoolCode>), RowsFault>
+fn two_lists_in(alloc: Global, text: &str) -> Result<(Seq<SchoolCode>, Seq<SchoolCode>), RowsFault>
     ensures ok { IfOk result (λ lists. text.now ≡ two_codes_text lists) }
     ensures again { IfOk result (λ lists. two_lists_of text.now ≡ Some lists) }
     ensures bad { IfErr result (λ e. e ≡ RowsFault.BadRow → (lists : List (List ℕ) × List (List ℕ)) → list_all is_code lists.0 ≡ true → list_all is_code lists.1 ≡ true → text.now ≡ two_codes_text lists → ⊥) }
