@@ -14,7 +14,7 @@ import flask
 import pytest
 from applications import Browser, Site, site
 from draw_site import (
-    HAL, JANE, MISTYPED, RAISED, SUP, Command, Fields, Machine, Person, after_round, at_lots, begun,
+    HAL, MISTYPED, RAISED, SUP, Command, Fields, Machine, Person, after_round, at_lots, begun,
     brought, given_up, lot_of, sealed, typed, version, waiting,
 )
 from pages import Page, press
@@ -28,7 +28,6 @@ from office.web.register.history import Entry
 from office.web.register.schema import STEPS
 from office.web.register.store import Store
 from office.web.rounds import page as draws_page
-from office.web.rounds import second
 from office.web.rounds.drafts import Typed
 from office.web.rounds.terms import Draw, Terms
 
@@ -278,40 +277,6 @@ def test_who_could_act_in_both_names_does_not_confirm(small: Machine, what: str)
         number = begun(office)
         brought(office, number, "rehearsed")
         assert jane.step(number, "confirm").status_code == 303
-
-
-def test_who_made_the_account_that_made_an_account_does_not_confirm(small: Machine) -> None:
-    """Over however many accounts, in both directions: until a third person has given one on the way
-    its role and its password before it gave others theirs. Who has made both has no part.
-    """
-    with small.office() as office:
-        record = office.parts.history
-        for by, to in (("ann", "hal"), ("hal", "bea"), ("bea", "cy"), ("cy", "jane"),
-                       ("ann", "pat"), ("jane", "dee"), ("dee", "ike")):
-            record.add(by, "added", {"person": to, "role": "officer"})
-        office_of_two(office)
-        number = begun(office)
-        brought(office, number, "rehearsed")
-
-        def said(name: str) -> str:
-            return second.hindered(record, name, second.Case(None, "", {"hal": "began it"}))
-
-        moment = "[0-9]{2}:[0-9]{2}"
-        assert re.fullmatch(
-            f"jane was added by cy at {moment}, and cy was added by bea at {moment}, and bea was"
-            f" added by hal at {moment}, so that hal could act in all these names", said("jane"))
-        assert said("ike").startswith("ike was added by dee at ") and said("pat") == ""
-        assert said("ann").startswith("hal was added by ann at ")
-        with pytest.raises(Refused, match="jane was added by cy at .*: somebody else confirms it"):
-            office.parts.draws.confirm(JANE, number, version(office, number))
-        for it in ("gave a role", "drew a new password"):
-            record.add("root", it, {"person": "cy"})
-        # (what cy gave before that is what hal could have given)
-        assert said("jane")
-        record.add("cy", "gave a role", {"person": "jane", "role": "officer"})
-        assert said("jane")
-        record.add("cy", "drew a new password", {"person": "jane"})
-        assert said("jane") == "" and said("ike")
 
 
 def test_who_could_act_for_whoever_saved_lots_does_not_confirm(small: Machine) -> None:

@@ -3,7 +3,7 @@ has another part in it, nobody in whose name somebody with such a part could act
 could act in theirs. Where nobody but one is left, that one may end a draw alone, and not hold it.
 """
 import dataclasses
-from collections.abc import Iterable, Iterator, Mapping
+from collections.abc import Mapping
 
 from register_files import Refused
 
@@ -59,49 +59,25 @@ def hindered(record: History, name: str, case: Case) -> str:
         entries = list(record.entries)
     start = len(entries) if case.began is None else next(
         (it.number for it in reversed(entries) if case.began in (it.what, it.number)), 0)
-    made: dict[str, list[Entry]] = {}
-    for it in reversed(entries):
-        if it.what in MADE:
-            made.setdefault(str(it.about.get("person")), []).append(it)
-    for it in made.get(name, ()):
-        if it.number > start:
-            return f"{name} {said_of(it)}, after {case.what}"
+    made = [it for it in reversed(entries) if it.what in MADE]
+    for it in made:
+        if it.number > start and it.about.get("person") == name:
+            return f"{name} {MADE[it.what]} by {it.who} at {local(it.at)}, after {case.what}"
     for other in case.others:
         for one, by in ((name, other), (other, name)):
-            if way := given(made, one, by):
-                names = one, *(it.who for it in way)
-                said = ", and ".join(f"{it} {said_of(entry)}" for it, entry in zip(names, way))
-                both = "both names" if len(way) == 1 else "all these names"
-                return f"{said}, so that {by} could act in {both}"
+            if found := given(made, one, by):
+                return (f"{one} {MADE[found.what]} by {by} at {local(found.at)}, so that {by} could"
+                        " act in both names")
     return ""
 
 
-def said_of(it: Entry) -> str:
-    """What was done to an account, and by whom."""
-    return f"{MADE[it.what]} by {it.who} at {local(it.at)}"
-
-
-def given(made: Mapping[str, list[Entry]], name: str, by: str) -> list[Entry]:
-    """By what somebody gave another one their present password or role, if they did: themselves, or
-    in the name of somebody who had theirs from them before. `made` has the last entry of each
-    person first.
+def given(made: list[Entry], name: str, by: str) -> Entry | None:
+    """By what somebody gave another one their present password or role, if they did. `made` has the
+    last entry first.
     """
-    seen, ways = set[int](), [[it] for it in last_of(made.get(name, ()))]
-    for way in ways:
-        if way[-1].who == by:
-            return way
-        if way[-1].number not in seen:
-            seen.add(way[-1].number)
-            before = [it for it in made.get(way[-1].who, ()) if it.number < way[-1].number]
-            ways += [[*way, it] for it in last_of(before)]
-    return []
-
-
-def last_of(made: Iterable[Entry]) -> Iterator[Entry]:
-    """What gave somebody their password, and what their role: the last one of each."""
-    found = list(made)
-    last = (next((it for it in found if it.what in whats), None) for whats in GIVEN)
-    return (it for it in last if it)
+    of_name = [it for it in made if it.about.get("person") == name]
+    last = (next((it for it in of_name if it.what in whats), None) for whats in GIVEN)
+    return next((it for it in last if it and it.who == by), None)
 
 
 def see(record: History, who: Person, case: Case, otherwise: str) -> None:
