@@ -114,9 +114,9 @@ def draw_in_words(draw: Draw) -> str:
 # the fields of a child and of a school, as forms and lists have them
 LABELS = {
     "child": "Number", "name": "Name", "east": "East, in metres", "north": "North, in metres",
-    "looked_after": "Looked after", "flags": "Verified reasons", "siblings": "Siblings at", "catchments": "Catchment schools",
-    "present": "Present school", "school": "Code", "pan": "Admission number",
-    "criteria": "Criteria",
+    "looked_after": "Looked after", "flags": "Verified reasons", "siblings": "Siblings at",
+    "catchments": "Catchment schools", "present": "Present school", "school": "Code",
+    "pan": "Admission number", "criteria": "Criteria",
 }
 
 

@@ -196,8 +196,9 @@ def site(folder: pathlib.Path, door: str) -> Iterator[Site]:
 
 
 @contextlib.contextmanager
-def office_over(folder: pathlib.Path, commands: list[dict[str, Any]]) -> Iterator[Site]:
+def office_over(folder: pathlib.Path, commands: list[dict[str, Any]],
+                is_large: bool = False) -> Iterator[Site]:
     """The application over a new register with these commands."""
-    make(folder / "reg.db", commands)
+    make(folder / "reg.db", commands, is_large=is_large)
     with served(folder / "reg.db") as (address, _), site(folder, address) as found:
         yield found

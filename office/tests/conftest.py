@@ -130,19 +130,21 @@ def office_fixture(tools: pathlib.Path, tmp_path: pathlib.Path) -> Office:
     return run
 
 
-def make(path: pathlib.Path, commands: Iterable[Command], year: str = "2025") -> list[Command]:
+def make(path: pathlib.Path, commands: Iterable[Command], year: str = "2025",
+         is_large: bool = False) -> list[Command]:
     """A new register with these commands done, and the answers."""
-    register, answers = made(json.dumps(list(commands)), year)
+    register, answers = made(json.dumps(list(commands)), year, is_large)
     for it in register.parent.iterdir():
         shutil.copy(it, path.with_name(it.name.replace(register.name, path.name)))
     return [dict(it) for it in answers]
 
 
 @functools.cache
-def made(commands: str, year: str) -> tuple[pathlib.Path, list[Command]]:
+def made(commands: str, year: str, is_large: bool) -> tuple[pathlib.Path, list[Command]]:
     """Such a register, which is made once for all tests of this process and copied for each."""
     path = pathlib.Path(tempfile.mkdtemp(dir=KEPT.name), "reg.db")
-    subprocess.run([PROGRAM, "init", path, "secondary", year], check=True)
+    size = ["--large"] * is_large
+    subprocess.run([PROGRAM, "init", path, "secondary", year, *size], check=True)
     return path, do(path, json.loads(commands))
 
 

@@ -33,7 +33,8 @@ VALUES: dict[str, tuple[Made, str]] = {
     "within": (lambda it: school("X", criteria=[f"within:{it}"]), "OutOfRange"),
 }
 # the others, each of which has a test of its own below
-OTHERS = {"body", "children", "draws", "holidays", "lots", "number", "rows", "schools", "year"}
+OTHERS = {"body", "catchments", "children", "draws", "holidays", "lots", "number", "rows",
+          "schools", "year"}
 
 
 def answer(path: Path, command: Any) -> Any:
@@ -64,6 +65,20 @@ def test_the_program_keeps_a_limit(tmp_path: Path, name: str) -> None:
         assert bool(commands.wrong_field(command)) == (found.get("name") == "WrongKind")
         if found.get("name") != "WrongKind":
             assert bool(commands.outside(command)) == (found.get("name") == "OutOfRange")
+
+
+def test_catchment_schools_of_both_sizes(tmp_path: Path) -> None:
+    """A large register takes as many as its limit says, and their criterion; another one none."""
+    most = rules.LARGE["catchments"].most
+    for is_large, there in ((True, most), (False, LIMITS["catchments"].most)):
+        (tmp_path / "reg.db").unlink(missing_ok=True)
+        make(tmp_path / "reg.db", TOWN, is_large=is_large)
+        more = child(2, catchments=NAMES[:there + 1])
+        assert answer(tmp_path / "reg.db", more)["name"] == "OutOfRange"
+        assert answer(tmp_path / "reg.db", child(2, catchments=NAMES[:there])) == {"done": True}
+        came = answer(tmp_path / "reg.db", school("X", criteria=["catchment"]))
+        assert came == {"done": True} if is_large else came["name"] == "OutOfRange"
+    assert commands.outside(child(2, catchments=NAMES[:most + 1]))
 
 
 def test_the_program_keeps_the_limit_of_flags_in_criteria_too(tmp_path: Path) -> None:
@@ -194,7 +209,8 @@ def test_each_kind_and_each_column_has_a_reader() -> None:
     kinds = {it.kind.removeprefix(rules.LIST) for listed in rules.COMMANDS.values()
              for it in listed.values()}
     assert kinds == commands.KINDS.keys()
-    assert list(fields.COLUMNS)[: len(fields.READERS)] == list(fields.READERS) == HEADER.split(",")
+    of_all = [*HEADER.split(","), "catchments"]
+    assert list(fields.COLUMNS)[: len(fields.READERS)] == list(fields.READERS) == of_all
     assert all(map(fields.reader_of, rules.COLUMNS.values()))
     assert {it.value for it in rules.CRITERIA if it.value} == commands.VALUES.keys()
 
