@@ -274,7 +274,7 @@ def test_the_package_of_pdf_depends_on_the_large_ones() -> None:
     """And on the font of letters."""
     found = dependencies("admissions-pdf")
     assert found == {"admissions", "fonts-dejavu-core", "python3-pikepdf", "python3-pyproj",
-                     "weasyprint"}
+                     "python3-shapely", "weasyprint"}
 
 
 NAMES = ("admissions", "admissions-pdf")

@@ -1,6 +1,7 @@
 """The libraries beside Python's own modules: the Debian package of each, and what is said where one
-is missing. Those that make PDF, and place latitudes and longitudes, bring many packages:
-the package admissions-pdf depends on them, and they are imported only where they are used."""
+is missing. Those that make PDF, place latitudes and longitudes, and read catchment areas bring many
+packages: the package admissions-pdf depends on them, and they are imported only where they are
+used."""
 import importlib
 import sys
 from types import ModuleType
@@ -20,6 +21,7 @@ PACKAGES = {
     "pyproj": "python3-pyproj",
     # (authlib imports it, as its client of HTTP)
     "requests": "python3-requests",
+    "shapely": "python3-shapely",
     "weasyprint": "weasyprint",
     "werkzeug": "python3-werkzeug",
 }
@@ -27,6 +29,7 @@ PACKAGES = {
 LARGE = {
     "pikepdf": "a PDF needs",
     "pyproj": "latitudes and longitudes need",
+    "shapely": "catchment areas need",
     "weasyprint": "a PDF needs",
 }
 PDF = "admissions-pdf"

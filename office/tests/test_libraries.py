@@ -1,5 +1,6 @@
 """What a machine without the large libraries does: all modules load, and whoever asks for a PDF or
 a point by latitude and longitude reads which package is missing."""
+import json
 import pathlib
 import subprocess
 import sys
@@ -12,6 +13,7 @@ from register_files import Refused
 from office.core import run
 from office.files import processes as apart
 from office.web.applications import points
+from office.web.areas import reading
 from office.web.explain import pdf_apart
 from office.web.letters import apart as letters_apart
 from office.web.letters.apart import Form, Source
@@ -62,6 +64,7 @@ def test_excel_files_need_no_numpy(tmp_path: pathlib.Path) -> None:
     ("weasyprint", f"a PDF needs the Debian package weasyprint, {HOW}"),
     ("pikepdf.models", f"a PDF needs the Debian package python3-pikepdf, {HOW}"),
     ("pyproj", f"latitudes and longitudes need the Debian package python3-pyproj, {HOW}"),
+    ("shapely.geometry", f"catchment areas need the Debian package python3-shapely, {HOW}"),
     ("jinja2", "this needs the Debian package python3-jinja2"),
     ("other", "this needs the Debian package of other"),
 ])
@@ -94,6 +97,19 @@ def test_letters(monkeypatch: pytest.MonkeyPatch, tmp_path: pathlib.Path) -> Non
                        f" package weasyprint, {HOW}$"):
         letters_apart.again(Source("letter", "", {}), ["<p>text"], Form(), str(path))
     assert not path.exists()
+
+
+def test_catchment_areas(monkeypatch: pytest.MonkeyPatch) -> None:
+    """Their file is refused, in a process of its own."""
+    hidden = f"import sys; sys.modules['shapely'] = None; {apart.BEGIN}"
+    monkeypatch.setattr(apart, "BEGIN", hidden)
+    ring = [[-1, 52], [-1.1, 52], [-1, 52.1], [-1, 52]]
+    given = {"type": "FeatureCollection", "features": [{
+        "type": "Feature", "properties": {"school": "OAK"},
+        "geometry": {"type": "Polygon", "coordinates": [ring]}}]}
+    said = "^tell IT support: catchment areas need the Debian package"
+    with pytest.raises(Refused, match=f"{said} python3-shapely, {HOW}$"):
+        reading.read("town.geojson", json.dumps(given).encode())
 
 
 def test_points(hide: Callable[[str], None]) -> None:

@@ -26,7 +26,7 @@ READS, RECORDS = {HEAD, OFFICER, READER}, {HEAD, OFFICER}
 ALL: set[str] = set(ROLES)
 # who may see the pages of a screen, and who may send what it sends
 SCREENS: dict[str, tuple[set[str], set[str]]] = {
-    "activity": (RECORDS, set()), "answers": (RECORDS, RECORDS),
+    "activity": (RECORDS, set()), "answers": (RECORDS, RECORDS), "areas": (READS, RECORDS),
     "answers_of": (RECORDS, RECORDS), "applications": (RECORDS, RECORDS),
     "applications_add": (RECORDS, RECORDS), "applications_commit": (RECORDS, RECORDS),
     "applications_files": (RECORDS, RECORDS),

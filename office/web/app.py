@@ -14,6 +14,7 @@ from office.core import texts, wording
 
 from .answers.views import answers, notices
 from .answers.views import handovers as answers_of
+from .areas import views as areas
 from .applications.views import gazetteer, points
 from .applications.views import add as applications_add
 from .applications.views import commit as applications_commit
@@ -48,7 +49,7 @@ from .trials import views as trials
 
 HERE = pathlib.Path(__file__).resolve().parent
 SCREENS = (
-    signing, season, find, new_schools, schools, flag_screen, applications, applications_add,
+    signing, season, find, new_schools, areas, schools, flag_screen, applications, applications_add,
     applications_files, applications_commit, points, gazetteer, child, preferences, why, notes,
     subject, answers, notices, letters, letter_templates, letter_sender, letter_addresses, draws,
     trials, lots, lists, figures, copies, restores, people, activity, season_end, register, help,

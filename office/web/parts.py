@@ -7,6 +7,7 @@ from office.core import senders
 
 from .answers.notices import Notices
 from .answers.piles import Piles
+from .areas.areas import Areas
 from .children.notes import Notes
 from .copies.copies import Copies
 from .copies.restores import Restores, Restoring
@@ -63,6 +64,7 @@ class Parts:
         self.store = Store(str(config.folder / "office.db"))
         self.people = People(self.store)
         self.asked = Asked()
+        self.areas = Areas(self.store, self.history)
         self.notes = Notes(self.store, self.history)
         self.jobs = Jobs()
         self.trials = Trials(self.jobs)

@@ -151,4 +151,7 @@ def differing(row: Person, register: Register) -> list[tuple[str, str]]:
     had = child_fields.cells_of(register.children[number], register.applications.get(number))
     has = fields.OMITTED | row.fields
     has["flags"] = ";".join(sorted(set(has["flags"].split(";")), key=lambda it: int(it or 0)))
+    # (which have no order)
+    if set(has["catchments"].split(";")) == set(had["catchments"].split(";")):
+        has["catchments"] = had["catchments"]
     return [(column, value) for column, value in had.items() if has[column] != value]

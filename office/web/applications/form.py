@@ -7,7 +7,8 @@ from office.web.register.history import now
 from .rows import OPEN, Staged, whole
 
 # the fields of the form in the order in which they are typed, before the preferences
-TYPED = ("name", "east", "north", "looked_after", "flags", "siblings", "present", "day")
+TYPED = ("name", "east", "north", "looked_after", "flags", "siblings", "present", "catchments",
+         "day")
 PREFERENCES = [f"preference-{it}" for it in range(1, LIMITS["preferences"].most + 1)]
 
 

@@ -5,11 +5,11 @@ import dataclasses
 import re
 from collections.abc import Iterator, Mapping, Sequence
 
-from office.core import days, fields, texts
+from office.core import days, fields, rules, texts
 from office.core.fields import Likely
 
 from . import sent
-from .row_check import ERROR, FIXED, LOOK, Finding
+from .row_check import ERROR, FIXED, LOOK, SOURCE, Finding
 from .rows import REMARK, WITHDRAWN, Staged
 from .sent import Refusal
 from .table_check import Table, said
@@ -32,7 +32,7 @@ TITLES = {
 SHOWN = (("Number", ("child",)), ("Applied", ("day",)), ("Home", ("east", "north")),
          ("Preferences", ("preferences",)))
 FACTS = "Facts"
-CLASSES = {ERROR: "error", LOOK: "hint now", FIXED: "hint"}
+CLASSES = {ERROR: "error", LOOK: "hint now", FIXED: "hint", SOURCE: "hint"}
 # the columns whose items may be on lines of their own
 LISTS = ("flags", "siblings", "preferences", "catchments")
 
@@ -172,17 +172,21 @@ def cells_of(row: Staged, table: Table | None, shared: Mapping[tuple[object, ...
     checked = table.rows.get(row.id) if table else None
     read = checked.row.fields if checked and checked.is_read else {}
     words = table.words if table else {}
+    is_large = table is None or table.register is None or table.register.is_large
     for column, stored in shown_of(row).items():
+        if not (stored.strip() or rules.has(column, is_large)):
+            continue
         here = [it for it in findings if it.column == column and not (
             it.kind == FIXED and it.change in shared)]
         wrong = [it for it in here if it.kind == ERROR]
-        is_field = is_open or row.state != WITHDRAWN and bool(wrong)
+        likely = tuple(like for it in here for like in it.likely)
+        is_field = is_open or row.state != WITHDRAWN and bool(wrong or likely)
         text = text_of(column, read[column], words) if read.get(column) else stored
         if not checked and fields.TRUTH.get(stored.strip().lower()) == "no":
             text = ""
         cell = Cell(column, title_of(column), size_of(column), stored, text,
                     [(CLASSES[it.kind], told) for it in here if (told := said_of(it, is_field))],
-                    tuple(like for it in wrong for like in it.likely), is_field, bool(wrong))
+                    likely, is_field, bool(wrong))
         yield refused_cell(cell, refused) if refused else cell
 
 
@@ -227,8 +231,8 @@ def line_of(row: Staged, table: Table | None, shared: Mapping[tuple[object, ...]
     if row.state == WITHDRAWN:
         seen[REMARK] = row.remark
     typed = refused.typed.cells.get(REMARK, row.remark) if refused else row.remark
-    return Line(row, cells["name"], [(title, [cells[it] for it in of]) for title, of in groups()],
-                whole, sent.packed(row.version, seen), typed)
+    made = [(title, [cells[it] for it in of if it in cells]) for title, of in groups()]
+    return Line(row, cells["name"], made, whole, sent.packed(row.version, seen), typed)
 
 
 def is_in(row: int, table: Table, which: str) -> bool:

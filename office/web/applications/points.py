@@ -252,6 +252,14 @@ def grid_of(latitudes: Sequence[float], longitudes: Sequence[float]) -> list[Met
     """The points of latitudes and longitudes (WGS84 or ETRS89) on the British National Grid, within
     DEGREES_METRES; None of what is not in Great Britain.
     """
+    return [whole(*at) if is_degrees(*given) else None
+            for at, given in zip(on_grid(latitudes, longitudes), zip(latitudes, longitudes))]
+
+
+def on_grid(
+    latitudes: Sequence[float], longitudes: Sequence[float],
+) -> list[tuple[float, float]]:
+    """The same with fractions of metres, of what is in Great Britain."""
     try:
         import pyproj
         import pyproj.network
@@ -261,5 +269,4 @@ def grid_of(latitudes: Sequence[float], longitudes: Sequence[float]) -> list[Met
     pyproj.network.set_network_enabled(False)
     made = pyproj.Transformer.from_pipeline(PIPELINE)
     easts, norths = made.transform(longitudes, latitudes)
-    return [whole(east, north) if is_degrees(*given) else None
-            for east, north, given in zip(easts, norths, zip(latitudes, longitudes))]
+    return list(zip(easts, norths))

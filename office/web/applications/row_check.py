@@ -11,7 +11,7 @@ from office.files import header, sheet
 
 from . import across
 
-ERROR, FIXED, LOOK = "error", "fixed", "look at"
+ERROR, FIXED, LOOK, SOURCE = "error", "fixed", "look at", "source"
 # a row is a total where it begins with one of these, and has neither a day nor preferences
 TOTALS = ("total", "totals", "grand total", "subtotal", "sum", "count")
 # adds a finding: row, column, value, text, kind, what is written instead
@@ -22,7 +22,7 @@ Add = Callable[..., None]
 class Finding:
     """Something in the file: where, the value, what is wrong or what it may be, and for FIXED what
     is written instead. Of an error the kind of fault, the item that has it, and what is likely to
-    be meant.
+    be meant. SOURCE says where the value came from of a cell in which nothing is written.
     """
 
     row: int

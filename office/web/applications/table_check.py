@@ -8,13 +8,14 @@ import threading
 from collections.abc import Callable, Iterable, Iterator, Mapping, Sequence
 from typing import Any
 
-from office.core import fields, texts
+from office.core import fields, rules, texts
 from office.core.model import PLAN, Register, School
 from office.core.wording import sentence
+from office.web.areas.map import Map
 
 from . import across, points, row_check
 from .points import GAZETTEER, POSTCODE, Point
-from .row_check import ERROR, FIXED, LOOK, Context, Finding
+from .row_check import ERROR, FIXED, LOOK, SOURCE, Context, Finding
 from .rows import Staged
 
 SAME_NUMBER, ALIKE = "the same number", "a similar name at the same home, or nearby"
@@ -23,6 +24,8 @@ LOST = re.compile(r"\w\?|\?\w")
 IS_LOST = "was a letter lost at the question mark?"
 Differences = list[tuple[str, str]]
 Words = Mapping[int, str]
+# the areas of the schools of a register, if any are in use
+OfAreas = Callable[[Mapping[str, School]], Map | None]
 
 
 @dataclasses.dataclass(frozen=True)
@@ -53,13 +56,15 @@ class Pair:
 
 
 class Checker:
-    """What is known of rows that were checked before, beside the same schools, season and words of
-    flags.
+    """What is known of rows that were checked before, beside the same schools, season, words of
+    flags and catchment areas.
     """
 
-    def __init__(self, words: Callable[[], Words] = dict) -> None:
-        self.lock, self.words = threading.Lock(), words
-        self.beside: tuple[dict[str, School] | None, object, Words] | None = None
+    def __init__(
+        self, words: Callable[[], Words] = dict, areas: OfAreas = lambda _: None,
+    ) -> None:
+        self.lock, self.words, self.areas = threading.Lock(), words, areas
+        self.beside: tuple[dict[str, School] | None, object, Words, Map | None] | None = None
         self.known: dict[int, Checked] = {}
         # the last table, of which children of a register and which versions of rows
         self.last: tuple[object, list[tuple[int, int]], Table] | None = None
@@ -70,26 +75,29 @@ class Checker:
         new or were changed are read, and a table that is as it was is not made again.
         """
         words, members = self.words(), register.children if register else None
+        areas = self.areas(register.schools) if register and register.is_large else None
         versions = [(it.id, it.version) for it in rows]
         beside = (register.schools if register else None, register.days if register else None,
-                  words)
+                  words, areas)
         with self.lock:
             last = self.last if beside == self.beside and typed is None else None
             if last and last[0] is members and last[1] == versions:
                 return last[2]
             old = self.known if beside == self.beside else {}
             found = [known if (known := old.get(it.id)) and known.staged.version == it.version
-                     else checked(it, register, words) for it in rows]
+                     else checked(it, register, words, areas) for it in rows]
             self.beside, self.known = beside, {it.staged.id: it for it in found}
-        more = [checked(typed, register, words)] if typed else []
-        made = Table([*found, *more], register, words)
+        more = [checked(typed, register, words, areas)] if typed else []
+        made = Table([*found, *more], register, words, areas)
         if typed is None:
             with self.lock:
                 self.last = (members, versions, made) if beside == self.beside else None
         return made
 
 
-def checked(it: Staged, register: Register | None, words: Words) -> Checked:
+def checked(
+    it: Staged, register: Register | None, words: Words, areas: Map | None = None,
+) -> Checked:
     """A row with what is found in it."""
     findings = [Finding(it.id, note.column, it.cells.get(note.column, ""), note.text, note.kind,
                         fault=note.fault) for note in it.notes]
@@ -106,6 +114,8 @@ def checked(it: Staged, register: Register | None, words: Words) -> Checked:
     context = Context(register.schools if register else {}, it.is_uk, words, is_large)
     for column in fields.COLUMNS:
         row_check.read_field(row, column, it.cells[column], context, add, column in broken)
+    if areas:
+        see_areas(row, areas, add)
     if LOST.search(it.cells["name"]):
         add(it.id, "name", it.cells["name"], IS_LOST, LOOK)
     for said_of in of_point(it.point, it.cells):
@@ -116,6 +126,28 @@ def checked(it: Staged, register: Register | None, words: Words) -> Checked:
         row_check.see_days([row], register, add)
         row_check.see_homes([row], register, add)
     return Checked(it, row, tuple(findings), True)
+
+
+def see_areas(row: row_check.Row, areas: Map, add: row_check.Add) -> None:
+    """Gives a row in which no catchment school is written those in whose areas its home is; others
+    than these are asked about.
+    """
+    given, home, most = row.given["catchments"], row.home, rules.LARGE["catchments"].most
+    if home is None:
+        return
+    codes = areas.schools_at(home)
+    if len(codes) > most:
+        add(row.number, "catchments", given, f"{len(codes)} areas have the home: at most {most}",
+            fault="areas")
+    elif not given.strip():
+        row.fields["catchments"] = ";".join(codes)
+        add(row.number, "catchments", given,
+            areas.source if codes else f"in no area of {areas.name}", SOURCE)
+    elif read := row.fields["catchments"]:
+        if set(read.split(";")) != set(codes):
+            said = ", ".join(codes) or "none"
+            add(row.number, "catchments", given, f"the areas say {said}", LOOK,
+                likely=(fields.Likely(f"Take {said}", ""),))
 
 
 def of_point(point: Point, cells: Mapping[str, str]) -> Iterator[str]:
@@ -146,9 +178,10 @@ def of_flags(text: str, register: Register | None, words: Words) -> Iterator[str
 class Table:
     """Rows that were checked, also beside each other and beside the register."""
 
-    def __init__(self, rows: Iterable[Checked], register: Register | None, words: Words) -> None:
+    def __init__(self, rows: Iterable[Checked], register: Register | None, words: Words,
+                 areas: Map | None = None) -> None:
         self.rows = {it.staged.id: it for it in rows}
-        self.register, self.words = register, words
+        self.register, self.words, self.areas = register, words, areas
         self.findings = {at: list(it.findings) for at, it in self.rows.items()}
         # the rows with a finding of each kind: a page asks for them often
         self.having: dict[str, set[int]] = {
@@ -171,8 +204,8 @@ class Table:
 
     def beside(self, rows: Iterable[Staged]) -> "Table":
         """These rows, and after them others that are not in the table."""
-        return Table([*self.rows.values(), *(checked(it, self.register, self.words)
-                                             for it in rows)], self.register, self.words)
+        more = [checked(it, self.register, self.words, self.areas) for it in rows]
+        return Table([*self.rows.values(), *more], self.register, self.words, self.areas)
 
     def add(self, row: int, column: str, value: str, text: str, kind: str = ERROR,
             written: str | None = None, fault: str = "") -> None:

@@ -35,7 +35,7 @@ def begin(state: Any) -> None:
     """Makes them with an application."""
     found = state.app.extensions["office"]
     staging = Staging(found.store, found.history)
-    checker = Checker(lambda: flags.words_of(found.store))
+    checker = Checker(lambda: flags.words_of(found.store), found.areas.map)
     imports = Imports(staging, found.desk, found.jobs)
     committing = Committing(staging, checker, imports, found.copies.make)
     gazetteer = Gazetteer(found.config.folder / "gazetteer", found.store, found.history)

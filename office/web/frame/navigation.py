@@ -20,7 +20,8 @@ from . import topics
 @dataclasses.dataclass(frozen=True)
 class Screen:
     """A screen of the menu: its view with what is in its address, its title, the right, and the
-    parts of the application whose other pages are below it.
+    parts of the application whose other pages are below it; and whether a large register alone has
+    it.
     """
 
     view: str
@@ -28,6 +29,7 @@ class Screen:
     right: str
     below: tuple[str, ...] = ()
     values: tuple[tuple[str, str], ...] = ()
+    is_of_large: bool = False
 
     @property
     def href(self) -> str:
@@ -59,6 +61,7 @@ GROUPS: dict[str, tuple[Screen, ...]] = {
     "Schools": (
         Screen("schools.show", "Schools", READ, ("schools",)),
         Screen("flags.show", "Verified reasons", READ, ("flags",)),
+        Screen("areas.show", "Catchment areas", READ, ("areas",), is_of_large=True),
         Screen("new_schools.show", "Add schools", RECORD, ("new_schools",))),
     "Offers": (
         Screen("draws.show", "Rounds", READ, ("draws",)),
@@ -98,8 +101,11 @@ class Menu:
 
 def menu(person: Person) -> Menu:
     """The menu of a person at the page that is asked for."""
+    is_large = guard.parts().desk.is_large
     own = {group: [it for it in screens if it.right == guard.SIGNED_IN or person.may(it.right)]
            for group, screens in GROUPS.items()}
+    own = {group: [it for it in screens if is_large or not it.is_of_large]
+           for group, screens in own.items()}
     if person.school:
         own["Schools"] = [Screen("schools.one", "Your school", LISTS, ("schools",),
                                  (("code", person.school),))]

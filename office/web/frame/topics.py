@@ -32,6 +32,7 @@ OF_SCREENS = {
     "schools.do_raise": "raise-the-admission-number",
     "schools.offer": "offer-places-from-the-waiting-list",
     "new_schools": "add-schools", "flags": "verified-reasons",
+    "areas": "catchment-areas",
     "draws": "run-a-round", "draws.cancel": "cancel-or-undo-a-draw", "lots": "lots",
     "answers": "answers", "answers_of": "answers", "notices": "reminders-and-withdrawals",
     "letters": "letters",

@@ -21,6 +21,8 @@ DAY = datetime.timedelta(days=1)
 SIDE, LEAST = 500, 5
 # so far a map reaches beyond its schools, in metres
 BEYOND = 1500
+# points of an outline are so far apart at least, in units of the picture
+NEAR = 0.7
 
 
 def bar(value: float, of: float, kind: str, *more: tuple[float, str]) -> Markup:
@@ -105,6 +107,38 @@ def ring(ground: Ground, it: Places) -> str:
         f"<title>{escape(it.code)}: {it.taken} of {it.places} places are taken</title></circle>"
         f'{label(x, y + 5, str(it.vacant), "many", "middle")}'
         f'{label(x, y + r + 20, it.code, "halo name", "middle")}')
+
+
+def area_map(
+    name: str, title: str, text: str, areas: Sequence[tuple[str, Iterable[Sequence[int]]]],
+    schools: Sequence[tuple[str, int, int]],
+) -> Markup:
+    """Areas with the code of the school of each, as rings of whole centimetres, and schools."""
+    made = [(code, [[it / 100 for it in ring] for ring in rings]) for code, rings in areas]
+    easts = [float(it[1]) for it in schools]
+    norths = [float(it[2]) for it in schools]
+    for ring in (ring for _, rings in made for ring in rings):
+        easts += ring[::2]
+        norths += ring[1::2]
+    ground = Ground(min(easts) - BEYOND, min(norths) - BEYOND,
+                    max(easts) + BEYOND, max(norths) + BEYOND, 720)
+    parts = [ground.grid()]
+    for code, rings in made:
+        drawn = "".join(outline(ground, ring) for ring in rings)
+        parts.append(f'<path class="area" d="{drawn}"><title>{escape(code)}</title></path>')
+    parts += [school(ground, Way(code, east, north, ""), True) for code, east, north in schools]
+    parts.append(ground.scale_bar((east, north) for _, east, north in schools))
+    return svg(name, ground.width, ground.height, title, text, parts, "map")
+
+
+def outline(ground: Ground, ring: Sequence[float]) -> str:
+    """A ring of metres, without the points that are hardly apart in the picture."""
+    found: list[tuple[float, float]] = []
+    for at in zip(ring[:-2:2], ring[1:-2:2]):
+        x, y = ground.at(*at)
+        if not found or math.hypot(x - found[-1][0], y - found[-1][1]) >= NEAR:
+            found.append((x, y))
+    return f"M{'L'.join(f'{x:.1f} {y:.1f}' for x, y in found)}Z"
 
 
 def columns(

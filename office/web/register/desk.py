@@ -174,6 +174,11 @@ class Desk:
         self.closed: Callable[[], str] = str
         self.ended: Callable[[], str] = str
 
+    @property
+    def is_large(self) -> bool:
+        """Whether the register is large, if it was read: that never changes."""
+        return self.copy is not None and self.copy.register.is_large
+
     def register(self) -> Register:
         """The register as it is with all that was sent through here."""
         return self.present()

@@ -52,6 +52,8 @@ TABLES = {
     # applications
     "staged_file": Table(OF_NOBODY),
     "staged_row": Table(BY_ITSELF, "rows of files of applications"),
+    # (which names schools, and nobody)
+    "area_file": Table(OF_NOBODY, "files of catchment areas"),
     # draws and restores
     "draw": Table(IN_LINES, lines=("rehearsal", "audit", "trouble")),
     "draw_step": Table(IN_LINES, lines=("said",)),
@@ -338,5 +340,12 @@ STEPS = (
         THEN 'round ' || (1 + (SELECT count(*) FROM draw AS other WHERE other.school IS NULL
             AND other.first<draw.first AND other.state IN ('audited', 'opened')))
         ELSE 'the offer of ' || fills || iif(fills=1, ' place', ' places') || ' at ' || school END;
+    """,
+    # files of catchment areas, with their features as JSON: the one in use, and one that waits
+    """
+    CREATE TABLE area_file (
+        number INTEGER PRIMARY KEY AUTOINCREMENT, name TEXT NOT NULL, digest TEXT NOT NULL,
+        who TEXT NOT NULL, added TEXT NOT NULL, named_by TEXT NOT NULL, features TEXT NOT NULL,
+        used_by TEXT NOT NULL DEFAULT '', used TEXT NOT NULL DEFAULT '') STRICT;
     """,
 )

@@ -5,7 +5,7 @@ from werkzeug.wrappers import Response
 
 from office.core.model import Register
 from office.core.rules import LIMITS
-from office.web.people.guard import needs, person
+from office.web.people.guard import needs, parts, person
 from office.web.people.roles import RECORD
 
 from .. import row_points
@@ -49,10 +49,13 @@ def page(cells: dict[str, str] | None, text: str = "", table: Table | None = Non
     typed = cells or staging_form.cells_of({"child": str(free or "")})
     row = staging_form.typed_row(typed, person().name)
     found = {it.column: it for it in staging_page.cells_of(row, table, {}, True)}
+    is_large = register is not None and register.is_large
+    areas = parts().areas.map(register.schools) if register and is_large else None
     body = flask.render_template(
         "applications_add.html", cells=found, said=text, is_bad=table is not None, reason=reason,
         preferences=list(zip(staging_form.PREFERENCES, staging_form.preferences_of(typed))),
         proposed=free or "", most_flag=LIMITS["flag"].most, keys=keys, point=point,
+        is_large=is_large, areas=areas.source if areas else "",
         wrong=next((it.column for it in found.values() if it.is_wrong), "name"),
         errors=[(f"#{staging_form.first_field(it.column)}", f"{it.title}: {text}")
                 for it in found.values() for style, text in it.found if style == "error"],
