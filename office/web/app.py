@@ -136,8 +136,10 @@ class FileName(werkzeug.routing.BaseConverter):
 
 def visible(text: str) -> str:
     """A text of a template with what cannot be seen escaped; one of markup stays one."""
-    found = texts.visible(text)
-    return markupsafe.Markup(found) if isinstance(text, markupsafe.Markup) else found
+    found: str = texts.visible(text)
+    if isinstance(text, markupsafe.Markup):
+        found = markupsafe.Markup(found)
+    return found
 
 
 def shared() -> dict[str, Any]:

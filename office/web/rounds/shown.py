@@ -63,7 +63,8 @@ KNOWN_LATER, OF_LATER = ("pan", "plans", "vacancies", "waiting"), ("moves", "kep
 def address(draw: Draw, **given: str | None) -> str:
     """The address of the rows of the children, with what was chosen before."""
     # (what is in the address is text: no name of it means anything to what makes addresses)
-    kept = {name: text for name, text in flask.request.args.items() if name != "page"}
+    kept: dict[str, str | None] = {
+        name: text for name, text in flask.request.args.items() if name != "page"}
     asked = {name: text for name, text in {**kept, **given}.items() if text is not None}
     query = f"?{urllib.parse.urlencode(asked)}" if asked else ""
     return f"{flask.url_for('draws.one', number=draw.number)}{query}#children"
