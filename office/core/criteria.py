@@ -4,7 +4,7 @@ from typing import Protocol
 
 
 # of a child who meets none of a school's criteria, and at a school that has none
-UNMET, ALONE = "no criterion, by distance", "ranked by distance alone"
+UNMET, ALONE = "by distance (no criterion met)", "ranked by distance alone"
 
 
 class School(Protocol):

@@ -147,9 +147,9 @@ def test_a_school_shows_what_the_register_has(office: Site, rita: Browser) -> No
     here = next(it for it in found["schools"] if it["school"] == "OAK")
     text = rita.get("/schools/OAK").text
     assert {words: number for words, (number, _) in figures(text).items()
-            if words != "Last offered"} == {
+            if words != "Last place offered"} == {
         "Admission number": here["pan"], "Places held": here["taken"],
-        "Vacant": here["vacancies"], "Waiting": here["waiting"]}
+        "Vacant places": here["vacancies"], "Children who wait": here["waiting"]}
     state = {}
     for row in found["children"]:
         wish, place = wish_of(row, "OAK"), row["place"]

@@ -214,9 +214,9 @@ def test_each_action_is_asked_by_name(
 
 def test_two_names_that_are_alike_are_told_apart(tmp_path: pathlib.Path, office: Site) -> None:
     """Of a school without criteria, and of one whose criteria the child does not meet."""
-    said = "‘no criterion, by distance’ is at a school whose criteria the child does not meet"
+    said = "‘by distance (no criterion met)’ is at a school whose criteria the child does not meet"
     page = Page(office.browser("rita", "reader").get("/children/3").text)
-    assert said not in page.text and "a correction since then counts" in page.text
+    assert said not in page.text and "with the details of today" in page.text
     assert "the school of the child’s place" in page.text
     (tmp_path / "two").mkdir()
     commands = [school("A", pan=1, criteria=["sibling"]), school("B", pan=1), child(1, "Ada", 100),
@@ -225,7 +225,7 @@ def test_two_names_that_are_alike_are_told_apart(tmp_path: pathlib.Path, office:
     with office_over(tmp_path / "two", commands) as other:
         page = Page(other.browser("rita", "reader").get("/children/1").text)
         assert [it[2] for it in page.tables["list"][1:]] == [
-            "no criterion, by distance 100 metres", "ranked by distance alone 100 metres"]
+            "by distance (no criterion met) 100 metres", "ranked by distance alone 100 metres"]
         assert said in page.text
 
 

@@ -171,7 +171,7 @@ def test_children_to_look_at_are_found_by_group(town: Machine) -> None:
         none = shown.children("what=none")
         assert none and all(it[2] == "none" and "Why not " in it[4] for it in none)
         # (what other pages show is of before it, and they say so)
-        said = "Until it is run, all pages but its own show the register from before it."
+        said = "Until it is run, the other pages show the register as it was before."
         assert said in shown.jane.get("/children/1").text
         assert said in shown.jane.get("/schools/ASH").text
         office.parts.draws.confirm(roles.Person("jane", "officer"), number,

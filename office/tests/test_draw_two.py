@@ -597,8 +597,8 @@ def test_the_second_person_reads_all_of_it_before_the_button(small: Machine) -> 
             "The independent audit, a second program, works out the same outcome",
             "Round 1 was cancelled before, after lots were entered.",
             "No school offers more places than it has.",
-            "2 changes since the applications were added to the register can move a criterion, a"
-            " distance or a limit. 1 of them was made by you.",
+            "2 changes since the applications were added to the register can alter who gets a"
+            " place. 1 of them was made by you.",
             "Round 1, cancelled Begun on ", "cancelled after the lots were sealed",
             "by hal and jane",
             "admission number of ELM raised to 10 you", "entered an EHC plan that names OAK pat",

@@ -170,8 +170,9 @@ def test_a_round_by_five_hands(machine: Machine, town: Town) -> None:
         assert (found.status_code, found.location) == (303, "/draws/1")
         page = hal.browser.get("/draws/1").text
         assert "Monday 3 March 2025." in page and "Is this right?" not in page
-        assert "from then on until the register is open again. All can still read" in page
-        assert f"{len(lots)} lots, of 40 children at 4 schools." in page
+        assert "from then on until recording resumes. All can still read" in page
+        assert f"{len(lots)} lots are drawn: one for each of 40 children at each school" in page
+        assert "of its list." in page
         page = sup.get("/lots/")
         assert page.status_code == 200 and "Round 1" not in page.text
         assert tasks(sup.get("/").text)["Not yet"][0][2] == "Soon"
@@ -362,7 +363,7 @@ def test_a_draw_is_not_said_to_be_missing_while_the_register_is_away(small: Mach
         waiting(office, number)
         hal = office.browser("hal", "head")
         page = hal.get(f"/draws/{number}").text
-        assert "closed, and run; not audited yet" in page
+        assert "paused, and run; not audited yet" in page
         assert "Next: audit round 1" in page and "Audit round 1</button>" in page
         small.stop()
         # (what was read within a minute is shown as it was)
@@ -1119,7 +1120,8 @@ def test_the_checks_have_all_that_a_file_is_asked(small: Machine) -> None:
             ("School", False): "OAK OAK School has 3 vacancies, and 4 children on its waiting"
                                " list.",
             ("School", True): "There are fewer vacancies than 4.",
-            ("Lots", False): "4 lots for each place, of 4 children at 1 school.",
+            ("Lots", False): "4 lots are drawn for each place: one for each child on the waiting"
+                             " list.",
             ("Offers", False): "5 offers have no answer yet; of these none had a reminder.",
         }
 
@@ -1138,7 +1140,7 @@ def test_a_holiday_and_late_applications_are_named(small: Machine) -> None:
                 ["The national offer day, 3 March 2025, is a holiday of this season."]
                 if is_risk else [])
             assert [it.said for it in found if it.title in ("Late", "Lots")] == [
-                "10 lots, of 5 children at 2 schools.",
+                "10 lots are drawn: one for each of 5 children at each school of its list.",
                 "1 late application takes no part in this round."]
 
 

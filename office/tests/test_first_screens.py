@@ -62,8 +62,8 @@ def test_the_head_of_a_school_sees_no_number_before_its_day(
     ann = office.browser("ann", "school-A")
     on(monkeypatch, "2025-02-20")
     text = ann.get("/").text
-    assert numbers(text) == {"Admission number": "2", "Places held": "0", "Vacant": "2",
-                             "Waiting": "0"}
+    assert numbers(text) == {"Admission number": "2", "Places held": "0", "Vacant places": "2",
+                             "Children who wait": "0"}
     assert tasks(text) == {"Not yet": [(
         "See who is offered a place", "The offer day of the first round is Monday, 3 March 2025.",
         "From 3 March 2025")]}
@@ -75,7 +75,8 @@ def test_the_head_of_a_school_sees_no_number_before_its_day(
     assert said == "The lists are shown again on 3 March 2025, the day of the offers."
     on(monkeypatch, "2025-03-03")
     assert numbers(ann.get("/").text) == {"Admission number": "2", "Places held": "2",
-                                          "Vacant": "0", "Waiting": "2"}
+                                          "Vacant places": "0",
+                                          "Children who wait": "2"}
     # (a school that is not in the register yet)
     text = office.browser("zoe", "school-ZZ").get("/").text
     assert "The register has no school ZZ yet." in text and numbers(text) == {}

@@ -252,7 +252,7 @@ def test_a_class_is_in_words_beside_its_number(tmp_path: pathlib.Path) -> None:
         assert found.heads[at + 1] == "Criterion met"
         words = [["1", "medical need"],
                  ["2", "with a brother or sister at the school"],
-                 ["3", "no criterion, by distance"]]
+                 ["3", "by distance (no criterion met)"]]
         assert [it[at:at + 2] for it in found.rows] == words
         text = browser.get("/lists/list/csv?words=medical").text.removeprefix("\ufeff")
         rows = list(csv.reader(io.StringIO(text)))

@@ -41,7 +41,7 @@ def test_a_waiting_list_shows_how_children_rank(now: dict[str, str]) -> None:
     """Who is or was looked after first, then each criterion in its order, and then the distance."""
     found = now["waiting-list"].partition("Waiting list:")[2]
     ranks = ("looked after", "with a brother or sister at the school", "child of a member of staff",
-             "living within 1,500 metres", "no criterion, by distance")
+             "living within 1,500 metres", "by distance (no criterion met)")
     places = [found.find(it) for it in ranks]
     assert -1 not in places and places == sorted(places), places
 

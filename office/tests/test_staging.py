@@ -147,13 +147,16 @@ def test_each_fault_is_found_and_corrected_at_its_cell(office: Site, screens: Sc
     assert seen.said(where[6], "siblings") == "There is no school ZZZ."
     assert seen.said(where[10], "child") == "Also in row 3 of autumn.xlsx."
     page = screens.see("commit/")
-    assert not any(it.startswith("Add ") for it in page.buttons) and "11 rows must" in page.text
+    assert not any(it.startswith("Add ") for it in page.buttons)
+    assert "11 rows with errors must" in page.text
     assert screens.store().status_code == 409 and not imports(office)
     for at, (place, _) in enumerate(FAULTS):
         found = screens.save(where[at], **{COLUMNS[place]: GOOD[at][place]})
         assert found.status_code == 303 and "#" not in found.location
         seen = Seen(screens.browser.get(found.location).text)
-        assert "nothing is wrong in it" in seen.texts["answer"]
+        # (the last row has the number of the second one)
+        left = "1 error left" if at == 1 else "nothing is wrong in it"
+        assert left in seen.texts["answer"]
         assert seen.focused() == [(where[it], places[it]) for it in range(at + 1, 11)][:1]
     assert not screens.see().wrong()
     page = screens.see("commit/")
@@ -779,7 +782,8 @@ def test_rows_that_the_register_has(office: Site, screens: Screens) -> None:
     text = " ".join(page.text.split())
     assert "row 3 of b.csv 102 East 999 1100" in text
     assert "row 4 of b.csv 103 Preferences ELM OAK" in text
-    assert "1 row with equal values" in text and "2 rows must be corrected or set aside" in text
+    assert "1 row with equal values" in text
+    assert "2 rows with errors must be corrected or set aside" in text
     assert screens.store().status_code == 409 and len(imports(office)) == 1
     screens.set_aside("Set 2 rows aside", "commit/")
     assert "Add 1 application" in screens.see("commit/").buttons

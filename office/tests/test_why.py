@@ -332,9 +332,9 @@ def test_the_sentences_of_a_family(tmp_path: Path) -> None:
         "4 children listed the school in this round, this child among them. 4 of them put it first."
         " 2 were admitted:",
         "- with a brother or sister at the school: 1",
-        "- no criterion, by distance: 1",
-        "The last child admitted: no criterion, by distance, 400 metres, lot 4.",
-        "This child: no criterion, by distance, 400 metres, lot 9.",
+        "- by distance (no criterion met): 1",
+        "The last child admitted: by distance (no criterion met), 400 metres, lot 4.",
+        "This child: by distance (no criterion met), 400 metres, lot 9.",
         (
             "Both rank equally by the criteria and live at the same distance, and the lot decided:"
             " the smaller one ranks first."
@@ -342,8 +342,8 @@ def test_the_sentences_of_a_family(tmp_path: Path) -> None:
     ]
     text = "\n".join(lines_of(found[5], is_office=True))
     assert text.endswith(
-        "The last child admitted: no criterion, by distance, 400 metres.\n"
-        "This child: no criterion, by distance, 800 metres.\n"
+        "The last child admitted: by distance (no criterion met), 400 metres.\n"
+        "This child: by distance (no criterion met), 800 metres.\n"
         "Both rank equally by the criteria, and the distance decided: the other child lives nearer"
         " to the school."
     )
@@ -357,8 +357,8 @@ def test_the_sentences_of_a_family(tmp_path: Path) -> None:
             "Some children listed the school in this round, your child among them. As many were"
             " admitted as places were left."
         ),
-        "The last child admitted: no criterion, by distance, 400 metres, lot 4.",
-        "Your child: no criterion, by distance, 400 metres, lot 9.",
+        "The last child admitted: by distance (no criterion met), 400 metres, lot 4.",
+        "Your child: by distance (no criterion met), 400 metres, lot 9.",
     ):
         assert it in lines, (it, lines)
     assert not any(it.startswith("- ") or "put it first" in it for it in lines), lines
@@ -667,9 +667,9 @@ def test_a_fill_is_explained(tmp_path: Path) -> None:
         "",
         "OAK School (OAK), first preference: no place.",
         "4 children waited for the vacancy, this child among them.",
-        "The child that was offered the place: no criterion, by distance, 200"
+        "The child that was offered the place: by distance (no criterion met), 200"
         " metres, lot 7.",
-        "This child: no criterion, by distance, 200 metres, lot 9.",
+        "This child: by distance (no criterion met), 200 metres, lot 9.",
         "A vacancy is offered to the one that ranks first of those who wait: by the criteria, then"
         " by the distance, and between equal distances by the lot.",
     ]
@@ -677,8 +677,8 @@ def test_a_fill_is_explained(tmp_path: Path) -> None:
     assert said(reg, 3, draw=2).splitlines()[6:] == [
         "OAK School (OAK), first preference: no place.",
         "Some children waited for the vacancy, your child among them.",
-        "The child that was offered the place: no criterion, by distance.",
-        "Your child: no criterion, by distance, 200 metres.",
+        "The child that was offered the place: by distance (no criterion met).",
+        "Your child: by distance (no criterion met), 200 metres.",
         "A vacancy is offered to the one that ranks first of those who wait: by the criteria, then"
         " by the distance, and between equal distances by the lot.",
         "",

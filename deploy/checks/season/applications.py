@@ -87,8 +87,11 @@ def corrected(office: Office) -> None:
         if fault.column == "preferences":
             slip(hal, child)
         typed(hal, child, fault.column, town.texts_of(child)[fault.column])
-        left -= 1
-        hal.see("nothing is wrong in it.", f"child {child.number}, {fault.column}")
+        # (another row has the number of one until that is set aside)
+        is_twice = child.number == town.doubled(given).number
+        left -= not is_twice
+        hal.see("1 error left" if is_twice else "nothing is wrong in it.",
+                f"child {child.number}, {fault.column}")
         hal.see(f"With errors {left}")
     twice = row_of(hal, town.doubled(given))
     hal.press("Set aside", twice)

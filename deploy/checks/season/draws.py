@@ -150,7 +150,7 @@ def closed(office: Office, draw: Draw, pairs: int) -> None:
         office.ticks += 1
     jane.press("Pause recording for everyone")
     rested(jane)
-    report.same(jane.facts().get("State"), "closed, and the supervisor draws the lots",
+    report.same(jane.facts().get("State"), "paused, and the supervisor draws the lots",
                 f"the state of {draw.name}")
     jane.look("A draw that waits for lots")
     hal = office.people[HAL]

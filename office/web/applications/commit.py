@@ -76,7 +76,7 @@ class Commit:
     def why_not(self) -> str:
         """Why nothing can be stored, or ""."""
         if self.wrong:
-            these = texts.count(len(self.wrong), "row")
+            these = texts.count(len(self.wrong), "row with errors", "rows with errors")
             return f"{these} must be corrected or set aside before anything is added"
         return self.too_many
 

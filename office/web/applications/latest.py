@@ -11,7 +11,6 @@ from office.web.machinery import numbers
 
 from . import mends
 from .mends import Undoable
-from .row_check import ERROR
 from .staging import Staging
 from .table_check import Table
 
@@ -68,7 +67,7 @@ def said_of_saved(table: Table, saved: Sequence[int]) -> str:
     found = [it for it in saved if it in table.rows]
     if not found:
         return ""
-    many = sum(finding.kind == ERROR for it in found for finding in table.findings[it])
+    many = sum(len(table.errors(it)) or table.is_wrong(it) for it in found)
     where, them = (table.rows[found[0]].staged.where, "it") if len(found) == 1 else (
         texts.count(len(found), "row"), "them")
     left = f"{texts.count(many, 'error')} left" if many else f"nothing is wrong in {them}"

@@ -223,6 +223,8 @@ def line_of(row: Staged, table: Table | None, shared: Mapping[tuple[object, ...]
     whole = [(CLASSES[it.kind], said_of(it)) for it in findings if it.column not in row.cells]
     if table and row.state == WITHDRAWN and not table.has_error(row.id):
         whole.append((CLASSES[FIXED], "No error was found in it."))
+    if table and row.id in table.twice and not table.has_error(row.id):
+        whole.append((CLASSES[ERROR], "Another row has this number."))
     if refused:
         whole = [(CLASSES[ERROR], f"Not saved: {refused.why}."), *whole]
     cells = {it.column: it for it in cells_of(row, table, shared, is_open, refused)}
@@ -237,11 +239,10 @@ def line_of(row: Staged, table: Table | None, shared: Mapping[tuple[object, ...]
 
 def is_in(row: int, table: Table, which: str) -> bool:
     """Whether a row of the table is in a state."""
-    if which == WRONG:
-        return table.has_error(row)
     if which == READY:
-        return not table.has_error(row)
-    return which != CHECK or table.has_look(row)
+        return not table.is_wrong(row) and not table.has_look(row)
+    return which not in (WRONG, CHECK) or (
+        table.is_wrong(row) if which == WRONG else table.is_to_check(row))
 
 
 def has_text(row: Staged, find: str) -> bool:
@@ -263,7 +264,7 @@ def page_of(table: Table, away: Sequence[Staged], asked: Asked, number: int,
     meant = [it for it in rows if has_text(it, asked.find) and (
         asked.only is None or it.id in asked.only)]
     if asked.show != ASIDE:
-        meant.sort(key=lambda it: (not table.has_error(it.id), it.file, it.number))
+        meant.sort(key=lambda it: (not table.is_wrong(it.id), it.file, it.number))
     last = max(1, -(-len(meant) // PAGE))
     number = min(max(number, 1), last)
     shown = meant[(number - 1) * PAGE:number * PAGE]
@@ -332,7 +333,6 @@ def sides(one: Staged, other: Staged | None, child: int | None,
 
 
 def counts(table: Table, away: int) -> dict[str, int]:
-    """How many rows are in each state."""
-    every, wrong = len(table.rows), len(table.having[ERROR])
-    return {ALL: every, WRONG: wrong, CHECK: len(table.having[LOOK]), READY: every - wrong,
-            ASIDE: away}
+    """How many rows are in each state: each row of the table is wrong, to check or ready."""
+    return {**{it: sum(is_in(row, table, it) for row in table.rows)
+               for it in (ALL, WRONG, CHECK, READY)}, ASIDE: away}

@@ -7,7 +7,7 @@ from collections.abc import Iterable, Mapping
 
 from register_files import Refused
 
-from office.core import fields
+from office.core import days, fields
 
 from .rows import REMARK, Staged, too_long
 from .staging import Staging
@@ -94,10 +94,19 @@ def save(staging: Staging, who: str, rows: Iterable[Typed], confirmed: int) -> C
             continue
         try:
             came.saved[it.number] = staging.save(
-                who, it.number, it.version, it.cells, it.number == confirmed)
+                who, it.number, it.version, as_meant(it), it.number == confirmed)
         except Refused as error:
             came.refused[it.number] = refusal(staging, it, error)
     return came
+
+
+def as_meant(it: Typed) -> dict[str, str]:
+    """The cells as a person means them: a day that they type is day/month/year, as on each screen,
+    in whichever way its file has days.
+    """
+    text = it.cells.get("day", "")
+    found = days.uk_reading(text) if text != it.seen.get("day") else None
+    return {**it.cells, "day": found.isoformat()} if found else it.cells
 
 
 def move(staging: Staging, who: str, it: Typed, came: Came, state: str) -> None:

@@ -255,11 +255,23 @@ class Table:
         """Whether something about a row is to be looked at."""
         return row in self.having[LOOK]
 
+    @functools.cached_property
+    def twice(self) -> set[int]:
+        """The rows whose number another row has with other values."""
+        return {it.id for pair in self.pairs if pair.why == SAME_NUMBER
+                for it in (pair.one, pair.other) if it}
+
+    def is_wrong(self, row: int) -> bool:
+        """Whether a row is to be corrected or set aside before any row is added."""
+        return self.has_error(row) or row in self.twice
+
+    def is_to_check(self, row: int) -> bool:
+        """Whether a row can be added, and something about it is to be looked at first."""
+        return self.has_look(row) and not self.is_wrong(row)
+
     def wrong(self) -> list[Staged]:
-        """The rows that have an error, and those with the number of another."""
-        twice = {it.id for pair in self.pairs if pair.why == SAME_NUMBER
-                 for it in (pair.one, pair.other) if it}
-        return [it.staged for at, it in self.rows.items() if self.has_error(at) or at in twice]
+        """The rows that are wrong."""
+        return [it.staged for at, it in self.rows.items() if self.is_wrong(at)]
 
     @functools.cached_property
     def shared(self) -> dict[tuple[object, ...], int]:

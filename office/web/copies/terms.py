@@ -21,7 +21,7 @@ LATER, REFUSED = "later", "refused"
 # the states of a restore that is brought to its end, in their order, and that of another end
 STATES = States(
     State(name=CLOSED, words="recording is paused", title="Recording is paused",
-          does="Nobody can record anything until the register is opened. All can still read.",
+          does="Nobody can record anything until recording resumes. All can still read.",
           runs="what is ticked is tried on a scratch copy"),
     State(name=ASKED, words="waits for a second person", title="What is sent again is chosen",
           by="by a head of the office",

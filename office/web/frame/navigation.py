@@ -131,7 +131,7 @@ def here(own: dict[str, list[Screen]]) -> Iterator[tuple[str, Screen, bool]]:
 
 
 # of a draw whose outcome is known, on each page
-BEFORE = " Until it is run, all pages but its own show the register from before it."
+BEFORE = " Until it is run, the other pages show the register as it was before."
 
 
 def turn(draw: Draw) -> str:

@@ -40,8 +40,8 @@ def of_supervisor(
              for it in draws if it.state == LOTS]
     if present and not present.who(LOTS):
         tasks.append(Task(f"Draw the lots of {present.name}",
-                          f"The office has begun it for {weekday(present.terms.day)}. First the"
-                          " register is closed and copied.", "Soon", LATER))
+                          f"The office has begun it for {weekday(present.terms.day)}. First"
+                          " recording is paused, and the register is copied.", "Soon", LATER))
     elif present and not tasks:
         tasks.append(Task(f"Wait for {present.name}", "The lots are sealed. The office rehearses,"
                           " confirms and runs it.", "Nothing for you", LATER))
@@ -80,8 +80,8 @@ def of_school(register: Register, code: str, why_hidden: str, today: datetime.da
                                    LATER),), ())
     figures = (
         pan, Figure(f"{school.taken:,}", "Places held", "", "schools.held", values),
-        Figure(f"{school.vacancies:,}", "Vacant", "", "schools.one", values),
-        Figure(f"{school.waiting:,}", "Waiting", "", "schools.waiting", values))
+        Figure(f"{school.vacancies:,}", "Vacant places", "", "schools.one", values),
+        Figure(f"{school.waiting:,}", "Children who wait", "", "schools.waiting", values))
     tasks, done = list(of_lists(register, code)), []
     closing, offer, last = register.days
     if not register.rounds:

@@ -173,11 +173,12 @@ def of_answers(register: Register, today: datetime.date) -> Iterator[Task]:
     remind = register_rows.remind_due(register, today)[1:]
     lapse = register_rows.lapse_due(register, today)[1:]
     if remind:
-        yield Task("Remind families who have not answered", "The last day of their answer has"
-                   " passed.", f"{len(remind):,} due", DUE, "notices.choose", {"name": REMIND})
+        yield Task("Remind families who have not answered", "Their last day to answer has passed.",
+                   f"{len(remind):,} due", DUE, "notices.choose", {"name": REMIND})
     if lapse:
-        yield Task("Withdraw offers that stay unanswered", "The last day after the reminder has"
-                   " passed.", f"{len(lapse):,} due", DUE, "notices.choose", {"name": LAPSE})
+        yield Task("Withdraw offers that stay unanswered",
+                   "The last day to answer the reminder has passed.", f"{len(lapse):,} due", DUE,
+                   "notices.choose", {"name": LAPSE})
     offers = register_rows.offers(register)
     next_of = {
         "Remind families who do not answer": [

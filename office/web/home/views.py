@@ -10,6 +10,7 @@ from register_files import Refused
 from office.core.days import today
 from office.core.model import Register
 from office.core.wording import sentence, weekday
+from office.web.applications import columns as file_columns
 from office.web.applications.rows import OPEN, WITHDRAWN
 from office.web.applications.tools import tools
 from office.web.figures.publication import FiguresStore
@@ -230,4 +231,5 @@ def show() -> str:
     draw: Draw | None = parts().draws.present()
     return flask.render_template(
         "season.html", register=found, reason=reason, day=weekday(today()), columns=COLUMNS,
+        file_columns=file_columns.columns(found),
         **(page(found, draw) if found else {"acts": []}))

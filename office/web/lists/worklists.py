@@ -41,11 +41,11 @@ WORKLISTS = {
         "the rounds and offers: their days, their lots, and how many children were offered a place,"
         " kept theirs or have none", (), draw_rows.draws),
     "equal-at-limit": Worklist(
-        "where only the lot decided: who was offered or refused a place with the criterion and the"
-        " distance of the last child that was offered one", (), draw_rows.equal_at_limit),
+        "where only the lot decided: the children who were equal to the last child offered a place"
+        " at a school, by criterion and distance", (), draw_rows.equal_at_limit),
     "find": Worklist(
-        "the children whose names have all the words, in any capitals and accents; if there is"
-        " none, those with near names", ("text",), register_rows.find, ("text",)),
+        "the children whose names have all the words; if there is none, those with similar names",
+        ("text",), register_rows.find, ("text",)),
     "interest": Worklist(
         "what families want: how many list each school, as which preference, how many of them"
         " applied late, and how many need a lot in the next round", (), register_rows.interest),

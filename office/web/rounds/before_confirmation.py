@@ -85,7 +85,7 @@ def doubtful(draw: Draw, found: Known) -> Iterator[Verdict]:
     if closed.said:
         yield Verdict("Is this right?", WARN, f"When {closed.who} paused recording, this looked"
                       f" wrong: {closed.said} {closed.who} said that it is right.")
-    yield from left_out(found)
+    yield from left_out(found.aside, found.to_add)
     if found.before:
         names = dict.fromkeys(it.draw.name for it in found.before)
         was = "was" if len(names) == 1 else "were"
@@ -107,10 +107,12 @@ def doubtful(draw: Draw, found: Known) -> Iterator[Verdict]:
                       f" {texts.listed(outside)}.")
 
 
-def left_out(found: Known) -> Iterator[Verdict]:
-    """The applications that are not in the register."""
-    for many, where, href in ((found.aside, "set aside", "/applications/withdrawn"),
-                              (found.to_add, "not in the register yet", "/applications/")):
+def left_out(aside: int, to_add: int) -> Iterator[Verdict]:
+    """The applications that are not in the register: so many rows are set aside, or are to be
+    added.
+    """
+    for many, where, href in ((aside, "set aside", "/applications/withdrawn"),
+                              (to_add, "not in the register yet", "/applications/")):
         if many:
             said = texts.count(many, "application is", "applications are")
             yield Verdict("Left out", WARN, f"{said} {where}, and"
@@ -139,11 +141,11 @@ def checked(draw: Draw, found: Known, register: Register) -> Iterator[Verdict]:
         said = texts.count(len(found.changes), "change")
         own = sum(it.who == found.who for it in found.changes)
         yours = f" {own:,} of them {'was' if own == 1 else 'were'} made by you." if own else ""
-        yield Verdict(said, WARN, "since the applications were added to the register can move a"
-                      f" criterion, a distance or a limit.{yours}", "Show them", "#changed")
+        yield Verdict(said, WARN, "since the applications were added to the register can"
+                      f" alter who gets a place.{yours}", "Show them", "#changed")
     else:
         yield Verdict("No change", GOOD, "since the applications were added to the register can"
-                      " move a criterion, a distance or a limit.")
+                      " alter who gets a place.")
 
 
 def taking_part(draw: Draw, whole: Whole, register: Register) -> Iterator[Verdict]:
@@ -169,11 +171,11 @@ def of_lots(draw: Draw, whole: Whole) -> Verdict:
     if "by_lot" not in draw.rehearsal:
         return Verdict("Sealed", GOOD, said.strip())
     if not many:
-        return Verdict("Sealed", GOOD, f"{said}They decide nothing: no two children are equal"
-                       " where the places of a school end.")
+        return Verdict("Sealed", GOOD, f"{said}No lot decides: no two children are equal for the"
+                       " last place of a school.")
     who = texts.count(many, "child", "children")
-    return Verdict("Sealed", GOOD, f"{said}They decide between {who} who are equal where the places"
-                   " of a school end.", "Show them", page(draw, "?what=lot#children"))
+    return Verdict("Sealed", GOOD, f"{said}Lots decide between {who} who are equal for the last"
+                   " place of a school.", "Show them", page(draw, "?what=lot#children"))
 
 
 def of_day(draw: Draw, register: Register) -> Verdict:

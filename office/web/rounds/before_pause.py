@@ -4,10 +4,10 @@ looks wrong in it.
 import dataclasses
 import datetime
 import hashlib
-from collections.abc import Iterable
+from collections.abc import Iterable, Sequence
 
 from office.core import days, model, risks, texts
-from office.core.model import Register
+from office.core.model import Pair, Register
 
 from .terms import Terms
 
@@ -60,16 +60,22 @@ def school_checks(register: Register, terms: Terms) -> list[Check]:
 def part_checks(register: Register, terms: Terms) -> list[Check]:
     """Who takes part, and for how many pairs lots are drawn."""
     pairs = terms.pairs_in(register)
-    children = texts.count(len({child for _, child in pairs}), "child", "children")
-    schools = texts.count(len({code for code, _ in pairs}), "school")
-    each = " for each place" if terms.fills > 1 else ""
-    lots = f"{texts.count(len(pairs), 'lot')}{each}, of {children} at {schools}."
-    found = [Check("Lots", lots, not pairs)]
+    found = [Check("Lots", lots_of(terms, pairs), not pairs)]
     late = len(register.applications) - len(register.taking_part)
     if late and not terms.school:
         said = texts.count(late, "late application takes", "late applications take")
         found.append(Check("Late", f"{said} no part in this round."))
     return found
+
+
+def lots_of(terms: Terms, pairs: Sequence[Pair]) -> str:
+    """How many lots are drawn, and what each is for."""
+    many = texts.count(len(pairs), "lot is drawn", "lots are drawn")
+    if terms.school:
+        each = " for each place" if terms.fills > 1 else ""
+        return f"{many}{each}: one for each child on the waiting list."
+    children = texts.count(len({child for _, child in pairs}), "child", "children")
+    return f"{many}: one for each of {children} at each school of its list."
 
 
 def offer_checks(register: Register) -> list[Check]:

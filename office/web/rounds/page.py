@@ -228,6 +228,22 @@ def changes_of(draw: Draw, register: Register | None) -> list[Change] | None:
                     if not end or one.at <= end])
 
 
+def not_in_register(draw: Draw) -> tuple[int, int]:
+    """How many rows of applications are set aside, and are to be added, before a round; for who
+    sees them.
+    """
+    if draw.terms.school or not person().may(RECORD):
+        return 0, 0
+    return tools().staging.count(WITHDRAWN), tools().staging.count(OPEN)
+
+
+def before_pause_of(draw: Draw) -> list[before_confirmation.Verdict]:
+    """The applications that a round leaves out, while they can still be added."""
+    if draw.state != BEGUN:
+        return []
+    return list(before_confirmation.left_out(*not_in_register(draw)))
+
+
 def verdicts_of(
     draw: Draw, register: Register | None, found: Whole | None, changes: list[Change] | None,
 ) -> tuple[list[before_confirmation.Verdict], list[before_confirmation.Verdict]]:
@@ -237,8 +253,7 @@ def verdicts_of(
     same = parts().draws.made.of(
         "same", (draw.number, draw.version), register, before_confirmation.unchanged,
         parts().copies, draw) if draw.state in COMPARED else None
-    aside, to_add = (tools().staging.count(it) for it in (WITHDRAWN, OPEN)) if (
-        draw.state in COMPARED and not draw.terms.school and person().may(RECORD)) else (0, 0)
+    aside, to_add = not_in_register(draw) if draw.state in COMPARED else (0, 0)
     known = before_confirmation.Known(
         found, again.given_up(parts().draws, draw), changes or [], same, person().name, aside,
         to_add)
@@ -277,7 +292,7 @@ def steps_of(found: Seen) -> list[dict[str, str]]:
 def state_in_words(found: Seen) -> str:
     """The state of a draw as an office reads it."""
     if found.draw.state == SENDING and found.standing == found.draw.terms.fills:
-        return "closed, and run; not audited yet"
+        return "paused, and run; not audited yet"
     return STATES[found.draw.state].words
 
 

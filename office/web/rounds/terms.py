@@ -21,41 +21,41 @@ HEAD, SUPERVISOR = "by a head of the office", "by the supervisor"
 SECOND = "by a second person"
 # the states of a draw that is held to its end, in their order, and the others
 STATES = States(
-    State(name=BEGUN, words="begun, and nothing is closed", tag="Begun", look="info",
-          title="Begin", does="Nothing is closed yet.", runs="recording is paused"),
-    State(name=CLOSED, words="recording is paused", tag="Closed", look="info",
+    State(name=BEGUN, words="begun: recording goes on", tag="Begun", look="info",
+          title="Begin", does="Everybody can still record.", runs="recording is paused"),
+    State(name=CLOSED, words="recording is paused", tag="Paused", look="info",
           title="Pause recording for everyone", by=HEAD, action="close",
           button="Pause recording for everyone",
-          does="Nobody can record anything from then on until the register is open again. All can"
+          does="Nobody can record anything from then on until recording resumes. All can"
                " still read, and what somebody has typed stays. The next two steps follow by"
                " themselves.", runs="the register is copied"),
-    State(name=COPIED, words="closed, and the register is copied", tag="Copied", look="info",
+    State(name=COPIED, words="paused, and the register is copied", tag="Copied", look="info",
           title="Copy the register", button="Make the copy",
           does="For some seconds nobody can read it. The copy can be restored if something goes"
                " wrong.", runs="the supervisor is asked for the lots"),
-    State(name=LOTS, words="closed, and the supervisor draws the lots", tag="Waits for the lots",
+    State(name=LOTS, words="paused, and the supervisor draws the lots", tag="Waits for the lots",
           look="warn", title="List the lots for the supervisor",
           button="Ask the supervisor for the lots",
           does="A lot is drawn for each child at each school where it takes part."),
-    State(name=SEALED, words="closed, and the lots are sealed", tag="Lots sealed", look="info",
+    State(name=SEALED, words="paused, and the lots are sealed", tag="Lots sealed", look="info",
           title="Draw and seal the lots", by=SUPERVISOR,
           does="The supervisor draws and seals them on the screen of lots. Nobody changes them"
                " after that, and the rehearsal follows by itself.", runs="it is rehearsed"),
-    State(name=REHEARSED, words="closed, and rehearsed: not confirmed yet",
+    State(name=REHEARSED, words="paused, and rehearsed: not confirmed yet",
           tag="Waits for a second person", look="warn", title="Rehearse on a copy, and audit",
           button="Rehearse",
           does="A second program audits the outcome. Nothing is recorded."),
-    State(name=CONFIRMED, words="closed, and confirmed: not run yet", tag="Confirmed",
+    State(name=CONFIRMED, words="paused, and confirmed: not run yet", tag="Confirmed",
           look="info", title="Confirm", by=SECOND, action="confirm", button="Confirm",
           does="Nothing is recorded yet.", runs="the places are given"),
-    State(name=SENDING, words="closed, and running", tag="Running", look="warn",
+    State(name=SENDING, words="paused, and running", tag="Running", look="warn",
           title="Run", by=HEAD, action="send", button="Run",
           does="The register allots the places. Only a restore of the copy by two persons undoes"
                " it. The audit follows by itself.", runs="the places are given, and then audited"),
     State(name=AUDITED, words="run, and the audit agrees", tag="Audited", look="info",
           title="Audit once more", button="Audit",
           does="The register is copied, and audited against the copy from before and the"
-               " rehearsal. If they agree it is opened by itself.", runs="the register is opened"),
+               " rehearsal. If they agree, recording resumes by itself.", runs="recording resumes"),
     State(name=OPENED, words="complete: recording goes on", tag="Complete", look="good",
           title="Resume recording", button="Resume recording",
           does="Everybody can record again."),

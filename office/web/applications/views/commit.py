@@ -20,6 +20,8 @@ from ..tools import is_collecting, tools
 
 screen = flask.Blueprint("applications_commit", __name__, url_prefix="/applications/commit")
 Answer = str | Response | tuple[str, int]
+# so many rows that are set aside are named
+MOST_ASIDE = 50
 
 
 def page(text: str = "", failed: Import | None = None) -> Answer:
@@ -51,7 +53,7 @@ def page(text: str = "", failed: Import | None = None) -> Answer:
         title_of=staging_page.title_of, names=names_of(found) if found else [],
         aside=fault_kinds.aside(found.wrong) if found else None,
         read_as=[(it.name, it.changes) for it in staging.files() if it.changes and it.counts[OPEN]],
-        may_change=found is not None and is_collecting(found.register))
+        most_aside=MOST_ASIDE, may_change=found is not None and is_collecting(found.register))
     return body, status
 
 

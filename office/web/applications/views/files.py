@@ -1,4 +1,5 @@
 """Files of applications: added to the staging table, and replaced there by corrected ones."""
+import io
 from typing import BinaryIO, cast
 
 import flask
@@ -10,11 +11,12 @@ from office.files import inputs
 from office.web.people.guard import needs, person
 from office.web.people.roles import RECORD
 
+from .. import columns
 from .. import files as staging_files
 from .. import page as staging_page
 from .. import replace as staging_replace
 from ..files import Read
-from ..tools import tools
+from ..tools import register_now, tools
 from . import staging as applications
 
 screen = flask.Blueprint("applications_files", __name__, url_prefix="/applications")
@@ -59,6 +61,14 @@ def add() -> Answer:
         done = f" Added: {texts.listed(names)}." if names else ""
         return applications.page(f"Not added: {'; '.join(refused)}.{done}", True)
     return applications.onward(False, {"added": added})
+
+
+@screen.get("/empty.xlsx")
+@needs(RECORD)
+def empty() -> Response:
+    """A file that has the names of the columns alone."""
+    return flask.send_file(io.BytesIO(columns.empty_file(register_now()[0])), as_attachment=True,
+                           download_name="applications.xlsx")
 
 
 @screen.post("/file/<int:number>")

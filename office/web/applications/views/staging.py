@@ -13,7 +13,7 @@ from office.web.machinery import tables
 from office.web.people.guard import needs, person
 from office.web.people.roles import RECORD
 
-from .. import fault_kinds, latest, mends, pictures, replace, sent
+from .. import columns, fault_kinds, latest, mends, pictures, replace, sent
 from .. import page as staging_page
 from .. import tools as staging_tools
 from ..fault_kinds import Kind
@@ -77,7 +77,8 @@ def page(text: str = "", is_bad: bool = False, saved: Sequence[int] = (),
         to_see=sum(it.needs_look for it in table.rows.values()),
         undo=latest.undo_of(staging, args), focus=staging_page.focus_of(shown, first),
         may_add="add" in args or not counts[ALL], days=pictures.by_day(table),
-        wanted=pictures.wanted(table), seen=digest_of(away))
+        wanted=pictures.wanted(table), seen=digest_of(away),
+        file_columns=columns.columns(table.register))
     return body, 409 if is_bad else 200
 
 

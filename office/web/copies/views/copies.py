@@ -124,7 +124,7 @@ def begin(number: int) -> Answer:
         draw = draw_of(flask.request.form.get("draw", ""), number)
         made = restores.begin(who, number, draw)
     except (Refused, sqlite3.Error) as error:
-        return begin_page(number, sentence(f"nothing was closed: {words_of(error)}"), 409)
+        return begin_page(number, sentence(f"recording was not paused: {words_of(error)}"), 409)
     try:
         if draw:
             parts().restoring.begin(who, made, lambda: restores.choose_first(made))

@@ -69,7 +69,7 @@ def page(said: str = "", status: int = 200) -> Answer:
     agreed = parts().letters.audits.agreed(register) if register else set()
     return flask.render_template(
         "letters.html", said=said, is_bad=status != 200, kinds=KINDS, draws=draws[::-1],
-        given=flask.request.args, found=parts().letters.listed(), size=parts().letters.bytes_kept(),
+        given=flask.request.args, found=parts().letters.listed(),
         day=flask.request.args.get("day", days.in_words(today())),
         has_sender=bool(parts().letters.sender.number),
         unaudited=[(it.number, wording.draw_in_words(it), titled(it))

@@ -150,6 +150,7 @@ def draw_page(number: int, reason: str = "", status: int = 200) -> Answer:
         reason=reason or trouble, halted="" if reason else draw.trouble,
         decision=page.decision_of(found), by_second=page.OF_SECOND, steps=page.steps_of(found),
         history=step_store.history(STATES, draw.done), checks=checks, agreed=agreed,
+        left_out=page.before_pause_of(draw),
         is_agreed=flask.request.form.get("agreed") == agreed, to_look_at=to_look_at,
         checked=checked, changes=changes, outcome=shown, whole=outcome,
         runs=STATES[draw.state].runs or "a step is done", in_words=page.state_in_words(found),

@@ -85,7 +85,7 @@ def show() -> Answer:
     rows = [(it, classes(it, words)) for it in register.schools.values()]
     made = tables.table(COLUMNS, rows)
     return flask.render_template("schools.html", rows=made.rows, columns=made.columns,
-                                 sort=made.sort)
+                                 sort=made.sort, offers=offered_now(register))
 
 
 def school_of(register: Register, code: str) -> School:
@@ -105,7 +105,7 @@ def page(view: str, title: str, register: Register, code: str, **more: Any) -> s
     school, words = school_of(register, code), flags.present()
     may_read = person().may(READ)
     last = intake.last_offered(register, code, words)
-    offers = offered_now(register, school)
+    offers = offered_now(register).get(code, 0)
     tabs = [("Overview", "schools.one", ""), ("Waiting list", "schools.waiting", school.waiting),
             ("Intake", "schools.held", school.taken)]
     if may_read and register.draws:
@@ -117,10 +117,10 @@ def page(view: str, title: str, register: Register, code: str, **more: Any) -> s
         figures=figures(school, last, offers, may_read), **more)
 
 
-def offered_now(register: Register, school: School) -> int:
-    """How many places of a school can be offered from its waiting list now."""
-    found = home.fillable(register, today())
-    return min(school.vacancies, school.waiting, MOST_FILLS) if school in found else 0
+def offered_now(register: Register) -> dict[str, int]:
+    """How many places can be offered from its waiting list now at each school that has any."""
+    return {it.code: min(it.vacancies, it.waiting, MOST_FILLS)
+            for it in home.fillable(register, today())}
 
 
 def figures(
@@ -135,15 +135,16 @@ def figures(
         (f"{school.taken:,}", "Places held",
          texts.count(school.plans, "by an EHC plan", "by EHC plans") if school.plans else "",
          address("held"), ""),
-        (f"{school.vacancies:,}", "Vacant", f"{offers:,} can be offered now" if offers else "",
+        (f"{school.vacancies:,}", "Vacant places",
+         f"{offers:,} can be offered now" if offers else "",
          address("offer") if offers and may_read else "", "warn" if offers else ""),
-        (f"{school.waiting:,}", "Waiting", "", address("waiting"), "")]
+        (f"{school.waiting:,}", "Children who wait", "", address("waiting"), "")]
     if last:
         it = last[-1]
         metres = "none" if it.metres is None else "withheld" if it.is_private else (
             f"{it.metres:,} m")
         said = f"{it.draw}: {it.words}" if it.words else it.draw
-        found.append((metres, "Last offered", said, f"{address('one')}#last-offered", ""))
+        found.append((metres, "Last place offered", said, f"{address('one')}#last-offered", ""))
     return found
 
 
@@ -241,7 +242,7 @@ def offer(code: str) -> Answer:
     """
     register = parts().desk.register()
     school = school_of(register, code)
-    most = offered_now(register, school)
+    most = offered_now(register).get(code, 0)
     typed = flask.request.args.get("places", str(most)).strip()
     places = numbers.read(typed)
     wrong = "" if not most or 1 <= places <= most else f"from 1 to {most}"
