@@ -443,3 +443,66 @@ def test_a_standard_register_shows_nothing_of_it(tmp_path: pathlib.Path) -> None
             assert "atchment" not in text
         screens.store()
         assert catchments(office) == {1: []}
+
+
+@pytest.fixture(name="moving")
+def moving_fixture(tmp_path: pathlib.Path) -> Iterator[Site]:
+    """A large register with a child, which lives where Oak's area and Elm's overlap."""
+    there = {**child(1, "Ann Abel", 0), "east": AT[0] + 700, "north": AT[1],
+             "catchments": ["ELM", "OAK"]}
+    with office_over(tmp_path, [*SCHOOLS, there], is_large=True) as found:
+        use(found.browser("jane"), TOWN)
+        yield found
+
+
+def corrected(browser: Browser, **typed: object) -> tuple[str, Page]:
+    """The question of a correction of the child, and its address."""
+    path = "/children/1/correct"
+    form = Page(browser.get(path).text)
+    asked = press(browser, path, form, "Compare with the register",
+                  **{name: str(it) for name, it in typed.items()})
+    return path, Page(asked.text)
+
+
+def changed(page: Page) -> list[list[str]]:
+    """What a correction changes."""
+    return page.tables["changes"][1:]
+
+
+def test_a_home_that_moves_gets_the_schools_of_its_new_point(moving: Site) -> None:
+    """Proposed and said to be so, and sent by the officer's confirmation alone."""
+    jane = moving.browser("jane")
+    path, page = corrected(jane, east=AT[0] + 2000)
+    assert changed(page) == [["East, in metres", "530700", "532000"],
+                             ["Catchment schools", "ELM;OAK", "ELM"]]
+    assert "proposed: those of the new point, from the areas of town.geojson" in page.text
+    assert catchments(moving) == {1: ["ELM", "OAK"]}
+    press(jane, path, page, "Correct the details of Ann Abel")
+    assert catchments(moving) == {1: ["ELM"]}
+    sent = [it for it in moving.parts.history.entries if "command" in it.about][-1]
+    assert sent.about["catchments"] == "from the areas of town.geojson"
+    assert "Catchment schools: from the areas of town.geojson" in jane.get("/children/1").text
+
+
+def test_the_schools_of_a_child_can_stay_when_it_moves(moving: Site) -> None:
+    """By a button; what the areas say is still said."""
+    jane = moving.browser("jane")
+    path, page = corrected(jane, east=AT[0] + 2000)
+    kept = press(jane, path, page, "Keep the catchment schools: ELM, OAK")
+    page = Page(kept.text)
+    assert changed(page) == [["East, in metres", "530700", "532000"]]
+    assert "are others, from the areas of town.geojson: ELM" in page.text
+    press(jane, path, page, "Correct the details of Ann Abel")
+    assert catchments(moving) == {1: ["ELM", "OAK"]}
+    assert moving.parts.desk.register().children[1].east == AT[0] + 2000
+
+
+def test_schools_that_are_typed_beside_a_new_point_stay(moving: Site) -> None:
+    """With a warning; and of a home that stays nothing is proposed."""
+    jane = moving.browser("jane")
+    _, page = corrected(jane, east=AT[0] + 2000, catchments="OAK")
+    assert changed(page)[1] == ["Catchment schools", "ELM;OAK", "OAK"]
+    assert "are others, from the areas of town.geojson: ELM" in page.text
+    _, page = corrected(jane, name="Anna Abel", east=AT[0] + 700, catchments="ELM;OAK")
+    assert changed(page) == [["Name", "Ann Abel", "Anna Abel"]]
+    assert "town.geojson" not in page.text

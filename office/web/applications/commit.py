@@ -65,7 +65,18 @@ class Commit:
         """What an import of the rows sends."""
         return Content(
             self.csv, {it.row.fields["child"]: it.staged.point_words for it in self.rows},
+            self.of_areas,
             [it.staged.id for it in self.rows], [(it.id, it.version) for it in self.equal])
+
+    @property
+    def of_areas(self) -> str:
+        """Where the catchment schools came from of rows in which none is written, and how many
+        these are; or "".
+        """
+        areas = self.table.areas
+        many = sum(bool(it.row.fields["catchments"]) and not it.staged.cells["catchments"].strip()
+                   for it in self.rows) if areas else 0
+        return f"{areas.source}: {texts.count(many, 'row')}" if areas and many else ""
 
     @property
     def differing(self) -> list[tuple[Staged, Differences]]:

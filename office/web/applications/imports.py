@@ -31,12 +31,14 @@ REFUSED = "refused"
 @dataclasses.dataclass(frozen=True)
 class Content:
     """What an import sends: its rows as an import takes them, where the points of their homes came
-    from, by the numbers of the children, and their ids; and the ids of rows that only leave the
-    table, as the register has them, each with its version.
+    from, by the numbers of the children, where catchment schools came from that no file has, and
+    their ids; and the ids of rows that only leave the table, as the register has them, each with
+    its version.
     """
 
     csv: bytes
     points: dict[str, str]
+    catchments: str
     rows: list[int]
     out: list[tuple[int, int]]
 
@@ -148,10 +150,13 @@ class Imports(Outbox[Import]):
             self.sent_now = None
 
     def request(self, it: Import) -> Request:
-        """The rows of an import, with where the points of their homes came from."""
+        """The rows of an import, with where the points of their homes and their catchment schools
+        came from.
+        """
         assert self.sent_now
-        points = self.sent_now.points
-        return {"import": self.sent_now.csv.decode(), **({"points": points} if points else {})}
+        sources = {"points": self.sent_now.points, "catchments": self.sent_now.catchments}
+        return {"import": self.sent_now.csv.decode(),
+                **{name: found for name, found in sources.items() if found}}
 
     def begin(self, who: Person, it: Import) -> Import | None:
         """Marks an import as being sent, and its rows with it."""

@@ -8,6 +8,7 @@ from office.core import child_fields, fields, risks, rules, texts
 from office.core.model import Child, Register, School
 from office.core.wording import label
 from office.web.applications.files import POINT
+from office.web.areas.map import Map
 
 from .actions import FIELDS
 
@@ -25,6 +26,51 @@ class Context:
     is_large: bool
     is_uk: bool = True
     words: Mapping[int, str] = dataclasses.field(default_factory=dict)
+
+
+@dataclasses.dataclass(frozen=True)
+class Proposal:
+    """The catchment schools of a new point by the areas, in a cell; their source; and whether they
+    are in the correction, where nobody has typed others.
+    """
+
+    cell: str
+    source: str
+    is_taken: bool
+
+    @property
+    def words(self) -> str:
+        """The schools in words."""
+        return self.cell.replace(";", ", ") or "none"
+
+
+def proposal_of(child: Child, command: Command, areas: Map, is_kept: bool) -> Proposal | None:
+    """What the areas say of a home that moves, if that is otherwise than what is there. `is_kept`:
+    the schools that are there are to stay.
+    """
+    home = home_of(command)
+    typed = set(command.get("catchments", child.catchments))
+    if home in (None, (child.east, child.north)):
+        return None
+    codes = areas.schools_at(home) if home else ()
+    if typed == set(codes):
+        return None
+    is_typed = is_kept or typed != set(child.catchments)
+    return Proposal(";".join(codes), areas.source, not is_typed)
+
+
+def source_of(child: Child, command: Command, areas: Map) -> str:
+    """Where the catchment schools of a correction came from, if it changes them to those of the
+    areas; or "".
+    """
+    home, typed = home_of(command), set(command.get("catchments", ()))
+    is_of_areas = home is not None and typed == set(areas.schools_at(home))
+    return areas.source if is_of_areas and typed != set(child.catchments) else ""
+
+
+def home_of(command: Command) -> tuple[int, int] | None:
+    """The home of a correction, if it could be read."""
+    return (command["east"], command["north"]) if {"east", "north"} <= command.keys() else None
 
 
 def cells_of(child: Child) -> Cells:

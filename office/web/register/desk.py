@@ -264,17 +264,18 @@ class Desk:
 
     def send(
         self, who: Person, command: Command, seen: Seen | None = None, draw: bool = False,
-        point: str = "",
+        point: str = "", catchments: str = "",
     ) -> Result:
-        """Sends a command if what it rests on is as it was seen. Where the point of a home came
-        from is in the history beside it.
+        """Sends a command if what it rests on is as it was seen. Where the point of a home and its
+        catchment schools came from is in the history beside it.
         """
         if command["cmd"] in DRAWS and not draw:
             return Result(UNSENT, "Nothing was recorded: a round or an offer from a waiting list is"
                                   " run on the screen Rounds, where a second person confirms it.",
                           name=TWO_PEOPLE)
-        return self.request(
-            who, {"command": command, **({"point": point} if point else {})}, seen, draw)
+        sources = {"point": point, "catchments": catchments}
+        about: dict[str, Any] = {name: it for name, it in sources.items() if it}
+        return self.request(who, {"command": command, **about}, seen, draw)
 
     def request(
         self, who: Person, about: dict[str, Any], seen: Seen | None = None, is_closed: bool = False,

@@ -144,7 +144,7 @@ UNSHOWN = {
 LABELS = {
     "agreed": "Agreed to", "asked": "Page", "by": "By", "for": "For", "of": "Of", "line": "Line",
     "pairs": "Lots", "point": "Home", "remark": "Note", "why": "Reason", "wrong": "Wrong",
-    "done_at": "Done on the machine", "before": "Before",
+    "done_at": "Done on the machine", "before": "Before", "catchments": "Catchment schools",
 }
 # the values that count something, and are no number of a child, a copy or a point
 COUNTS = ("answers", "chosen", "done", "pairs", "pan", "rows")
@@ -325,8 +325,9 @@ def more_of(it: Entry, names: Names, before: Command | None) -> str:
     if "import" in it.about:
         rows = sum(map(bool, it.about["import"].splitlines())) - 1
         lines.append(texts.count(rows, "application"))
-    if command is not it.about and it.about.get("point"):
-        lines.append(f"{LABELS['point']}: {it.about['point']}")
+    if command is not it.about:
+        lines += [f"{LABELS[name]}: {it.about[name]}" for name in ("point", "catchments")
+                  if it.about.get(name)]
     return in_short(texts.visible("; ".join(lines)))
 
 

@@ -6,6 +6,7 @@ from typing import Any
 
 import flask
 from register_files import Refused
+from werkzeug.datastructures import MultiDict
 from werkzeug.wrappers import Response
 
 from office.core import criteria, days, texts, wording
@@ -20,6 +21,7 @@ from office.web.applications import row_points as staging_points
 from office.web.applications.points import TYPED, Point
 from office.web.applications.row_points import Keys
 from office.web.applications.tools import tools
+from office.web.areas.map import Map
 from office.web.copies.safeguard import copied
 from office.web.explain import explanations, reasons
 from office.web.machinery import pictures, tables
@@ -36,10 +38,13 @@ from office.web.schools.moves import Step
 from .. import corrections
 from .. import actions as children
 from ..actions import FIELDS, Question, fields_of
+from ..corrections import Proposal
 
 screen = flask.Blueprint("child", __name__, url_prefix="/children")
 Answer = str | Response | tuple[str, int]
 NAMES = f"any({', '.join(ACTIONS)})"
+# what a correction does with the catchment schools that are there when the home moves
+KEEP = "keep"
 TYPE_AGAIN = "What you typed is not kept any more. Nothing was recorded: type it again."
 
 
@@ -360,11 +365,13 @@ def do_correct(number: int) -> Answer:
     """Leads to the question of what was typed, or to what is looked up for it; records what was
     confirmed.
     """
-    child_in(number)
-    typed, path, kept = flask.request.form, flask.request.path, parts().asked
-    what = typed.get("what", "")
+    child = child_in(number).children[number]
+    typed: Typed = MultiDict(flask.request.form)
+    path, kept, what = flask.request.path, parts().asked, typed.get("what", "")
     if what == "send":
         return compare(number, typed, True)
+    if what == KEEP:
+        typed["catchments"] = texts.cell_of(child.catchments)
     if what == "anew":
         kept.forget(person(), path)
         return flask.redirect(path, 303)
@@ -373,17 +380,36 @@ def do_correct(number: int) -> Answer:
         "child.correct", number=number, typed=kept.keep(person(), path, typed), **more), 303)
 
 
+def areas_of(register: Register) -> Map | None:
+    """The catchment areas that are in use, of a large register."""
+    return parts().areas.map(register.schools) if register.is_large else None
+
+
+def is_kept(typed: Typed) -> bool:
+    """Whether the catchment schools are to stay that a child has."""
+    return KEEP in (typed.get("what", ""), typed.get("schools", ""))
+
+
 def compare(number: int, typed: Typed, is_sent: bool = False) -> Answer:
     """The question of a correction, with each field that it changes; or one that was confirmed."""
     register, cells = child_in(number), cells_in(typed)
     command, wrong = corrections.read(register, number, cells)
+    areas, proposal = areas_of(register), None
+    if areas and not is_sent:
+        proposal = corrections.proposal_of(
+            register.children[number], command, areas, is_kept(typed))
+    if proposal and proposal.is_taken:
+        cells["catchments"] = proposal.cell
+        command, wrong = corrections.read(register, number, cells)
     if wrong:
         return form_page(number, typed, wrong,
                          "Nothing was recorded: see the fields that are marked.", 400)
     seen, said = Seen(typed.get("seen", "")), ""
     if is_sent:
         result = parts().desk.send(
-            person(), command, seen, point=source_of(register, number, cells, keys_in(typed)))
+            person(), command, seen, point=source_of(register, number, cells, keys_in(typed)),
+            catchments=corrections.source_of(register.children[number], command, areas)
+            if areas else "")
         if result.is_done:
             parts().asked.forget(person(), flask.request.path)
             return flask.redirect(flask.url_for("child.show", number=number, recorded="yes"), 303)
@@ -393,12 +419,12 @@ def compare(number: int, typed: Typed, is_sent: bool = False) -> Answer:
         said = f"{other} Nothing was recorded now: below only what you changed is new."
         cells = corrections.merged(register.children[number], seen.text, cells)
         command, _ = corrections.read(register, number, cells)
-    return compare_page(register, number, cells, command, typed, said)
+    return compare_page(register, number, cells, command, typed, said, proposal)
 
 
 def compare_page(
     register: Register, number: int, cells: dict[str, str], command: dict[str, Any], typed: Typed,
-    said: str,
+    said: str, proposal: Proposal | None,
 ) -> Answer:
     """What a correction changes of the data that the register has now."""
     child, keys = register.children[number], keys_in(typed)
@@ -408,7 +434,8 @@ def compare_page(
         return form_page(number, typed, said=f"{said} {same}".strip(), status=409, cells=cells)
     return flask.render_template(
         "correction.html", child=child, changes=changes, cells=cells, said=said,
-        fields=fields_of(register),
+        fields=fields_of(register), proposal=proposal, schools=KEEP if is_kept(typed) else "",
+        present=", ".join(child.catchments),
         keys=keys, point=source_of(register, number, cells, keys),
         warnings=list(corrections.warnings(child, command)),
         seen=seen_of(register, command).text, is_flags=corrections.is_flags,
