@@ -15,6 +15,8 @@ from gazetteers import of_wgs84
 from pages import Page, press
 from staged import Screens, csv_of
 
+from office.web.letters.fields import Writer
+
 PATH = "/schools/areas/"
 AT = (530_000, 180_000)
 Given = dict[str, Any]
@@ -506,3 +508,25 @@ def test_schools_that_are_typed_beside_a_new_point_stay(moving: Site) -> None:
     _, page = corrected(jane, name="Anna Abel", east=AT[0] + 700, catchments="ELM;OAK")
     assert changed(page) == [["Name", "Ann Abel", "Anna Abel"]]
     assert "town.geojson" not in page.text
+
+
+def test_an_offer_by_the_area_is_explained(tmp_path: pathlib.Path) -> None:
+    """On the screens of the child and of the school, in what is held of it, and in why it is so."""
+    there = [
+        school("OAK", "Oak School", 0, ["catchment"]),
+        *({**child(number, name, 0), "east": AT[0] + east, "north": AT[1], "catchments": codes}
+          for number, name, east, codes in ((1, "Ann Abel", 900, ["OAK"]), (2, "Bo Bell", 10, []),
+                                            (3, "Cy Cole", 20, []))),
+        *({"cmd": "apply", "child": it, "day": "2024-10-20", "preferences": ["OAK"]}
+          for it in (1, 2, 3)),
+        {"cmd": "round", "draw": 1, "day": "2025-03-03", "lots": [1, 2, 3]}]
+    with office_over(tmp_path, there, is_large=True) as office:
+        jane, words = office.browser("jane"), "living in the school’s catchment area"
+        assert words in jane.get("/children/1").text
+        assert "Catchment schools" in jane.get("/children/1").text
+        text = jane.get("/schools/OAK").text
+        assert words in text and 'class="home catchment has"' in text
+        held = jane.get("/children/1/held.json").json
+        assert held["register"]["data"]["catchments"] == ["OAK"]
+        letter = Writer(office.parts.desk.register()).letter(1)
+        assert letter.criterion == words and letter.criterion_code == "catchment"
