@@ -26,7 +26,7 @@ NAMES = {
 }
 # every view that takes a file, and its fields
 FILES = {
-    "answers.several": {"sheet"}, "applications_files.add": {"files"},
+    "answers.several": {"sheet"}, "applications_files.add": {"files"}, "areas.add": {"file"},
     "applications_files.propose": {"file-1"},
     "figures.make": {"copy", "last", "last_copy"}, "gazetteer.receive": {"file"},
     "letter_addresses.save": {"file"}, "letter_templates.save": {"picture"},
@@ -36,8 +36,8 @@ FILES = {
 STEP, PAGE = {"seen"}, {"show", "find", "page"}
 END = {"seen", "months"}
 SCHOOL = {"school", "name", "pan", "east", "north", "criteria", "kind", "value"}
-CHILD = {"name", "east", "north", "looked_after", "flags", "siblings", "present", "postcode",
-         "property_number", "seen", "what"}
+CHILD = {"name", "east", "north", "looked_after", "flags", "siblings", "present", "catchments",
+         "postcode", "property_number", "seen", "what", "schools"}
 # every view that takes a form, and the fields that it reads by their names; those that end a season
 # or change the register as a whole are the last
 TEXTS: dict[str, set[str]] = {
@@ -57,6 +57,10 @@ TEXTS: dict[str, set[str]] = {
     "applications_files.add": {"sheet", "uk"},
     "applications_files.propose": {"sheet"},
     "applications_files.replace": {"what", "digest"},
+    "areas.add": set(),
+    "areas.choose": {"file", "property"},
+    "areas.drop": {"file"},
+    "areas.use": {"file", "seen"},
     "child.do_correct": CHILD,
     "child.record": {"day", "school", "seen", "read"},
     "figures.file": {"digest"},
@@ -211,9 +215,10 @@ def something(browser: Browser) -> None:
 
 @pytest.fixture(name="world", scope="module")
 def world_fixture(tmp_path_factory: pytest.TempPathFactory) -> Iterator[World]:
-    """The application over this town after its first round."""
+    """The application over this town after its first round, with what a large register alone has.
+    """
     folder = tmp_path_factory.mktemp("hostile")
-    make(folder / "reg.db", commands())
+    make(folder / "reg.db", commands(), is_large=True)
     (folder / "machine").mkdir()
     with pytest.MonkeyPatch.context() as patch, machine_over(
             folder / "machine", folder / "reg.db", patch) as machine, machine.office() as office:
