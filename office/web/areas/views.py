@@ -3,7 +3,6 @@ and confirmed.
 """
 import collections
 import dataclasses
-from collections.abc import Sequence
 from typing import Any, BinaryIO, cast
 
 import flask
@@ -67,14 +66,9 @@ def large() -> Register:
     return register
 
 
-def map_now(file: File, register: Register) -> Map:
-    """The areas of a file."""
-    return areas.map_of(file, register.schools, file.named_by)
-
-
-def shown_of(file: File, register: Register, name: str) -> Shown:
-    """A file as it is shown."""
-    lines, found = areas.lines_of(file, register.schools, file.named_by), map_now(file, register)
+def shown_of(file: File, register: Register, found: Map, name: str) -> Shown:
+    """A file with its areas as it is shown."""
+    lines = areas.lines_of(file, register.schools, file.named_by)
     many = collections.Counter(it.code for it in found.areas)
     sizes = collections.Counter[str]()
     for it in found.areas:
@@ -99,15 +93,11 @@ def shown_of(file: File, register: Register, name: str) -> Shown:
 
 def waiting_of(file: File, register: Register) -> Waiting:
     """A file that waits, beside the one in use."""
-    found, changes = shown_of(file, register, "waiting"), changes_of(file, register)
+    made, (table, _) = areas.map_of(file, register.schools, file.named_by), table_now()
+    found = shown_of(file, register, made, "waiting")
+    changes = compared.of_rows(table, parts().areas.map(register.schools), made)
     why = areas.why_not(found.lines) if file.named_by else "choose what names the schools"
     return Waiting(found, changes, why, compared.digest(file.number, found.lines, changes))
-
-
-def changes_of(file: File, register: Register) -> list[Change]:
-    """What a file that waits changes in Applications."""
-    table, _ = table_now()
-    return compared.of_rows(table, parts().areas.map(register.schools), map_now(file, register))
 
 
 @screen.get("/")
@@ -121,13 +111,12 @@ def page(said: str = "", status: int = 200) -> Answer:
     """The same, with what was done or why it was not."""
     register, kept = large(), parts().areas
     used, waits = kept.used, kept.waiting if person().may(RECORD) else None
-    others: Sequence[Change] = ()
-    if used:
-        others = compared.of_children(register, map_now(used, register))
+    found = kept.map(register.schools)
     return flask.render_template(
         "areas.html", said=said, is_bad=status != 200, most=MOST_SHOWN,
-        used=shown_of(used, register, "used") if used else None,
-        waiting=waiting_of(waits, register) if waits else None, others=others,
+        used=shown_of(used, register, found, "used") if used and found else None,
+        waiting=waiting_of(waits, register) if waits else None,
+        others=compared.of_children(register, found) if found else [],
         megabytes=inputs.MOST_BYTES // inputs.MB), status
 
 

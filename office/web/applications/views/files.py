@@ -1,5 +1,4 @@
 """Files of applications: added to the staging table, and replaced there by corrected ones."""
-import io
 from typing import BinaryIO, cast
 
 import flask
@@ -10,6 +9,7 @@ from office.core import texts
 from office.files import inputs
 from office.web.people.guard import needs, person
 from office.web.people.roles import RECORD
+from office.web.schools.views.schools import attachment
 
 from .. import columns
 from .. import files as staging_files
@@ -67,8 +67,7 @@ def add() -> Answer:
 @needs(RECORD)
 def empty() -> Response:
     """A file that has the names of the columns alone."""
-    return flask.send_file(io.BytesIO(columns.empty_file(register_now()[0])), as_attachment=True,
-                           download_name="applications.xlsx")
+    return attachment(columns.empty_file(register_now()[0]), "applications")
 
 
 @screen.post("/file/<int:number>")
