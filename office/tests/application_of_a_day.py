@@ -1,4 +1,5 @@
-"""The application as `python3 -m office.web` serves it: the day in the file TODAY is today.
+"""The application as `python3 -m office.web` serves it: the day in the file TODAY is today, and where
+MOST_ROWS is set, a request with applications takes as many of them.
 """
 import datetime
 import os
@@ -22,7 +23,10 @@ def main() -> None:
     setattr(datetime, "date", Day)
     # (what it imports takes the class from there)
     from office.web import __main__
+    from office.web.applications import commit
     from office.web.copies import copies
+
+    commit.MOST_ROWS = int(os.environ.get("MOST_ROWS", commit.MOST_ROWS))
 
     # (on a machine that is busy a copy takes longer than on that of an office)
     copies.BEGIN_SECONDS = copies.BACK_SECONDS = 600.0

@@ -328,3 +328,60 @@ def test_applications_are_added_whenever_the_application_is_killed(
     rows = store.rows("SELECT DISTINCT state, entry FROM staged_row")
     assert [tuple(it) for it in rows] == [(COMMITTED, entry)]
     store.close()
+
+
+@pytest.mark.parametrize("who, when", [
+    ("office", "came"), ("office", "passed"), ("office", "answered"), ("desk", "came"),
+    ("desk", "passed")])
+def test_each_part_of_the_applications_is_added_once_whoever_is_killed(
+    tmp_path: pathlib.Path, monkeypatch: pytest.MonkeyPatch, who: str, when: str
+) -> None:
+    """Of three parts the second is on its way when the application is killed, or the register's
+    server: before the request passes, after it, and after its answer. It goes on where it was,
+    without another question: each part is in the register once, and the history says so.
+    """
+    monkeypatch.setenv("MOST_ROWS", "5")
+    dead = threading.Event()
+    make(tmp_path / "reg.db", [school("OAK"), school("ELM")])
+    with season_hands.room(tmp_path / "machine", tmp_path / "reg.db") as lived:
+        lived.today("2024-11-07")
+        lived.begin("--person", "hal")
+        hal = lived.person("hal").arrive(lived.first_password())
+        hal.get("/applications/").press("Add the files", files={
+            "files/1": ("first.csv", csv_of(*APPLIED))})
+        hal.get("/applications/commit/")
+        sent = hal.sent("Add 12 applications")
+
+        def kill() -> None:
+            # (the server is another one since the copy)
+            run = lived.run if who == "office" else lived.machine.run
+            assert run
+            os.killpg(run.pid, signal.SIGKILL)
+            dead.set()
+
+        lived.way.trap = 2, when, kill
+        with contextlib.suppress(OSError, http.client.HTTPException):
+            hal.ask("POST", *sent)
+        assert dead.wait(120)
+        if who == "office":
+            lived.kill()
+            lived.begin()
+        else:
+            lived.machine.stop()
+            lived.machine.start()
+        until = time.monotonic() + 120
+        while "There is nothing to add" not in (
+                page := hal.get("/applications/commit/").page.by_id).get("verdict", ""):
+            assert time.monotonic() < until, page
+            time.sleep(0.05)
+        assert [it["child"] for it in lived.document()["children"]] == list(range(1, 13))
+        assert [path for path, _ in lived.way.passed] == ["/import"] * 3
+        assert len({body for _, body in lived.way.passed}) == 3
+        lived.kill()
+        state = lived.machine.state
+    record = history.read(str(state / "history.jsonl"))
+    assert imports_of(record).count(True) == 3
+    store = Store(str(state / "office.db"))
+    rows = store.rows("SELECT state, count(*) FROM staged_row GROUP BY state, entry ORDER BY entry")
+    assert [tuple(it) for it in rows] == [(COMMITTED, 5), (COMMITTED, 5), (COMMITTED, 2)]
+    store.close()

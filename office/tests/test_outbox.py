@@ -15,10 +15,11 @@ from served import served
 from test_desk import APPLIED, CHILDREN, JANE, ROUND, ROW, ROWS, SCHOOLS, about
 
 from office.core import command_kinds, fields, senders
+from office.web.applications import commit
 from office.web.applications.commit import Committing
 from office.web.applications.files import Given
 from office.web.applications.imports import Imports
-from office.web.applications.rows import COMMITTED
+from office.web.applications.rows import COMMITTED, OPEN
 from office.web.applications.staging import Staging, insert
 from office.web.applications.table_check import Checker
 from office.web.copies.copies import Copies
@@ -202,16 +203,21 @@ def test_each_school_of_a_draft_is_stored_once_whenever_the_application_is_kille
         assert all(it and command_kinds.is_done(register, it) for it in wanted)
 
 
+@pytest.mark.parametrize("most", [2000, 1])
 def test_the_rows_of_an_import_are_stored_once_whenever_the_application_is_killed(
-    address: str, tmp_path: pathlib.Path
+    address: str, tmp_path: pathlib.Path, monkeypatch: pytest.MonkeyPatch, most: int
 ) -> None:
     """They are in the table or stored, and never both: once somebody has confirmed them, whichever
-    application goes on.
+    application goes on. Also where one request takes few of them, so that they have several parts.
     """
+    monkeypatch.setattr(commit, "MOST_ROWS", most)
     lines: list[bytes] = []
-    rows = ROWS.replace("30,Ida,0,3000", "31,Idris,0,9000").partition("\n")[2]
+    head, _, row = ROWS.partition("\n")
+    rows = [row, *(row.replace("30,Ida,0,3000", it) for it in (
+        "31,Idris,0,9000", "32,Ivo,0,9900"))]
     with alive(tmp_path, address, Life(), kind=committing) as box:
-        found = [dict(fields.OMITTED, **it) for it in csv.DictReader(io.StringIO(ROWS + rows))]
+        found = [dict(fields.OMITTED, **it)
+                 for it in csv.DictReader(io.StringIO("".join([f"{head}\n", *rows])))]
         with box.staging.writing() as db:
             db.execute("INSERT INTO staged_file VALUES (1, 'a.csv', '', 0, 0, '[]', '', '', NULL)")
             for number, it in enumerate(found, 2):
@@ -224,13 +230,18 @@ def test_the_rows_of_an_import_are_stored_once_whenever_the_application_is_kille
                 box.go_on()
                 break
             except Killed:
-                continue
+                # (what is sent in parts is in the table or locked, whole)
+                states = {it["state"] for it in box.staging.store.rows(
+                    "SELECT state FROM staged_row")}
+                assert {OPEN, COMMITTED} - states
     with alive(tmp_path, address, Life(), kind=committing) as box:
-        entries = [it.number for it in box.desk.history.done() if "import" in it.about]
-        there = box.staging.store.rows("SELECT state, entry FROM staged_row")
-        assert at > 4 and lines == [shown.csv] and len(entries) == 1
-        assert box.imports.last() is None and {30, 31} <= box.desk.now().children.keys()
-        assert [tuple(it) for it in there] == [(COMMITTED, entries[0])] * 2
+        entries = sorted(it.number for it in box.desk.history.done() if "import" in it.about)
+        there = box.staging.store.rows("SELECT state, entry FROM staged_row ORDER BY number")
+        assert at > 4 and lines == [it.csv for it in shown.content.parts]
+        assert len(lines) == len(entries) == (1 if most > 1 else 3)
+        assert box.imports.last() is None and {30, 31, 32} <= box.desk.now().children.keys()
+        assert [tuple(it) for it in there] == [
+            (COMMITTED, entries[0 if most > 1 else it]) for it in range(3)]
 
 
 @pytest.mark.parametrize("is_after", [False, True])

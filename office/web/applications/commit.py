@@ -1,5 +1,5 @@
 """Storing the staging table in the register: what would be stored, shown whole before; one import,
-which is stored wholly or not at all; and what became of it.
+of which each part is stored wholly or not at all; and what became of it.
 
 A job does it, also one of an application after this one.
 """
@@ -7,20 +7,24 @@ import collections
 import dataclasses
 import functools
 import hashlib
+import itertools
 import json
-from collections.abc import Callable
+from collections.abc import Callable, Iterable, Iterator, Sequence
 
 from register_files import Refused
 
 from office.core import child_fields, days, fields, texts
 from office.core.model import PLAN, Register
+from office.core.rules import LIMITS
+from office.core.wording import sentence
 from office.files import sheet
+from office.web.areas.map import Map
 from office.web.machinery.outbox import DONE, FAILED, WAITS
 from office.web.machinery.step_jobs import WAIT_SECONDS
 from office.web.people.roles import Person
 from office.web.register.desk import Away
 
-from .imports import CHANGED, Content, Import, Imports, digest_of
+from .imports import CHANGED, Content, Import, Imports, Part, digest_of
 from .row_check import values_of
 from .rows import OPEN, SENDING, WITHDRAWN, Staged, packed_notes
 from .staging import Staging
@@ -30,6 +34,9 @@ from .table_check import Checked, Checker, Differences, Table, too_many
 PURPOSE = "before applications are added"
 # the job that adds what was confirmed
 ADDING = "applications"
+# so many rows and bytes one request takes, and the header of each
+MOST_ROWS, MOST_BYTES = LIMITS["rows"].most, LIMITS["body"].most
+HEAD = sheet.csv_bytes([fields.COLUMNS])
 
 
 @dataclasses.dataclass(frozen=True)
@@ -58,25 +65,25 @@ class Commit:
     @functools.cached_property
     def csv(self) -> bytes:
         """The rows as an import takes them."""
-        return sheet.csv_bytes([fields.COLUMNS, *(values_of(it.row) for it in self.rows)])
+        return HEAD + b"".join(map(line_of, self.rows))
 
-    @property
+    @functools.cached_property
+    def parts(self) -> list[list[Checked]]:
+        """The rows in the parts in which they are stored."""
+        return list(in_parts(self.rows))
+
+    @functools.cached_property
     def content(self) -> Content:
         """What an import of the rows sends."""
-        return Content(
-            self.csv, {it.row.fields["child"]: it.staged.point_words for it in self.rows},
-            self.of_areas,
-            [it.staged.id for it in self.rows], [(it.id, it.version) for it in self.equal])
+        return Content([part_of(it, self.table.areas) for it in self.parts],
+                       [(it.id, it.version) for it in self.equal])
 
     @property
     def of_areas(self) -> str:
         """Where the catchment schools came from of rows in which none is written, and how many
         these are; or "".
         """
-        areas = self.table.areas
-        many = sum(bool(it.row.fields["catchments"]) and not it.staged.cells["catchments"].strip()
-                   for it in self.rows) if areas else 0
-        return f"{areas.source}: {texts.count(many, 'row')}" if areas and many else ""
+        return source_of(self.rows, self.table.areas)
 
     @property
     def differing(self) -> list[tuple[Staged, Differences]]:
@@ -124,6 +131,41 @@ class Commit:
                 for it in (*(it.staged for it in self.table.rows.values()), *self.withdrawn)]
         shown = json.dumps([rows, self.csv.decode(), basis_of(self.register)])
         return hashlib.sha256(shown.encode()).hexdigest()
+
+
+def line_of(it: Checked) -> bytes:
+    """A row as an import takes it."""
+    return sheet.csv_bytes([values_of(it.row)])
+
+
+def in_parts(rows: Iterable[Checked]) -> Iterator[list[Checked]]:
+    """Rows in their order, in parts of as many as one request takes."""
+    part, size = list[Checked](), len(HEAD)
+    for it in rows:
+        more = len(line_of(it))
+        if part and (len(part) == MOST_ROWS or size + more > MOST_BYTES):
+            yield part
+            part, size = [], len(HEAD)
+        part.append(it)
+        size += more
+    if part:
+        yield part
+
+
+def part_of(rows: Sequence[Checked], areas: Map | None) -> Part:
+    """Rows as a part of an import."""
+    return Part(HEAD + b"".join(map(line_of, rows)),
+                {it.row.fields["child"]: it.staged.point_words for it in rows},
+                source_of(rows, areas), [it.staged.id for it in rows])
+
+
+def source_of(rows: Sequence[Checked], areas: Map | None) -> str:
+    """Where the catchment schools came from of rows in which none is written, and how many these
+    are; or "".
+    """
+    many = sum(bool(it.row.fields["catchments"]) and not it.staged.cells["catchments"].strip()
+               for it in rows) if areas else 0
+    return f"{areas.source}: {texts.count(many, 'row')}" if areas and many else ""
 
 
 def basis_of(register: Register) -> list[object]:
@@ -203,27 +245,44 @@ class Committing:
                 self.store(it, is_again)
 
     def store(self, it: Import, is_again: bool) -> None:
-        """Stores what was confirmed, if it is as it was shown, after a copy of the register."""
+        """Stores what was confirmed, if it is as it was shown, after a copy of the register; or the
+        parts of it that are left.
+        """
         try:
-            found = self.found(self.desk.now())
-            if said := self.why_not(it, found):
+            found = None if it.before else self.found(self.desk.now())
+            if found and (said := self.why_not(it, found)):
                 self.imports.change(it, FAILED, said)
                 return
-            it = self.imports.compared(it, found.content)
-            if found.rows:
-                self.copy(PURPOSE, it.asker)
+            parts = found.content.parts if found else self.rest(it)
+            if found:
+                it = self.imports.compared(it, found.content)
+                if parts:
+                    self.copy(PURPOSE, it.asker)
         except Refused as error:
             # (it goes on when the application does, and a register that begins beside it answers)
             if self.jobs.is_closed or is_again and isinstance(error, Away):
                 raise
-            self.imports.change(it, FAILED, f"Nothing was added: {error}.")
+            self.imports.change(
+                it, FAILED, sentence(f"{'' if it.before else 'Nothing was added: '}{error}"))
             return
-        if not found.rows:
+        if not parts:
             self.imports.change(it, DONE, "")
             return
-        result = self.imports.send_rows(it, found.content)
+        result = self.imports.send_parts(it, parts)
         if result and not result.is_known:
             raise Refused(result.said)
+
+    def rest(self, it: Import) -> list[Part]:
+        """The parts of an import that are left, as they were shown."""
+        if not self.imports.is_there(it):
+            raise Refused("the register was restored meanwhile")
+        register = self.desk.now()
+        rows = iter(self.checker.alone(self.staging.rows(SENDING), register))
+        parts = [part_of(list(itertools.islice(rows, many)), self.checker.map_of(register))
+                 for _, many in it.left]
+        if [(part.digest, len(part.rows)) for part in parts] != it.left:
+            raise Refused("its rows are read otherwise now than as they were shown")
+        return parts
 
     def why_not(self, it: Import, found: Commit) -> str:
         """Why what was confirmed is not stored, in a sentence, or ""."""
@@ -246,6 +305,10 @@ class Committing:
             return f"Applications are being added to the register, as {it.asker} has confirmed."
         why = (job.refused.rstrip(".") if job else "") or "load this page again"
         if it.state == WAITS:
-            return f"The applications that {it.asker} has confirmed are not added yet: {why}."
-        many = texts.count(self.staging.count(SENDING), "application")
-        return f"Whether {many} of this table are in the register is not known yet: {why}."
+            which = f"Of the {it.many:,}" if it.before else "The"
+            added = f", {it.stored:,} are added, and {it.part} is" if it.before else " are"
+            return (f"{which} applications that {it.asker} has confirmed{added} not added yet:"
+                    f" {why}.")
+        many = it.left[0][1] if it.part else self.staging.count(SENDING)
+        return (f"Whether {texts.count(many, 'application')} of this table are in the register is"
+                f" not known yet: {why}.")

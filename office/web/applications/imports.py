@@ -1,18 +1,21 @@
-"""Imports of rows of the staging table, as requests of the outbox: what a person has confirmed, the
-rows that are marked with it while they are sent, and what came of it. Where the application ends
-before they are marked again, the history and the register say that, and nothing is sent a second
-time.
+"""Imports of rows of the staging table, as requests of the outbox: what a person has confirmed, in
+parts of as many rows as one request takes, each of which is stored wholly or not at all; the rows
+that are marked with it while they are sent, and what came of it. Where the application ends before
+they are marked again, the history and the register say that, and nothing is sent a second time.
 """
 import contextlib
 import dataclasses
+import functools
 import hashlib
-from collections.abc import Sequence
+import sqlite3
+from collections.abc import Iterable, Sequence
 
 from register_files import Refused
 
 from office.core import commands, rules, texts
+from office.core.wording import sentence
 from office.web.machinery.jobs import Jobs
-from office.web.machinery.outbox import DONE, FAILED, WAITS, Item, Outbox, Request
+from office.web.machinery.outbox import DONE, FAILED, WAITS, Item, Outbox, Request, packed
 from office.web.people.roles import Person
 from office.web.register.desk import LOST, UNSENT, Desk, Result
 from office.web.register.history import ANSWER, SENDS, Entry, now
@@ -29,25 +32,39 @@ REFUSED = "refused"
 
 
 @dataclasses.dataclass(frozen=True)
-class Content:
-    """What an import sends: its rows as an import takes them, where the points of their homes came
+class Part:
+    """A part of an import: its rows as a request has them, where the points of their homes came
     from, by the numbers of the children, where catchment schools came from that no file has, and
-    their ids; and the ids of rows that only leave the table, as the register has them, each with
-    its version.
+    the ids of the rows.
     """
 
     csv: bytes
     points: dict[str, str]
     catchments: str
     rows: list[int]
+
+    @functools.cached_property
+    def digest(self) -> str:
+        """The digest of its rows."""
+        return digest_of(self.csv)
+
+
+@dataclasses.dataclass(frozen=True)
+class Content:
+    """What an import sends, in parts; and the ids of rows that only leave the table, as the
+    register has them, each with its version.
+    """
+
+    parts: list[Part]
     out: list[tuple[int, int]]
 
 
 @dataclasses.dataclass(frozen=True)
 class Import(Item):
     """An import: who has confirmed it, and when (UTC); the digest of what they saw; once that is
-    compared, the digest and the number of its rows, and those that only leave the table, each in
-    its version.
+    compared, the digest and the number of the rows of its present part, and of each part after it;
+    the entries by which the parts before it were stored; and the rows that only leave the table,
+    each in its version.
     """
 
     @property
@@ -71,21 +88,61 @@ class Import(Item):
         return list(self.about.get("out", ()))
 
     @property
-    def mark(self) -> str:
-        """What its rows have while they are sent, and afterwards. (An earlier version had each in a
-        batch of this name.)
+    def before(self) -> list[tuple[int, int]]:
+        """The parts before the present one, which are stored: the entry of each, and how many rows
+        it had.
         """
-        return self.batch if self.batch != TABLE else f"{self.after} {self.about.get('digest')}"
+        return [(entry, many) for entry, many in self.about.get("before", ())]
+
+    @property
+    def left(self) -> list[tuple[str, int]]:
+        """The present part and those after it: the digest of each, and how many rows it has."""
+        present = [(self.about["digest"], self.about["rows"])] if "rows" in self.about else []
+        return [*present, *((digest, many) for digest, many in self.about.get("after", ()))]
+
+    @property
+    def entries(self) -> list[int]:
+        """The entries by which its rows were stored."""
+        return [*(entry for entry, _ in self.before), *([self.sent] if self.sent else [])]
+
+    @property
+    def stored(self) -> int:
+        """How many rows are stored by the parts before the present one."""
+        return sum(many for _, many in self.before)
+
+    @property
+    def many(self) -> int:
+        """How many rows it has in all its parts."""
+        return self.stored + sum(many for _, many in self.left)
+
+    @property
+    def part(self) -> str:
+        """The present part in words, or "" of an import that has no other."""
+        last = len(self.before) + len(self.left)
+        return f"part {len(self.before) + 1} of {last}" if last > 1 else ""
+
+    def mark(self, digest: str) -> str:
+        """What the rows of a part have while they are sent, and afterwards: as all are marked with
+        the first part, after how many entries that was. (An earlier version had each in a batch of
+        this name.)
+        """
+        if self.batch != TABLE:
+            return self.batch
+        return f"{self.about.get('since', self.after)} {digest}"
 
     @property
     def runs(self) -> str:
         """What is done with it now."""
-        if "rows" not in self.about:
+        if not self.left:
             return "the table is compared with what was shown"
-        many = texts.count(self.about["rows"], "application is", "applications are")
-        if self.state == WAITS:
+        if self.state == WAITS and not self.before:
+            many = texts.count(self.many, "application is", "applications are")
             return f"the register is copied, and then {many} added to it"
-        return f"{many} sent to the register, which takes all or none"
+        many = texts.count(self.left[0][1], "application is", "applications are")
+        if not self.part:
+            return f"{many} sent to the register, which takes all or none"
+        return (f"{self.part}: {many} sent to the register, which takes all or none of a part;"
+                f" {self.stored:,} of {self.many:,} are added")
 
 
 class Imports(Outbox[Import]):
@@ -98,7 +155,8 @@ class Imports(Outbox[Import]):
     def __init__(self, staging: Staging, desk: Desk, jobs: Jobs) -> None:
         super().__init__(staging.store, desk, jobs)
         self.staging = staging
-        self.sent_now: Content | None = None
+        # the parts that are being sent, the present one first
+        self.sent_now: list[Part] = []
         self.ended_last: Import | None = None
 
     def last(self) -> Import | None:
@@ -132,40 +190,56 @@ class Imports(Outbox[Import]):
 
     def is_stored(self, it: Import) -> bool:
         """Whether an import is done, and no restore has undone it."""
-        return it.state == DONE and (it.sent is None or it.sent in self.desk.history.lineage())
+        return it.state == DONE and self.is_there(it)
+
+    def is_there(self, it: Import) -> bool:
+        """Whether no restore has undone what is stored of an import."""
+        there = self.desk.history.lineage()
+        return all(entry in there for entry in it.entries)
 
     def compared(self, it: Import, content: Content) -> Import:
         """An import with what it sends, once that was compared with what was shown."""
-        self.revise(it, {**it.about, "digest": digest_of(content.csv), "rows": len(content.rows),
-                         "out": content.out})
+        present, *after = [(it.digest, len(it.rows)) for it in content.parts] or [
+            (digest_of(b""), 0)]
+        about = {**it.about, "digest": present[0], "rows": present[1], "out": content.out}
+        self.revise(it, {**about, "after": after} if after else about)
         [made] = self.of(it.batch)
         return made
 
-    def send_rows(self, it: Import, content: Content) -> Result | None:
-        """Sends the rows of an import."""
-        self.sent_now = content
-        try:
-            return self.send(Person(it.asker, ""), [it])
-        finally:
-            self.sent_now = None
+    def send_parts(self, it: Import, parts: Sequence[Part]) -> Result | None:
+        """Sends the present part of an import and those after it, until the end or until one is not
+        stored: then what came of that, if it was not sent or is not known to be stored.
+        """
+        for at in range(len(parts)):
+            self.sent_now = list(parts[at:])
+            try:
+                result = self.send(Person(it.asker, ""), [it])
+            finally:
+                self.sent_now = []
+            now = self.present()
+            if result or now is None or len(now.before) == len(it.before):
+                return result
+            it = now
+        return None
 
     def request(self, it: Import) -> Request:
-        """The rows of an import, with where the points of their homes and their catchment schools
-        came from.
+        """The rows of a part, with where the points of their homes and their catchment schools came
+        from.
         """
-        assert self.sent_now
-        sources = {"points": self.sent_now.points, "catchments": self.sent_now.catchments}
-        return {"import": self.sent_now.csv.decode(),
+        part = self.sent_now[0]
+        sources = {"points": part.points, "catchments": part.catchments}
+        return {"import": part.csv.decode(),
                 **{name: found for name, found in sources.items() if found}}
 
     def begin(self, who: Person, it: Import) -> Import | None:
-        """Marks an import as being sent, and its rows with it."""
+        """Marks an import as being sent, and with its first part the rows of all."""
         with self.staging.writing() as db:
             begun = super().begin(who, it)
-            if begun and self.sent_now:
+            if begun and not begun.before:
                 db.executemany(
                     "UPDATE staged_row SET state=?, sent=?, version=version+1 WHERE id=?",
-                    [(SENDING, begun.mark, row) for row in self.sent_now.rows])
+                    [(SENDING, begun.mark(part.digest), row)
+                     for part in self.sent_now for row in part.rows])
         return begun
 
     def ended(self, it: Import, result: Result) -> None:
@@ -177,23 +251,47 @@ class Imports(Outbox[Import]):
                 super().ended(it, result)
 
     def change(self, it: Import, state: str, said: str, sent: int | None = None) -> None:
-        """Keeps what came of an import: its rows are stored, or are in the table again."""
-        is_done = state == DONE
+        """Keeps what came of an import. Once a part is stored the next one waits. Where one is not,
+        its rows are in the table again, and those of the parts after it; but while parts before it
+        are stored and it only waits, they stay as they are.
+        """
         with self.staging.writing() as db:
-            rows = db.execute("SELECT id FROM staged_row WHERE state=? AND sent=?"
-                              " ORDER BY file, number", (SENDING, it.mark)).fetchall()
-            db.executemany("UPDATE staged_row SET state=?, entry=?, version=version+1 WHERE id=?",
-                           [(COMMITTED if is_done else OPEN, sent if is_done else None, row["id"])
-                            for row in rows])
-            if is_done:
+            marked = [marked_with(db, it.mark(digest)) for digest, _ in it.left or [("", 0)]]
+            present, *after = marked
+            if state == DONE:
+                mark_as(db, COMMITTED, present, sent)
+            elif state == FAILED or not it.before:
+                mark_as(db, OPEN, sum(marked, []))
+            if state == DONE and after:
+                self.begin_next(db, it, sent)
+                return
+            if state == DONE:
                 db.executemany("UPDATE staged_row SET state=?, sent='', version=version+1"
                                " WHERE id=? AND version=? AND state=?",
                                [(COMMITTED, *row, OPEN) for row in it.out])
-            elif state == FAILED and sent:
-                said = self.refusal([row["id"] for row in rows], sent) or said
+            elif state == FAILED:
+                said = self.why_failed(it, present, said, sent)
             super().change(it, state, said, sent)
         if state in (DONE, FAILED):
             self.ended_last = dataclasses.replace(it, state=state, said=said, sent=sent)
+
+    def begin_next(self, db: sqlite3.Connection, it: Import, sent: int | None) -> None:
+        """Has the next part of an import wait, once an entry has stored the present one."""
+        (_, many), (digest, rows), *after = it.left
+        about = {**it.about, "digest": digest, "rows": rows, "after": after,
+                 "before": [*it.before, (sent, many)], "since": it.about.get("since", it.after)}
+        db.execute("UPDATE sending SET state=?, about=? WHERE number=?",
+                   (WAITS, packed(about), it.number))
+
+    def why_failed(self, it: Import, rows: Sequence[int], said: str, sent: int | None) -> str:
+        """Why an import has failed, with what of it is stored all the same."""
+        why = self.refusal(rows, sent) if sent else ""
+        if not it.before:
+            return f"Nothing was added: {why}." if why else said
+        left = texts.count(it.many - it.stored, "row is", "rows are")
+        return (f"{it.stored:,} of {it.many:,} applications were added to the register."
+                f" {sentence(it.part).rstrip('.')} was not added, and {left} in the table again."
+                f" {sentence(why) if why else said}")
 
     def refusal(self, rows: Sequence[int], sent: int) -> str:
         """Why the register has refused rows, in words; or "". It is kept with the row that the
@@ -206,13 +304,13 @@ class Imports(Outbox[Import]):
         number = value.get("row") if isinstance(value, dict) else None
         why = why_refused(value)
         if not isinstance(number, int) or not 0 < number <= len(rows):
-            return f"Nothing was added: {why}."
+            return why
         row = self.staging.row(rows[number - 1])
         notes = [*row.notes, Note("", f"the register does not take it: {why}", fault=REFUSED)]
         with self.staging.writing() as db:
             db.execute("UPDATE staged_row SET notes=?, version=version+1 WHERE id=?",
                        (packed_notes(notes), row.id))
-        return f"Nothing was added: the register does not take {row.where}: {why}."
+        return f"the register does not take {row.where}: {why}"
 
     def forget(self, it: Import) -> None:
         """Removes an import that has failed, once somebody was told."""
@@ -228,6 +326,21 @@ class Imports(Outbox[Import]):
         return next((one for one in reversed(history.entries[it.after:])
                      if one.what == SENDS and one.number in there and "import" in one.about
                      and digest_of(one.about["import"].encode()) == it.about["digest"]), None)
+
+
+def marked_with(db: sqlite3.Connection, mark: str) -> list[int]:
+    """The rows that are being sent with a mark, in their order."""
+    return [it["id"] for it in db.execute(
+        "SELECT id FROM staged_row WHERE state=? AND sent=? ORDER BY file, number",
+        (SENDING, mark))]
+
+
+def mark_as(
+    db: sqlite3.Connection, state: str, rows: Iterable[int], sent: int | None = None,
+) -> None:
+    """Gives rows a state, and the entry that has stored them, if one has."""
+    db.executemany("UPDATE staged_row SET state=?, entry=?, version=version+1 WHERE id=?",
+                   [(state, sent, row) for row in rows])
 
 
 def digest_of(rows: bytes) -> str:

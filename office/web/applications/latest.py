@@ -32,22 +32,23 @@ def numbers_in(args: Args, name: str) -> tuple[int, ...]:
                  if it.isascii() and it.isdigit() and len(it) < 10)
 
 
-def said_of_added(staging: Staging, entry: int, out: int) -> str:
-    """What is said of rows that were stored by an entry of the history, and of those beside them
+def said_of_added(staging: Staging, entries: Sequence[int], out: int) -> str:
+    """What is said of rows that were stored by entries of the history, and of those beside them
     that only left the table.
     """
-    many = texts.count(staging.stored(entry), "application")
-    said = [f"Added to the register: {many}."] if entry else []
+    many = texts.count(sum(map(staging.stored, entries)), "application")
+    said = [f"Added to the register: {many}."] if entries else []
     left = [f"{texts.count(out, 'row')} that the register had are out of the table."]
     return " ".join(said + left if out else said)
 
 
 def last(staging: Staging, args: Args) -> Last:
     """What was done last."""
-    entry, out, aside, undone = (
-        numbers.read(args.get(it, ""), 0) for it in ("done", "out", "aside", "undone"))
-    if entry or out:
-        return Last(said_of_added(staging, entry, out), is_added=True)
+    out, aside, undone = (
+        numbers.read(args.get(it, ""), 0) for it in ("out", "aside", "undone"))
+    entries = numbers_in(args, "done")
+    if entries or out:
+        return Last(said_of_added(staging, entries, out), is_added=True)
     saved = numbers_in(args, "row")
     if aside:
         return Last(f"Set aside: {staging.row(aside).where}. It can be put back from the rows that"

@@ -23,7 +23,7 @@ from .row_points import OWN
 from .rows import (
     COMMITTED, OPEN, PROPOSED, SENDING, WITHDRAWN, Staged, packed, packed_notes, places_of,
 )
-from .staging import MOST_OPEN, Meanwhile, Staging, insert
+from .staging import Meanwhile, Staging, insert
 
 Pair = tuple[Staged, Staged]
 
@@ -104,9 +104,9 @@ def propose(staging: Staging, who: str, file: int, name: str, data: bytes, given
             raise Refused("there is no such file in the table")
         if old["digest"] == digest:
             raise Refused(f"{name} is the file that is in the table")
-        if len(given.rows) > MOST_OPEN:
+        if len(given.rows) > (most := staging.most()):
             raise Refused(f"{name} has {len(given.rows):,} rows, and the table has place for"
-                          f" {MOST_OPEN:,}")
+                          f" {most:,}")
         with staging.writing() as db:
             discard(staging, file)
             made = db.execute(

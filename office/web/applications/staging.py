@@ -9,7 +9,7 @@ import hashlib
 import json
 import sqlite3
 import threading
-from collections.abc import Iterable, Iterator, Mapping
+from collections.abc import Callable, Iterable, Iterator, Mapping
 
 from register_files import Refused
 
@@ -27,6 +27,7 @@ from .rows import (
     packed_notes, places_of, see_lengths, staged_of, told,
 )
 
+# so many rows the table has at most beside a register whose size is not known
 MOST_OPEN = LIMITS["rows"].most
 FORM = "forms"
 ROWS = ("SELECT staged_row.*, staged_file.name, staged_file.is_uk, staged_file.is_form"
@@ -40,8 +41,11 @@ class Meanwhile(Refused):
 class Staging:
     """The staging table of one application."""
 
-    def __init__(self, store: Store, record: History) -> None:
-        self.store, self.history = store, record
+    def __init__(
+        self, store: Store, record: History, most: Callable[[], int] = lambda: MOST_OPEN,
+    ) -> None:
+        # (how many rows have place, by the size of the register)
+        self.store, self.history, self.most = store, record, most
         # held while a row is compared and changed, and while rows are sent
         self.lock = Turn(threading.RLock(), "somebody else is storing these applications")
         # the rows as they were read last, of which each change makes another version
@@ -55,7 +59,8 @@ class Staging:
         for it in found:
             old = known.get(it["id"])
             made[it["id"]] = old if old and old.version == it["version"] else staged_of(it)
-        self.read = {**known, **made} if len(known) < 5 * MOST_OPEN else made
+        most = 5 * max(MOST_OPEN, len(made))
+        self.read = {**known, **made} if len(known) < most else made
         return list(made.values())
 
     def count(self, *states: str) -> int:
@@ -100,11 +105,11 @@ class Staging:
         return int(found["many"]) if found else 0
 
     def see_place(self, more: int) -> None:
-        """Refuses more rows than can be sent at once."""
-        has = self.count(OPEN, SENDING)
-        if has + more > MOST_OPEN:
+        """Refuses more rows than the register can have children."""
+        has, most = self.count(OPEN, SENDING), self.most()
+        if has + more > most:
             raise Refused(f"the table would have {has + more:,} rows, and has place for"
-                          f" {MOST_OPEN:,}: store or withdraw those that are there first")
+                          f" {most:,}: store or withdraw those that are there first")
 
     def add_file(self, who: str, name: str, data: bytes, is_uk: bool, given: Read) -> int:
         """Adds the rows of a file, and returns its id. The same file is not added twice."""

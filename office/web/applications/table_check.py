@@ -75,7 +75,7 @@ class Checker:
         new or were changed are read, and a table that is as it was is not made again.
         """
         words, members = self.words(), register.children if register else None
-        areas = self.areas(register.schools) if register and register.is_large else None
+        areas = self.map_of(register)
         versions = [(it.id, it.version) for it in rows]
         beside = (register.schools if register else None, register.days if register else None,
                   words, areas)
@@ -93,6 +93,15 @@ class Checker:
             with self.lock:
                 self.last = (members, versions, made) if beside == self.beside else None
         return made
+
+    def map_of(self, register: Register | None) -> Map | None:
+        """The catchment areas of the schools of a large register."""
+        return self.areas(register.schools) if register and register.is_large else None
+
+    def alone(self, rows: Iterable[Staged], register: Register) -> list[Checked]:
+        """Rows with what is found in each alone."""
+        words, areas = self.words(), self.map_of(register)
+        return [checked(it, register, words, areas) for it in rows]
 
 
 def checked(

@@ -10,6 +10,7 @@ from register_files import Refused
 from office.core.model import Register
 from office.web.machinery import numbers
 from office.web.people.guard import parts
+from office.web.register.desk import Desk
 from office.web.schools import flags
 
 from .commit import Committing
@@ -17,7 +18,7 @@ from .gazetteer import Gazetteer
 from .imports import Imports
 from .row_points import Points
 from .rows import OPEN
-from .staging import Staging
+from .staging import MOST_OPEN, Staging
 from .table_check import Checker, Table
 
 
@@ -34,7 +35,7 @@ class Tools:
 def begin(state: Any) -> None:
     """Makes them with an application."""
     found = state.app.extensions["office"]
-    staging = Staging(found.store, found.history)
+    staging = Staging(found.store, found.history, lambda: most_rows(found.desk))
     checker = Checker(lambda: flags.words_of(found.store), found.areas.map)
     imports = Imports(staging, found.desk, found.jobs)
     committing = Committing(staging, checker, imports, found.copies.make)
@@ -43,6 +44,16 @@ def begin(state: Any) -> None:
     state.app.extensions["staging"] = Tools(staging, checker, committing, points)
     # (what an application before this one has left)
     committing.wake()
+
+
+def most_rows(desk: Desk) -> int:
+    """How many rows have place in the table: as many as the register can have children, by its
+    size, which stays.
+    """
+    try:
+        return (desk.copy.register if desk.copy else desk.register()).most("children")
+    except Refused:
+        return MOST_OPEN
 
 
 def tools() -> Tools:

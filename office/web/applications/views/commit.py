@@ -6,7 +6,9 @@ from register_files import Refused
 from werkzeug.wrappers import Response
 
 from office.core.wording import sentence
+from office.web.machinery import tables
 from office.web.machinery.outbox import DONE, FAILED
+from office.web.machinery.tables import Paged
 from office.web.people.guard import needs, parts, person
 from office.web.people.roles import RECORD
 
@@ -16,6 +18,7 @@ from ..commit import Commit
 from ..imports import REFUSED, Import
 from ..latest import said_of_saved
 from ..rows import OPEN, Staged
+from ..table_check import Checked
 from ..tools import is_collecting, tools
 
 screen = flask.Blueprint("applications_commit", __name__, url_prefix="/applications/commit")
@@ -44,7 +47,7 @@ def page(text: str = "", failed: Import | None = None) -> Answer:
     done, last = latest.last(staging, args), committing.imports.last()
     did = [said_of_saved(found.table, done.saved) if found else "", done.text]
     if last and last.state == DONE and str(last.number) == args.get("adding"):
-        did = [latest.said_of_added(staging, last.sent or 0, len(last.out))]
+        did = [latest.said_of_added(staging, last.entries, len(last.out))]
     body = flask.render_template(
         "applications_commit.html", said=" ".join(said or filter(None, did)), is_bad=bool(said),
         undo=latest.undo_of(staging, args), found=found, work=work, unknown=unknown,
@@ -52,9 +55,17 @@ def page(text: str = "", failed: Import | None = None) -> Answer:
         refused=refused_in(found) if found and failed and failed.sent else None,
         title_of=staging_page.title_of, names=names_of(found) if found else [],
         aside=fault_kinds.aside(found.wrong) if found else None,
+        rows=rows_of(found) if found else None,
+        address=tables.pages("applications_commit.show"),
         read_as=[(it.name, it.changes) for it in staging.files() if it.changes and it.counts[OPEN]],
         most_aside=MOST_ASIDE, may_change=found is not None and is_collecting(found.register))
     return body, status
+
+
+def rows_of(found: Commit) -> Paged[Checked]:
+    """The rows that would be stored: those of one part whole, and of several by pages."""
+    most = len(found.rows) if len(found.parts) < 2 else 0
+    return tables.paged(found.rows, flask.request.args.get("page", "1"), most)
 
 
 def refused_in(found: Commit) -> Staged | None:
@@ -89,5 +100,5 @@ def store() -> Answer:
     if found.is_open:
         to = flask.url_for("applications_commit.show", adding=found.number)
     else:
-        to = flask.url_for("applications.show", done=found.sent, out=len(found.out) or None)
+        to = flask.url_for("applications.show", done=found.entries, out=len(found.out) or None)
     return flask.redirect(to, 303)
