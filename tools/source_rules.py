@@ -233,7 +233,7 @@ class Rules:
             )
         form = r"(\w+) \(?(\w+)(?: \w+\))? = (true|false)"
         sized = self.equations("adm_types/Limits.is_allowed", form)
-        large: dict[str, dict[str, bool]] = {it[2]: {"large": True} for it in sized if it[3] == "false"}
+        large = {it[2] for it in sized if it[3] == "false"}
         _, text = self.parts("adm_types/Criteria.criterion_of")
         made: list[dict[str, Any]] = []
         while first := re.fullmatch(
@@ -241,10 +241,11 @@ class Rules:
         ):
             if limits.pop(first[2], None) != {}:
                 raise FormError(f"adm_types/Criteria.criterion_of has another form: {text}")
-            made.append({"text": first[1], **large.get(first[2], {})})
+            made.append({"text": first[1], **({"large": True} if first[2] in large else {})})
             text = first[3]
         for variant, kind, prefix in self.read_after(parsed(text)):
-            made.append({"text": prefix, "value": kind, **limits.pop(variant), **large.get(variant, {})})
+            of_large = {"large": True} if variant in large else {}
+            made.append({"text": prefix, "value": kind, **limits.pop(variant), **of_large})
         if limits:
             raise FormError(f"adm_types/Criteria.criterion_of does not read {', '.join(limits)}")
         return made

@@ -88,7 +88,8 @@ def light_of(colour: str) -> float:
     """The relative luminance of a colour, as WCAG 2.2 computes it."""
     digits = colour[1:] if len(colour) == 7 else "".join(2 * it for it in colour[1:])
     parts = [int(digits[at:at + 2], 16) / 255 for at in (0, 2, 4)]
-    linear = [it / 12.92 if it <= 0.04045 else ((it + 0.055) / 1.055) ** 2.4 for it in parts]
+    linear: list[float] = [
+        it / 12.92 if it <= 0.04045 else ((it + 0.055) / 1.055) ** 2.4 for it in parts]
     return 0.2126 * linear[0] + 0.7152 * linear[1] + 0.0722 * linear[2]
 
 

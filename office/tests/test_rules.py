@@ -174,6 +174,7 @@ class Context:
     schools: dict[str, fields.School] = {}
     is_uk = False
     words: dict[int, str] = {}
+    is_large = False
 
 
 def cells() -> list[tuple[str, str]]:
