@@ -353,7 +353,8 @@ def test_other_schools_of_a_file_are_asked_about(office: Site) -> None:
     said = {it: seen.said(it, "catchments") for it in seen.rows()}
     assert list(said.values()) == ["The areas say OAK.", "The areas say none."]
     bo, cy = said
-    assert [it for it in seen.buttons if it.startswith("Take")] == ["Take OAK", "Take none"]
+    assert [it for it in seen.buttons if it.startswith("Take")] == [
+        "Take the schools of the areas in all 2 rows", "Take OAK", "Take none"]
     pressed = jane.post(seen.actions["table"], {**seen.sent(), "meant": f"catchments-{bo}="})
     assert pressed.status_code == 303
     seen = screens.see()
@@ -364,6 +365,23 @@ def test_other_schools_of_a_file_are_asked_about(office: Site) -> None:
     # (the same file once more: nothing differs from the register)
     screens.add(("again.csv", csv_of(row(1, "Ann Abel", 700), row(2, "Bo Bell", -500))))
     assert not screens.see().wrong() and "is in the register already" in screens.see().text
+
+
+def test_many_rows_take_the_schools_of_the_areas_by_one_button(office: Site) -> None:
+    """And it can be undone."""
+    jane = office.browser("jane")
+    use(jane, TOWN)
+    screens = Screens(jane)
+    screens.add(("rows.csv", sheet(*(row(at, name, -500, 0, "ELM") for at, name in (
+        (1, "Ann Abel"), (2, "Bo Bell"), (3, "Cy Cole"))))))
+    seen = screens.press("Take the schools of the areas in all 3 rows")
+    assert "Catchment schools of the areas taken in 3 rows" in seen.text
+    assert {screens.see().said(it, "catchments") for it in screens.see().rows()} == {
+        "From the areas of town.geojson."}
+    assert "Take the schools" not in screens.see().text
+    did = office.parts.history.entries[-1].number
+    screens.press("Undo", f"?did={did}")
+    assert screens.see().text.count("The areas say OAK.") == 3
 
 
 def test_a_second_file_names_the_rows_with_other_schools(office: Site) -> None:

@@ -13,7 +13,7 @@ from . import form
 from .mends import Change, Mend
 from .row_check import Context, Finding
 from .rows import WITHDRAWN, Staged
-from .table_check import SAME_NUMBER, Pair, Table
+from .table_check import OTHERS, SAME_NUMBER, Pair, Table
 
 # a kind that is of one item: each school, flag or text of its own
 OF_ITEM = ("school", "flag", "truth")
@@ -303,8 +303,21 @@ def whole_kind(kind: Kind, table: Table) -> Mend:
     return aside([table.rows[it].staged for it in kind.rows])
 
 
+def of_areas(table: Table) -> Mend | None:
+    """The rows with other catchment schools than the areas say, which get those; of one row its own
+    button does that.
+    """
+    rows = [it.staged for at, it in table.rows.items()
+            if any(one.fault == OTHERS for one in table.findings[at])]
+    return Mend(f"Take the schools of the areas in all {len(rows):,} rows",
+                "Catchment schools of the areas taken",
+                tuple(Change(it, {"catchments": ""}) for it in rows)) if len(rows) > 1 else None
+
+
 def all_mends(table: Table, found: Sequence[Kind]) -> Iterator[Mend]:
     """Each that a button of the screens may do."""
+    if mend := of_areas(table):
+        yield mend
     for kind in found:
         yield from kind.mends
         yield whole_kind(kind, table)

@@ -22,6 +22,8 @@ SAME_NUMBER, ALIKE = "the same number", "a similar name at the same home, or nea
 # what a program writes that cannot write a letter
 LOST = re.compile(r"\w\?|\?\w")
 IS_LOST = "was a letter lost at the question mark?"
+# a row with other catchment schools than the areas say
+OTHERS = "other areas"
 Differences = list[tuple[str, str]]
 Words = Mapping[int, str]
 # the areas of the schools of a register, if any are in use
@@ -155,7 +157,7 @@ def see_areas(row: row_check.Row, areas: Map, add: row_check.Add) -> None:
     elif read := row.fields["catchments"]:
         if set(read.split(";")) != set(codes):
             said = ", ".join(codes) or "none"
-            add(row.number, "catchments", given, f"the areas say {said}", LOOK,
+            add(row.number, "catchments", given, f"the areas say {said}", LOOK, fault=OTHERS,
                 likely=(fields.Likely(f"Take {said}", ""),))
 
 
