@@ -291,8 +291,9 @@ def test_no_text_of_people_is_taken_for_markup() -> None:
              if path.suffix in (".html", ".py")
              and re.search(r"\|\s*safe\b|autoescape(?!=True)|Markup\(",
                            path.read_text("utf-8"))]
-    # (template_faults has the names of what a template can begin)
-    assert sorted(found) == ["help.py", "pictures.py", "template_faults.py"]
+    # (app gives back as markup what it was given as such, and template_faults has the names of what
+    # a template can begin)
+    assert sorted(found) == ["app.py", "help.py", "pictures.py", "template_faults.py"]
 
 
 def test_no_screen_has_a_word_that_was_replaced() -> None:

@@ -699,7 +699,8 @@ def test_a_fill_is_explained(tmp_path: Path) -> None:
         ],
     )
     found = said(reg, 3, draw=3)
-    assert "offered the place:" not in found and "Your child: no criterion" in found
+    assert "offered the place:" not in found
+    assert "Your child: by distance (no criterion met)" in found
     assert said(reg, 6).splitlines()[4:] == [
         "The application of 20 November 2024 came after the closing date, 31 October 2024, and"
         " took no part in the first round."
