@@ -637,7 +637,7 @@ def test_who_can_confirm_does_so_on_the_first_screen(small: Machine) -> None:
         places = [said.index(it) for it in (
             "Your decision: round 1", "Two people are needed", "Offered a place 4 of 5 children",
             "The independent audit, a second program, works out the same outcome",
-            "2 changes since the applications were added to the register can move",
+            "2 changes since the applications were added to the register can alter",
             "by hal and jane",
             "Confirming gives no place yet: round 1 is run next, by hal")]
         assert places == sorted(places)
