@@ -67,8 +67,8 @@ def page(
         "new_schools.html", lines=lines, order=order, digest=drafts.digest(lines),
         is_ready=drafts.is_ready(lines) and not is_away, cells=cells or NONE,
         wrong=wrong or {}, said=said, is_bad=status != 200, rows=rows,
-        forms=schools.menu(words, is_large), outcomes=outcomes or [], is_running=is_running, came=draft().came_of(), number=number,
-        label=label, columns=COLUMNS, limits=LIMITS,
+        forms=schools.menu(words, is_large), outcomes=outcomes or [], is_running=is_running,
+        came=draft().came_of(), number=number, label=label, columns=COLUMNS, limits=LIMITS,
         seen=seen,
     ), status
 
