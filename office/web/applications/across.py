@@ -69,9 +69,10 @@ def repeated(rows: Iterable[One]) -> Iterator[tuple[One, One, bool]]:
 
 def is_near(one: Person, other: Person) -> bool:
     """Whether two homes are near each other."""
-    if not one.home or not other.home:
+    here, there = one.home, other.home
+    if not here or not there:
         return False
-    far = texts.metres(one.home[0] - other.home[0], one.home[1] - other.home[1])
+    far = texts.metres(here[0] - there[0], here[1] - there[1])
     return bool(far <= NEAR_METRES)
 
 
@@ -139,8 +140,10 @@ def far_homes(rows: Iterable[One], register: Register) -> Iterator[tuple[One, st
 
 def is_far(home: Home, register: Register) -> bool:
     """Whether a home is far from every school of a register that has any."""
-    far = [texts.metres(home[0] - it.east, home[1] - it.north) for it in register.schools.values()]
-    return bool(far) and min(far) > FAR_METRES
+    # (most homes are near the first)
+    return bool(register.schools) and all(
+        texts.metres(home[0] - it.east, home[1] - it.north) > FAR_METRES
+        for it in register.schools.values())
 
 
 def differing(row: Person, register: Register) -> list[tuple[str, str]]:

@@ -25,8 +25,7 @@ from office.web.people.roles import Person
 from office.web.register.desk import Away
 
 from .imports import CHANGED, Content, Import, Imports, Part, digest_of
-from .row_check import values_of
-from .rows import OPEN, SENDING, WITHDRAWN, Staged, packed_notes
+from .rows import OPEN, SENDING, WITHDRAWN, Staged
 from .staging import Staging
 from .table_check import Checked, Checker, Differences, Table, too_many
 
@@ -65,7 +64,7 @@ class Commit:
     @functools.cached_property
     def csv(self) -> bytes:
         """The rows as an import takes them."""
-        return HEAD + b"".join(map(line_of, self.rows))
+        return HEAD + b"".join(it.line for it in self.rows)
 
     @functools.cached_property
     def parts(self) -> list[list[Checked]]:
@@ -103,12 +102,14 @@ class Commit:
         """Whether the table has no row."""
         return not self.table.rows
 
-    @property
+    @functools.cached_property
     def counts(self) -> Counts:
         """What would be stored, in numbers."""
         found = [it.row.fields for it in self.rows]
-        applied = [day for it in found if (day := days.read(it["day"]))]
-        in_time = sum(map(self.register.is_in_time, applied))
+        # (the rows of one day have one text, which is read once)
+        applied = collections.Counter(it["day"] for it in found)
+        in_time = sum(many for text, many in applied.items()
+                      if (day := days.read(text)) and self.register.is_in_time(day))
         first = collections.Counter(it["preferences"].partition(";")[0] for it in found)
         return Counts(
             len(found), in_time, len(found) - in_time,
@@ -127,22 +128,17 @@ class Commit:
     @functools.cached_property
     def digest(self) -> str:
         """The digest of all that is shown: what is in the rows, and what it rests on."""
-        rows = [[it.id, it.state, it.cells, it.point.packed(), packed_notes(it.notes)]
-                for it in (*(it.staged for it in self.table.rows.values()), *self.withdrawn)]
+        rows = [it.shown for it in (*(it.staged for it in self.table.rows.values()),
+                                    *self.withdrawn)]
         shown = json.dumps([rows, self.csv.decode(), basis_of(self.register)])
         return hashlib.sha256(shown.encode()).hexdigest()
-
-
-def line_of(it: Checked) -> bytes:
-    """A row as an import takes it."""
-    return sheet.csv_bytes([values_of(it.row)])
 
 
 def in_parts(rows: Iterable[Checked]) -> Iterator[list[Checked]]:
     """Rows in their order, in parts of as many as one request takes."""
     part, size = list[Checked](), len(HEAD)
     for it in rows:
-        more = len(line_of(it))
+        more = len(it.line)
         if part and (len(part) == MOST_ROWS or size + more > MOST_BYTES):
             yield part
             part, size = [], len(HEAD)
@@ -154,7 +150,7 @@ def in_parts(rows: Iterable[Checked]) -> Iterator[list[Checked]]:
 
 def part_of(rows: Sequence[Checked], areas: Map | None) -> Part:
     """Rows as a part of an import."""
-    return Part(HEAD + b"".join(map(line_of, rows)),
+    return Part(HEAD + b"".join(it.line for it in rows),
                 {it.row.fields["child"]: it.staged.point_words for it in rows},
                 source_of(rows, areas), [it.staged.id for it in rows])
 

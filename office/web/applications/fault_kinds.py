@@ -3,7 +3,9 @@ likely: a button states how it reads what is written, and nothing is done withou
 """
 import collections
 import dataclasses
+import functools
 import hashlib
+import itertools
 from collections.abc import Callable, Iterable, Iterator, Mapping, Sequence
 from types import MappingProxyType
 
@@ -108,7 +110,7 @@ def kinds(table: Table, taken: Callable[[], set[int]]) -> list[Kind]:
     """The kinds of errors of a table, the most frequent first. `taken` are the numbers that no
     other child can get.
     """
-    found: dict[str, Kind] = {}
+    found, rows = dict[str, Kind](), collections.defaultdict[str, dict[int, None]](dict)
     pairs = {it.one.id: it for it in table.pairs if it.why == SAME_NUMBER and it.other}
     for number, it in table.rows.items():
         for finding in table.errors(number):
@@ -117,8 +119,9 @@ def kinds(table: Table, taken: Callable[[], set[int]]) -> list[Kind]:
             kind = found.setdefault(key, Kind(key, title))
             kind.found.append((it.staged, finding))
             here = [number] if pair is None or pair.other is None else [pair.other.id, number]
-            kind.rows += [it for it in here if it not in kind.rows]
-    for kind in found.values():
+            rows[key] |= dict.fromkeys(here)
+    for key, kind in found.items():
+        kind.rows = list(rows[key])
         fill(kind, table, pairs, taken)
     return sorted(found.values(), key=lambda it: (-len(it.rows), it.title))
 
@@ -277,13 +280,8 @@ def days_of(*rows: Staged) -> list[str]:
 
 def numbered(rows: Sequence[Staged], taken: Callable[[], set[int]], whom: str) -> Iterator[Mend]:
     """Rows that get the next numbers that are free."""
-    used, given = set(taken()), list[int]()
-    for _ in rows:
-        free = form.next_free(used | set(given))
-        if free is None:
-            return
-        given.append(free)
-    if given:
+    given = list(itertools.islice(form.free(taken()), len(rows)))
+    if given and len(given) == len(rows):
         span = f"{given[0]}" if len(given) == 1 else f"{given[0]} to {given[-1]}"
         who = whom if len(given) > 1 or whom != "each" else "it"
         words = f"Give {who} the next free number, {span}"
@@ -322,13 +320,10 @@ def all_mends(table: Table, found: Sequence[Kind]) -> Iterator[Mend]:
         yield from kind.mends
         yield whole_kind(kind, table)
     yield aside(table.wrong())
-    files: dict[int, list[Staged]] = {}
-    for it in table.rows.values():
-        files.setdefault(it.staged.file, []).append(it.staged)
-    for rows in files.values():
-        yield of_file(rows)
+    yield from of_files(table).values()
 
 
-def of_file(rows: Sequence[Staged]) -> Mend:
-    """All rows of a file, set aside."""
-    return aside(rows, f" of {rows[0].file_name}")
+@functools.lru_cache(1)
+def of_files(table: Table) -> dict[int, Mend]:
+    """All rows of each file, set aside. (A table is asked for them by each of its pages.)"""
+    return {it: aside(rows, f" of {rows[0].file_name}") for it, rows in table.files.items()}

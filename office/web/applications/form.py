@@ -1,5 +1,5 @@
 """A child that is typed into a form: its cells, and the number that is proposed for it."""
-from collections.abc import Iterable, Mapping
+from collections.abc import Iterable, Iterator, Mapping
 
 from office.core.rules import LIMITS
 from office.web.register.history import now
@@ -14,11 +14,15 @@ PREFERENCES = [f"preference-{it}" for it in range(1, LIMITS["preferences"].most 
 
 def next_free(numbers: Iterable[int]) -> int | None:
     """The number after the greatest; where there is none, the least that is free."""
+    return next(free(numbers), None)
+
+
+def free(numbers: Iterable[int]) -> Iterator[int]:
+    """The numbers after the greatest, and then those that are free before it."""
     taken, limit = set(numbers), LIMITS["child"]
     after = max(taken, default=limit.least - 1) + 1
-    if limit.has(after):
-        return after
-    return next((it for it in range(limit.least, limit.most + 1) if it not in taken), None)
+    yield from range(after, limit.most + 1)
+    yield from (it for it in range(limit.least, after) if it not in taken)
 
 
 def cells_of(form: Mapping[str, str]) -> dict[str, str]:

@@ -7,6 +7,7 @@ import contextlib
 import dataclasses
 import functools
 import hashlib
+import json
 import sqlite3
 from collections.abc import Iterable, Sequence
 
@@ -256,13 +257,13 @@ class Imports(Outbox[Import]):
         are stored and it only waits, they stay as they are.
         """
         with self.staging.writing() as db:
-            marked = [marked_with(db, it.mark(digest)) for digest, _ in it.left or [("", 0)]]
-            present, *after = marked
+            marks = [it.mark(digest) for digest, _ in it.left or [("", 0)]]
+            present = marked_with(db, marks[:1])
             if state == DONE:
                 mark_as(db, COMMITTED, present, sent)
             elif state == FAILED or not it.before:
-                mark_as(db, OPEN, sum(marked, []))
-            if state == DONE and after:
+                mark_as(db, OPEN, marked_with(db, marks))
+            if state == DONE and marks[1:]:
                 self.begin_next(db, it, sent)
                 return
             if state == DONE:
@@ -328,11 +329,11 @@ class Imports(Outbox[Import]):
                      and digest_of(one.about["import"].encode()) == it.about["digest"]), None)
 
 
-def marked_with(db: sqlite3.Connection, mark: str) -> list[int]:
-    """The rows that are being sent with a mark, in their order."""
+def marked_with(db: sqlite3.Connection, marks: Sequence[str]) -> list[int]:
+    """The rows that are being sent with these marks, in their order."""
     return [it["id"] for it in db.execute(
-        "SELECT id FROM staged_row WHERE state=? AND sent=? ORDER BY file, number",
-        (SENDING, mark))]
+        "SELECT id FROM staged_row WHERE state=? AND sent IN (SELECT value FROM json_each(?))"
+        " ORDER BY file, number", (SENDING, json.dumps(marks)))]
 
 
 def mark_as(

@@ -36,7 +36,7 @@ def said_of_added(staging: Staging, entries: Sequence[int], out: int) -> str:
     """What is said of rows that were stored by entries of the history, and of those beside them
     that only left the table.
     """
-    many = texts.count(sum(map(staging.stored, entries)), "application")
+    many = texts.count(staging.stored(entries), "application")
     said = [f"Added to the register: {many}."] if entries else []
     left = [f"{texts.count(out, 'row')} that the register had are out of the table."]
     return " ".join(said + left if out else said)

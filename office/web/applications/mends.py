@@ -2,6 +2,7 @@
 as it was shown, and is brought back only if nobody has changed it since.
 """
 import dataclasses
+import functools
 import hashlib
 import json
 from collections.abc import Iterable, Mapping, Sequence
@@ -68,7 +69,7 @@ class Mend:
     changes: tuple[Change, ...]
     is_asked: bool = False
 
-    @property
+    @functools.cached_property
     def digest(self) -> str:
         """By which its button knows that it does what was shown."""
         shown = [self.words, *([it.row.id, it.row.version, it.state, dict(it.cells)]

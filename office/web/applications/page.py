@@ -245,12 +245,12 @@ def is_in(row: int, table: Table, which: str) -> bool:
         table.is_wrong(row) if which == WRONG else table.is_to_check(row))
 
 
-def has_text(row: Staged, find: str) -> bool:
-    """Whether a row has a number, or a part of a name."""
+def with_text(rows: Sequence[Staged], find: str) -> Sequence[Staged]:
+    """The rows with a number, or a part of a name."""
     if find.strip().isdigit():
-        return find.strip() == row.cells["child"].strip()
+        return [it for it in rows if it.cells["child"].strip() == find.strip()]
     wanted = texts.folded(find)
-    return not wanted or wanted in texts.folded(row.cells["name"])
+    return [it for it in rows if wanted in texts.folded(it.cells["name"])] if wanted else rows
 
 
 def page_of(table: Table, away: Sequence[Staged], asked: Asked, number: int,
@@ -261,15 +261,15 @@ def page_of(table: Table, away: Sequence[Staged], asked: Asked, number: int,
     """
     rows = list(away) if asked.show == ASIDE else [
         it.staged for at, it in table.rows.items() if is_in(at, table, asked.show)]
-    meant = [it for it in rows if has_text(it, asked.find) and (
-        asked.only is None or it.id in asked.only)]
+    meant = [it for it in with_text(rows, asked.find)
+             if asked.only is None or it.id in asked.only]
     if asked.show != ASIDE:
         meant.sort(key=lambda it: (not table.is_wrong(it.id), it.file, it.number))
     last = max(1, -(-len(meant) // PAGE))
     number = min(max(number, 1), last)
     shown = meant[(number - 1) * PAGE:number * PAGE]
     every = {it.id: it for it in away} if asked.show == ASIDE else {
-        at: it.staged for at, it in table.rows.items()}
+        it: table.rows[it].staged for it in first if it in table.rows}
     pinned = [every[it] for it in dict.fromkeys(first) if it in every]
     shown = [*pinned, *(it for it in shown if it.id not in first)]
     shared = table.shared

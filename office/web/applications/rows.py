@@ -1,6 +1,7 @@
 """The rows of the staging table and its files, as the store keeps them and the history names them.
 """
 import dataclasses
+import functools
 import hashlib
 import json
 import sqlite3
@@ -51,6 +52,12 @@ class Staged:
     point: Point = Point()
     first: Mapping[str, str] = dataclasses.field(default_factory=dict)
     remark: str = ""
+
+    @functools.cached_property
+    def shown(self) -> str:
+        """All of it by which a person decides whether it is stored, as a text."""
+        return packed([self.id, self.state, self.cells, self.point.packed(),
+                       packed_notes(self.notes)])
 
     @property
     def where(self) -> str:

@@ -9,7 +9,7 @@ import hashlib
 import json
 import sqlite3
 import threading
-from collections.abc import Callable, Iterable, Iterator, Mapping
+from collections.abc import Callable, Iterable, Iterator, Mapping, Sequence
 
 from register_files import Refused
 
@@ -52,16 +52,26 @@ class Staging:
         self.read: dict[int, Staged] = {}
 
     def rows(self, *states: str) -> list[Staged]:
-        """The rows of these states, by file and number."""
-        marks = ", ".join("?" * len(states))
-        found = self.store.rows(f"{ROWS} WHERE state IN ({marks}) ORDER BY file, number", *states)
-        known, made = self.read, {}
-        for it in found:
-            old = known.get(it["id"])
-            made[it["id"]] = old if old and old.version == it["version"] else staged_of(it)
-        most = 5 * max(MOST_OPEN, len(made))
-        self.read = {**known, **made} if len(known) < most else made
-        return list(made.values())
+        """The rows of these states, by file and number. Those are read that are not known as they
+        are now.
+        """
+        where = f"state IN ({', '.join('?' * len(states))}) ORDER BY file, number"
+        versions = self.store.rows(f"SELECT id, version FROM staged_row WHERE {where}", *states)
+        known, made, left = self.read, dict[int, Staged](), list[int]()
+        for number, version in versions:
+            old = known.get(number)
+            if old and old.version == version:
+                made[number] = old
+            else:
+                left.append(number)
+        if left:
+            few = f"staged_row.id IN (SELECT value FROM json_each(?)) AND {where}"
+            made |= {it["id"]: staged_of(it) for it in self.store.rows(
+                f"{ROWS} WHERE {few}", json.dumps(left), *states)}
+            most = 5 * max(MOST_OPEN, len(made))
+            self.read = {**known, **made} if len(known) < most else dict(made)
+        # (a row of which a state or a place ended between the two is not there)
+        return [made[number] for number, _ in versions if number in made]
 
     def count(self, *states: str) -> int:
         """How many rows are in these states."""
@@ -99,9 +109,10 @@ class Staging:
                       for state in (OPEN, WITHDRAWN, SENDING, COMMITTED)}) for it in found]
         return [it for it in made if sum(it.counts.values()) > it.counts[COMMITTED]]
 
-    def stored(self, entry: int) -> int:
-        """How many rows were stored by an entry of the history."""
-        found = self.store.row("SELECT count(*) AS many FROM staged_row WHERE entry=?", entry)
+    def stored(self, entries: Sequence[int]) -> int:
+        """How many rows were stored by these entries of the history."""
+        found = self.store.row("SELECT count(*) AS many FROM staged_row WHERE entry IN"
+                               " (SELECT value FROM json_each(?))", json.dumps(entries))
         return int(found["many"]) if found else 0
 
     def see_place(self, more: int) -> None:

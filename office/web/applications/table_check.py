@@ -11,6 +11,7 @@ from typing import Any
 from office.core import fields, rules, texts
 from office.core.model import PLAN, Register, School
 from office.core.wording import sentence
+from office.files import sheet
 from office.web.areas.map import Map
 
 from . import across, points, row_check
@@ -45,6 +46,11 @@ class Checked:
     def needs_look(self) -> bool:
         """Whether a person is to see to the point of the home."""
         return points.needs_look(self.staged.point, self.staged.cells)
+
+    @functools.cached_property
+    def line(self) -> bytes:
+        """The row as an import takes it."""
+        return sheet.csv_bytes([row_check.values_of(self.row)])
 
 
 @dataclasses.dataclass(frozen=True)
@@ -177,6 +183,8 @@ def of_point(point: Point, cells: Mapping[str, str]) -> Iterator[str]:
 
 def of_flags(text: str, register: Register | None, words: Words) -> Iterator[str]:
     """The flags of a row that say nothing to an office: without words, or of no criterion."""
+    if not text:
+        return
     used = {it for school in register.schools.values() for it in school.criteria} if (
         register) else set()
     for it in map(int, filter(None, text.split(";"))):
@@ -283,6 +291,14 @@ class Table:
     def wrong(self) -> list[Staged]:
         """The rows that are wrong."""
         return [it.staged for at, it in self.rows.items() if self.is_wrong(at)]
+
+    @functools.cached_property
+    def files(self) -> dict[int, list[Staged]]:
+        """The rows of each file."""
+        found: dict[int, list[Staged]] = {}
+        for it in self.rows.values():
+            found.setdefault(it.staged.file, []).append(it.staged)
+        return found
 
     @functools.cached_property
     def shared(self) -> dict[tuple[object, ...], int]:

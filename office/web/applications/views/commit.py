@@ -23,8 +23,8 @@ from ..tools import is_collecting, tools
 
 screen = flask.Blueprint("applications_commit", __name__, url_prefix="/applications/commit")
 Answer = str | Response | tuple[str, int]
-# so many rows that are set aside are named
-MOST_ASIDE = 50
+# so many rows that will not be added are named
+MOST_NAMED = 50
 
 
 def page(text: str = "", failed: Import | None = None) -> Answer:
@@ -37,8 +37,8 @@ def page(text: str = "", failed: Import | None = None) -> Answer:
     work, unknown, found = committing.under_way(), committing.unknown(), None
     said, failed = [text] if text else [], failed or committing.imports.failed()
     try:
-        # (while the register is copied it cannot be read)
-        found = None if work else committing.found(parts().desk.now())
+        # (while the register is copied it cannot be read; it is read wholly before it is stored)
+        found = None if work else committing.found(parts().desk.register())
     except Refused as error:
         said.append(f"The register does not answer: {error}.")
     status = 409 if said else 200
@@ -58,7 +58,7 @@ def page(text: str = "", failed: Import | None = None) -> Answer:
         rows=rows_of(found) if found else None,
         address=tables.pages("applications_commit.show"),
         read_as=[(it.name, it.changes) for it in staging.files() if it.changes and it.counts[OPEN]],
-        most_aside=MOST_ASIDE, may_change=found is not None and is_collecting(found.register))
+        most_named=MOST_NAMED, may_change=found is not None and is_collecting(found.register))
     return body, status
 
 

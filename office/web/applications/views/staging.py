@@ -101,9 +101,8 @@ def filters(counts: Mapping[str, int], find: str) -> list[tuple[str, str, str, s
 
 def sources(table: Table) -> Iterator[tuple[Any, Any]]:
     """The files, each with what sets its rows aside."""
-    for it in tools().staging.files():
-        rows = [row.staged for row in table.rows.values() if row.staged.file == it.id]
-        yield it, fault_kinds.of_file(rows) if rows else None
+    mends = fault_kinds.of_files(table)
+    return ((it, mends.get(it.id)) for it in tools().staging.files())
 
 
 def lost_of(
