@@ -8,11 +8,12 @@ from typing import IO, BinaryIO
 from register_files import Refused
 
 MB = 1_000_000
-MOST_BYTES, MOST_UNPACKED, MOST_PARTS = 8 * MB, 16 * MB, 1_000
+MOST_BYTES, MOST_UNPACKED, MOST_PARTS = 8 * MB, 32 * MB, 1_000
 # the mark of each part in a zip's list of its parts, and how much of a file is looked through at
 # once
 PART, CHUNK = b"PK\x01\x02", 1 << 20
-MOST_ROWS, MOST_COLUMNS, MOST_CELLS, MOST_TEXT = 25_000, 250, 250_000, 32_767
+# (a row for each child of a large register, and some above them)
+MOST_ROWS, MOST_COLUMNS, MOST_CELLS, MOST_TEXT = 41_000, 250, 500_000, 32_767
 MOST_MERGED = 10_000
 # of all cells, as a CSV has at most: cells of an Excel file may share one long text
 MOST_TEXT_OF_ALL = MOST_BYTES

@@ -99,7 +99,7 @@ SHEETS: dict[str, tuple[Callable[[pathlib.Path], object], str]] = {
     "blanks.xlsx": (
         lambda it: workbook(it, GOOD, " " * 500_000_000),
         (
-            "blanks.xlsx is too large once it is unpacked, 500 MB: an Excel file has at most 16 MB"
+            "blanks.xlsx is too large once it is unpacked, 500 MB: an Excel file has at most 32 MB"
             " here; delete the empty rows below the data"
         ),
     ),
@@ -126,8 +126,8 @@ SHEETS: dict[str, tuple[Callable[[pathlib.Path], object], str]] = {
         "million.xlsx is too large once it is unpacked",
     ),
     "rows.xlsx": (
-        lambda it: workbook(it, GOOD + many_rows(25_000, "><v>1</v></c>")),
-        "rows.xlsx has too many rows: a sheet has at most 25,000",
+        lambda it: workbook(it, GOOD + many_rows(41_000, "><v>1</v></c>")),
+        "rows.xlsx has too many rows: a sheet has at most 41,000",
     ),
     "merges.xlsx": (
         lambda it: workbook(
@@ -147,12 +147,12 @@ SHEETS: dict[str, tuple[Callable[[pathlib.Path], object], str]] = {
     "lines.csv": (text("\n" * 20_000_000), "lines.csv is too large: a file has at most 8 MB"),
     "ends.csv": (text(HEADER + ROW + "\n" * 7_000_000), ""),
     "rows.csv": (
-        text(HEADER + ROW * 25_000),
-        "rows.csv has too many rows: a sheet has at most 25,000",
+        text(HEADER + ROW * 41_000),
+        "rows.csv has too many rows: a sheet has at most 41,000",
     ),
     "cells.csv": (
-        text(("a," * 240 + "a\n") * 2_000),
-        "cells.csv has too many cells, by row 1,038: a sheet has at most 250,000",
+        text(("a," * 240 + "a\n") * 2_100),
+        "cells.csv has too many cells, by row 2,075: a sheet has at most 500,000",
     ),
     "quote.csv": (
         text(HEADER + '1,"Ann' + "x" * 40_000),

@@ -16,6 +16,7 @@ from test_staging import GOOD, TOWN, ended, expected, has, imports, lines, state
 from office.core import rules
 from office.core.rules import Limit
 from office.core.senders import Ended
+from office.files import sheet_apart
 from office.web.applications import commit as staging_commit
 from office.web.applications import imports as staging_imports
 from office.web.applications.rows import COMMITTED, OPEN, SENDING
@@ -214,3 +215,9 @@ def test_a_large_register_is_filled_from_the_table(
         found = screens.add(("c.csv", many(4001, 2011)))
         assert "the table would have 2,011 rows, and has place for 2,010" in (
             Seen(found.text).texts["answer"])
+
+
+def test_a_file_may_have_a_row_for_each_child_of_a_large_register() -> None:
+    """It is read, as an officer may have all applications in one."""
+    most = rules.LARGE["children"].most
+    assert len(sheet_apart.read("a.csv", many(1, most), None, "").rows) == 1 + most
