@@ -956,7 +956,7 @@ def as_before(path: pathlib.Path) -> None:
     with contextlib.closing(sqlite3.connect(path)) as db:
         db.executescript("DROP VIEW staged_import; DELETE FROM sending WHERE kind='import';"
                          "ALTER TABLE staged_row DROP COLUMN remark;"
-                         "ALTER TABLE draw DROP COLUMN name;"
+                         "ALTER TABLE draw DROP COLUMN name; DROP TABLE area_file;"
                          f"PRAGMA user_version={before}")
 
 
