@@ -1,5 +1,5 @@
-"""The application as `python3 -m office.web` serves it: the day in the file TODAY is today, and where
-MOST_ROWS is set, a request with applications takes as many of them.
+"""The application as `python3 -m office.web` serves it: the day in the file TODAY is today, and
+where MOST_ROWS is set, a request with applications takes as many of them.
 """
 import datetime
 import os
