@@ -28,7 +28,8 @@ KEY_NAMES = ("class", "distance", "lot")
 
 
 # The tables that are looked into. Days are counted from 1970-01-01, lists are joined by semicolons,
-# and flags are bits. Where a child has catchment schools, they follow those of its siblings after |.
+# and flags are bits. Where a child has catchment schools, they follow those of its siblings, after
+# a bar.
 class Meta(NamedTuple):
     """The season."""
 
