@@ -232,9 +232,11 @@ def write_kind(path: Path, kind: str, rows: Iterable[Fields]) -> None:
 
 
 def written(table: table_check.Table) -> bytes:
-    """The rows of a table as they are imported."""
-    return sheet.csv_bytes(
-        [COLUMNS, *(row_check.values_of(it.row) for it in table.rows.values())])
+    """The rows of a table as they are imported, but for the last column, in which they have nothing.
+    """
+    rows = [row_check.values_of(it.row) for it in table.rows.values()]
+    assert all(it[len(COLUMNS):] == [""] for it in rows)
+    return sheet.csv_bytes([COLUMNS, *(it[:len(COLUMNS)] for it in rows)])
 
 
 def test_what_has_one_reading_is_imported(town: Path, tmp_path: Path) -> None:

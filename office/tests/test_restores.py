@@ -642,7 +642,7 @@ def test_what_cannot_be_restored_is_said_before_the_register_is_closed(
 
         path.write_bytes(b"SQLite format 3\0" + bytes(4000))
         refused = room.hal.post("/copies/1/restore")
-        assert refused.status_code == 409 and "Nothing was closed" in refused.text
+        assert refused.status_code == 409 and "Recording was not paused" in refused.text
         assert "is not right" in room.hal.sent("/copies/1/test").text
         page = text_of(room.hal.get("/copies/").text, "copies")
         assert ": not right" in page and str(small.folder) not in page
