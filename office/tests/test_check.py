@@ -232,8 +232,7 @@ def write_kind(path: Path, kind: str, rows: Iterable[Fields]) -> None:
 
 
 def written(table: table_check.Table) -> bytes:
-    """The rows of a table as they are imported, but for the last column, in which they have nothing.
-    """
+    """The rows of a table as they are imported, but for the last column, which is empty in all."""
     rows = [row_check.values_of(it.row) for it in table.rows.values()]
     assert all(it[len(COLUMNS):] == [""] for it in rows)
     return sheet.csv_bytes([COLUMNS, *(it[:len(COLUMNS)] for it in rows)])
